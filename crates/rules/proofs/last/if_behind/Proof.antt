@@ -1,0 +1,17 @@
+use Rattle.rules.specs.Last.{behind}
+use borrow.Author.Needs.{needs}
+use Rattle.rules.proofs.last.if_behind.Statement.{statement}
+use Rattle.rules.proofs.last.if_behind.Tie as tie
+
+returns : tie.Need-returns
+unfolding behind
+returns c =
+    simp
+    (c .pick-number .ensures)
+
+pub if-behind-spec : {M : Type 1} → statement M
+if-behind-spec =
+    tie.close
+    (tie.spec
+    (λ c κs. search needs)
+    returns)

@@ -1,0 +1,22 @@
+use Rattle.rules.specs.Steps.{canReady}
+use borrow.Author.Needs.{needs}
+use Rattle.rules.proofs.model.BoxState.can_ready.Statement.{statement}
+use Rattle.rules.proofs.model.BoxState.can_ready.Tie as tie
+
+returns : tie.Need-returns
+unfolding canReady
+returns c =
+    simp (
+      c .before .count .ensures,
+      c .before .before .in-phase .ensures,
+      c .before .before .before .before .is-even .ensures,
+    )
+
+pub can-ready-spec : {M : Type 1} → statement M
+can-ready-spec =
+    tie.close
+    (tie.spec
+    (λ c κs. search needs)
+    (λ c κs. search needs)
+    (λ c κs. search needs)
+    returns)

@@ -1,0 +1,22 @@
+use Rattle.rules.specs.Steps.{leased}
+use borrow.Author.Needs.{needs}
+use Rattle.rules.proofs.model.BoxState.lease.Statement.{statement}
+use Rattle.rules.proofs.model.BoxState.lease.Tie as tie
+
+returns : tie.Need-returns
+unfolding leased
+returns c =
+    simp (
+      c .does .ensures,
+      c .before .others .ensures,
+      c .before .before .mail-of .ensures,
+    )
+
+pub lease-spec : {M : Type 1} → statement M
+lease-spec =
+    tie.close
+    (tie.spec
+    (λ c κs. search needs)
+    (λ c κs. search needs)
+    (λ c κs. search needs)
+    returns)

@@ -1,0 +1,22 @@
+use Rattle.rules.specs.Mails.{onLease}
+use borrow.Author.Needs.{needs}
+use Rattle.rules.proofs.model.BoxState.on_lease.Statement.{statement}
+use Rattle.rules.proofs.model.BoxState.on_lease.Tie as tie
+
+returns : tie.Need-returns
+unfolding onLease
+returns c =
+    simp (
+      c .settle .ensures,
+      c .before .takes .ensures,
+      c .before .before .before .before .before .first-cause .ensures,
+    )
+
+pub on-lease-spec : {M : Type 1} → statement M
+on-lease-spec =
+    tie.close
+    (tie.spec
+    (λ c κs. search needs)
+    (λ c κs. search needs)
+    (λ c κs. search needs)
+    returns)

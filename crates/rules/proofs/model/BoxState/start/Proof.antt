@@ -1,0 +1,27 @@
+use Rattle.rules.specs.Steps.{started}
+use borrow.Author.Needs.{needs}
+use Rattle.rules.proofs.model.BoxState.start.Statement.{statement}
+use Rattle.rules.proofs.model.BoxState.start.Tie as tie
+
+returns : tie.Need-returns
+unfolding started
+returns c =
+    simp (
+      c .does .ensures,
+      c .before .others .ensures,
+      c .before .before .mail-of .ensures,
+      c .before .before .before .before .before .bit-of .ensures .0,
+      c .before .before .before .before .before .before .store .ensures,
+    )
+
+pub start-spec : {M : Type 1} → statement M
+start-spec =
+    tie.close
+    (tie.spec
+    (λ c. search needs)
+    (λ c κs. search needs)
+    (λ c κs. search needs)
+    (λ c κs. search needs)
+    (λ c κs. search needs)
+    (λ c κs. search needs)
+    returns)

@@ -1,0 +1,20 @@
+use Rattle.rules.specs.Parts.{tookKept}
+use borrow.Author.Needs.{needs}
+use Rattle.rules.proofs.model.Kept.take.Statement.{statement}
+use Rattle.rules.proofs.model.Kept.take.Tie as tie
+
+returns : tie.Need-returns
+unfolding tookKept
+returns c =
+    simp (
+      c .reach .ensures,
+      c .before .pick-number .ensures,
+    )
+
+pub take-spec : {M : Type 1} → statement M
+take-spec =
+    tie.close
+    (tie.spec
+    (λ c κs. search needs)
+    (λ c κs. search needs)
+    returns)

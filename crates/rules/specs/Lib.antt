@@ -1,0 +1,21 @@
+-- The paper, section by section. docs/ARCHITECTURE.md says where each sentence stands.
+pub mod Types
+pub mod Pick
+pub mod Every
+pub mod Sizes
+pub mod Numbers
+pub mod Sets
+pub mod NewPn
+pub mod Fields
+pub mod Turns
+pub mod Parts
+pub mod Last
+pub mod Mails
+pub mod Steps
+pub mod Box
+pub mod Site
+pub mod Form
+pub mod Needs
+pub mod Step
+pub mod Own
+pub mod Bounds

@@ -1,0 +1,95 @@
+-- "Mail": what a box does with each kind. Last has a file of its own.
+use Prim.Native.Nat.{ℕ, _+_, max}
+use mathlib.Core.Bool.{false, not, _||_}
+use lib.Dec.{leb, ltb, eqb}
+use Rattle.rules.specs.Sizes.{even}
+use Rattle.rules.specs.Sets.{bit, joined}
+use Rattle.rules.specs.Numbers.{inPhase}
+use Rattle.rules.specs.Fields.{withState, withKept, withBest, withAccepts, promised, storing}
+use Rattle.rules.specs.Parts.{underOf, tookKept, tookBook, cleared}
+use Rattle.rules.specs.Turns.{firstCause, unless, settled, taken, mailOf}
+use Rattle.rules.specs.Last.{onLast}
+use Rattle.rules.specs.Types.{Book, BoxState, Held, Kept, Kind, Mail, Out, Phase, Refusal, Setting, State, Turn, Verdict}
+
+-- "stored pn if last+1 is held and the stored number is last+1, else 0"
+unfoldable pub unagreedOf : Kept → Held → ℕ
+unagreedOf k (Held.Record r) = underOf k
+unagreedOf k Held.Nothing = 0
+
+-- "Collect (role: receiver leads). Recovering; promised pn becomes the larger; replies Last(promised pn, last,
+-- records held, [unagreed pn])."
+unfoldable pub onCollect : BoxState → ℕ → Mail → Held → Turn
+onCollect b sender m mine =
+    settled b (firstCause (b .leads) false false false Verdict.Go)
+    (taken
+    (withState State.Recovering
+    (withKept (promised (max (b .kept .pn) (m .pn)) (b .kept)) b))
+    Book.Keep
+    (Out.To (bit sender)
+    (mailOf Kind.Last (max (b .kept .pn) (m .pn)) (b .kept .last) (unagreedOf (b .kept) mine))))
+
+-- "Begin (role: receiver leads; number: pn below promised; place: lasts differ)"; refusal 9 stands before
+-- every discard but role
+unfoldable pub beginVerdict : BoxState → Mail → Verdict
+beginVerdict b m =
+    unless (b .leads || leb (m .pn) (b .kept .pn)) Refusal.Above
+    (firstCause (b .leads) false (ltb (m .pn) (b .kept .pn)) (not (eqb (b .kept .last) (m .last)))
+    Verdict.Go)
+
+-- "last+1 holds the record; stored pn and number set; Updating; replies Accept(pn, last)."
+unfoldable pub onBegin : BoxState → ℕ → Mail → ℕ → Turn
+onBegin b sender m r =
+    settled b (beginVerdict b m)
+    (taken
+    (withState State.Updating
+    (withKept (storing (m .pn) (b .kept .last + 1) (b .kept)) b))
+    (Book.Put (b .kept .last) r)
+    (Out.To (bit sender) (mailOf Kind.Accept (m .pn) (b .kept .last) 0)))
+
+-- "Accept (role: not leader; phase: not Begin; number: pn differs; place: lasts differ)."
+unfoldable pub acceptVerdict : BoxState → Mail → Verdict
+acceptVerdict b m =
+    firstCause (not (b .leads))
+    (not (inPhase (b .phase) Phase.Begin))
+    (not (eqb (b .kept .pn) (m .pn)))
+    (not (eqb (b .kept .last) (m .last)))
+    Verdict.Go
+
+-- "Sender joins the accept set."
+unfoldable pub onAccept : BoxState → ℕ → Mail → Turn
+onAccept b sender m =
+    settled b (acceptVerdict b m)
+    (taken (withAccepts (joined (b .accepts) sender) b) Book.Keep Out.Nothing)
+
+-- "Commit (role: receiver leads). Takes records as in Last; best cleared if its number is not above last."
+unfoldable pub onCommit : BoxState → Mail → Turn
+onCommit b m =
+    settled b (firstCause (b .leads) false false false Verdict.Go)
+    (taken
+    (withBest (cleared (tookKept (m .last) (b .kept) .last) (b .best))
+    (withKept (tookKept (m .last) (b .kept)) b))
+    (tookBook (m .last) (b .kept .last))
+    Out.Nothing)
+
+-- "Lease (role: receiver leads; place: lasts differ). Active."
+unfoldable pub onLease : BoxState → Mail → Turn
+onLease b m =
+    settled b
+    (firstCause (b .leads) false false (not (eqb (b .kept .last) (m .last))) Verdict.Go)
+    (taken (withState State.Active b) Book.Keep Out.Nothing)
+
+-- each kind has its rule: `one` is the mail's first record (0: none), `next` what it holds at its last+1,
+-- `mine` what the box holds at its own
+unfoldable pub ofKind : Kind → BoxState → Setting → ℕ → Mail → ℕ → Held → Held → Turn
+ofKind Kind.Collect b s sender m one next mine = onCollect b sender m mine
+ofKind Kind.Last b s sender m one next mine = onLast b s sender m next
+ofKind Kind.Begin b s sender m one next mine = onBegin b sender m one
+ofKind Kind.Accept b s sender m one next mine = onAccept b sender m
+ofKind Kind.Commit b s sender m one next mine = onCommit b m
+ofKind Kind.Lease b s sender m one next mine = onLease b m
+
+-- "All but Elect, Stop, Return and Lose need an even epoch."
+unfoldable pub onMail : BoxState → Setting → ℕ → Mail → ℕ → Held → Held → Turn
+onMail b s sender m one next mine =
+    settled b (unless (even (s .epoch)) Refusal.Condition Verdict.Go)
+    (ofKind (m .kind) b s sender m one next mine)

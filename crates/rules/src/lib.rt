@@ -1,0 +1,10 @@
+// The types of the paper and the rules of one box, each proved to give exactly what specs/ says.
+pub mod any;
+mod last;
+mod mails;
+pub mod model;
+pub mod numbers;
+mod parts;
+pub mod sets;
+mod steps;
+mod turns;
