@@ -1,0 +1,2 @@
+-- What the contracts of `le` cite.
+pub mod Le

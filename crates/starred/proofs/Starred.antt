@@ -1,0 +1,32 @@
+-- Every starred case of the paper holds of the rules.
+use mathlib.Core.Bool.{true}
+use mathlib.Core.Path.{_≡_, refl}
+use lib.Count.{ones, onesIn}
+use Rattle.rules.specs.Pick.{pick}
+use Rattle.rules.specs.Every.{all, each, every, tally}
+use Rattle.rules.specs.Sizes.{sizesForm, proper, recordForm}
+use Rattle.rules.specs.Sets.{bit, joined, without, digit, has, setForm, fullSet}
+use Rattle.rules.specs.Numbers.{inState, inPhase}
+use Rattle.rules.specs.NewPn.{newPn}
+use Rattle.rules.specs.Turns.{firstCause, unless, settled}
+use Rattle.rules.specs.Parts.{others, isHeld, underOf, tookKept, tookBook, cleared}
+use Rattle.rules.specs.Last.{
+  noted, heard, behind, lagging, improves, bettered, raised, counted, uncounted, answered, lastVerdict, onLast
+}
+use Rattle.rules.specs.Mails.{
+  unagreedOf, onCollect, beginVerdict, onBegin, acceptVerdict, onAccept, onCommit, onLease, ofKind, onMail
+}
+use Rattle.rules.specs.Steps.{
+  elected, canRecover, recover, canCollect, bestHeld, collect, started, leased, canReady, hasPrevious, ready,
+  canOffer, offer, canPropose, propose, canAgree, agree, canFinish, finish, acted
+}
+use Rattle.rules.specs.Box.{heldAt, written, enclosed}
+use Rattle.rules.specs.Site.{freshHead, fresh, posted, room}
+use Rattle.rules.specs.Form.{countForm, peerForm, formBox, formKind, formLetter, formLink, form}
+use Rattle.rules.specs.Needs.{ruled}
+use Rattle.rules.specs.Step.{byAnswer, delivered, elect, presented, step, run}
+use Rattle.starred.specs.Table.{stars, told}
+
+pub starred : each told stars ≡ true
+unfolding stars ones onesIn pick all each every tally sizesForm proper recordForm bit joined without digit has setForm fullSet inState inPhase newPn firstCause unless settled others isHeld underOf tookKept tookBook cleared noted heard behind lagging improves bettered raised counted uncounted answered lastVerdict onLast unagreedOf onCollect beginVerdict onBegin acceptVerdict onAccept onCommit onLease ofKind onMail elected canRecover recover canCollect bestHeld collect started leased canReady hasPrevious ready canOffer offer canPropose propose canAgree agree canFinish finish acted heldAt written enclosed freshHead fresh posted room countForm peerForm formBox formKind formLetter formLink form ruled byAnswer delivered elect presented step run
+starred = refl

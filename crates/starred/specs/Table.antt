@@ -1,0 +1,87 @@
+-- The starred cases of the paper, one table: what the rules give, and what the paper says.
+use Prim.Native.Nat.{ℕ, _+_}
+use mathlib.Core.Bool.{Bool, true}
+use mathlib.Core.List.{List, [], _∷_}
+use lib.Dec.{eqb}
+use lib.ListN.{getD}
+use Rattle.rules.specs.Sizes.{majorityOf, recordOf}
+use Rattle.rules.specs.Numbers.{answerNumber}
+use Rattle.rules.specs.Fields.{withLeads, withKept, promised}
+use Rattle.rules.specs.Box.{Box}
+use Rattle.rules.specs.Site.{Site, Outcome, fresh, freshHead}
+use Rattle.rules.specs.Step.{step, run}
+use Rattle.rules.specs.declared.model.BoxState.{BoxState}
+use Rattle.rules.specs.declared.model.Call.{Call}
+
+pub record Star : Type 0 where
+  pub gives : ℕ
+  pub says : ℕ
+
+abbrev pub star : ℕ → ℕ → Star
+star gives says = record { gives = gives; says = says }
+
+-- a fresh site of n boxes, J 16 and L 8, at another epoch, with other boxes present and another head in each box
+abbrev pub siteAt : ℕ → ℕ → ℕ → (ℕ → BoxState) → Site
+siteAt n epoch present head = record {
+  n = n;
+  J = 16;
+  L = 8;
+  epoch = epoch;
+  present = present;
+  box = λ b. record { head = head b; records = [] };
+  link = λ a b. [];
+}
+
+-- five boxes all present after an election; box c leads, each has promised pn; and then Recover c
+abbrev pub recovered : ℕ → ℕ → Outcome
+recovered pn c =
+    step
+    (siteAt 5 2 31
+    (λ b. withLeads (eqb b c) (withKept (promised pn (freshHead .kept)) freshHead)))
+    (Call.Recover c)
+
+abbrev pub pnAfter : ℕ → ℕ → ℕ
+pnAfter pn c = recovered pn c .next .box c .head .kept .pn
+
+abbrev pub answerOf : Site → Call → ℕ
+answerOf s c = answerNumber (step s c .answer)
+
+abbrev pub noHeads : ℕ → BoxState
+noHeads b = freshHead
+
+-- the calls of the paper's worked replay up to its line 14, the latest first
+abbrev pub worked : List Call
+worked =
+    Call.Deliver 1 2 ∷ Call.Agree 1 ∷ Call.Deliver 2 1 ∷ Call.Deliver 1 2 ∷ Call.Deliver 1 2
+    ∷ Call.Propose 1 ∷ Call.Offer 1 71 72 ∷ Call.Ready 1 ∷ Call.Deliver 2 1 ∷ Call.Deliver 1 2
+    ∷ Call.Collect 1 ∷ Call.Recover 1 ∷ Call.Elect 1 ∷ []
+
+abbrev pub workedSite : Site
+workedSite = run (fresh 2 16 8) worked
+
+unfoldable pub stars : List Star
+stars =
+    -- "new: 305 rank 5 gives 405; 0 rank 1, 101; 999,999,899 rank 2, 999,999,902"
+    star (pnAfter 305 5) 405
+    ∷ star (pnAfter 0 1) 101
+    ∷ star (pnAfter 999999899 2) 999999902
+    -- "999,999,901 rank 2, refusal 6"
+    ∷ star (answerNumber (recovered 999999901 2 .answer)) 6
+    -- "Majority of 4 is 3."
+    ∷ star (majorityOf 4) 3
+    -- "Elect, n=5, two present: 4."
+    ∷ star (answerOf (siteAt 5 1 3 noHeads) (Call.Elect 1)) 4
+    -- "Timeout at 999,998 gives 999,999; at 1,000,000, refusal 5."
+    ∷ star (step (siteAt 3 999998 7 noHeads) (Call.Timeout 1) .next .epoch) 999999
+    ∷ star (answerOf (siteAt 3 1000000 7 noHeads) (Call.Timeout 1)) 5
+    -- "Offer 0 7: 10."
+    ∷ star (answerOf (fresh 3 16 8) (Call.Offer 1 0 7)) 10
+    -- "The replay above": box 2 has load 1 with frames 71 and 72, and the next mail has not come
+    ∷ star (workedSite .box 2 .head .kept .last) 1
+    ∷ star (getD (workedSite .box 2 .records) 0 0) (recordOf 71 72)
+    ∷ star (answerOf workedSite (Call.Deliver 1 2)) 3
+    ∷ []
+
+-- the rules give what the paper says
+abbrev pub told : Star → Bool
+told s = eqb (s .gives) (s .says)

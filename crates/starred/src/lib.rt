@@ -1,0 +1,1 @@
+// The starred cases of the paper: definitions and one theorem, no code.
