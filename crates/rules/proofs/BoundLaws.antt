@@ -1,16 +1,15 @@
--- What the two tests of Bounds say: inside them the ranges hold and the rule is the paper's, outside it is refused.
-use Prim.Native.Nat.{ℕ, _≤_}
+-- What the two tests of Bounds say: inside them the ranges hold and the rule is the paper's,
+-- outside it is refused.
+use Prim.Native.Nat.{_≤_}
 use mathlib.Core.Bool.{Bool, true, false, _&&_}
-use mathlib.Core.Path.{_≡_, refl, sym, subst}
+use mathlib.Core.Path.{_≡_, refl}
 use lib.Dec.{leb}
 use borrow.Author.Tests.{leb-true}
 use Rattle.rules.specs.Pick.{pick}
 use Rattle.rules.specs.Sizes.{mostBoxes, mostLoads, mostPn}
 use Rattle.rules.specs.Turns.{unless, settled, still}
-use Rattle.rules.specs.Mails.{onMail}
-use Rattle.rules.specs.Steps.{acted}
-use Rattle.rules.specs.Bounds.{boundedBox, boundedMail, anyMail, anyAct}
-use Rattle.rules.specs.Types.{Act, Answer, BoxState, Held, Mail, Refusal, Setting, Turn, Verdict}
+use Rattle.rules.specs.Bounds.{boundedBox, boundedMail}
+use Rattle.rules.specs.Types.{Answer, BoxState, Mail, Refusal, Setting, Turn, Verdict}
 
 pub first-of : (a b : Bool) → (a && b) ≡ true → a ≡ true
 first-of true b e = refl
@@ -36,12 +35,15 @@ pub record BoundedMail (m : Mail) : Type 0 where
 
 pub bounded-box : (b : BoxState) (s : Setting) → boundedBox b s ≡ true → Bounded b s
 unfolding boundedBox
-bounded-box b s e = record {
-  pn = leb-true (b .kept .pn) mostPn (first-of p l (first-of (p && l) r (first-of (p && l && r) m e)));
-  last = leb-true (b .kept .last) mostLoads (second-of p l (first-of (p && l) r (first-of (p && l && r) m e)));
-  replies = leb-true (b .replies) mostBoxes (second-of (p && l) r (first-of (p && l && r) m e));
-  me = leb-true (s .me) mostBoxes (second-of (p && l && r) m e);
-}
+bounded-box b s e =
+    let f = first-of (p && l && r) m e in
+    let g = first-of (p && l) r f in
+    record {
+      pn = leb-true (b .kept .pn) mostPn (first-of p l g);
+      last = leb-true (b .kept .last) mostLoads (second-of p l g);
+      replies = leb-true (b .replies) mostBoxes (second-of (p && l) r f);
+      me = leb-true (s .me) mostBoxes (second-of (p && l && r) m e);
+    }
   where
     p : Bool
     p = leb (b .kept .pn) mostPn
@@ -63,10 +65,12 @@ bounded-mail m e = record {
 }
 
 -- a rule t behind a test f, by the answer r of the code's own test
-pub guard-go : (b : BoxState) (f r : Bool) (t : Turn) → r ≡ f → r ≡ true → t ≡ settled b (unless f Refusal.Form Verdict.Go) t
-unfolding settled unless pick
-guard-go b f r t e h = rw (← e, h) refl
+module _ (b : BoxState) (f r : Bool) (t : Turn) (e : r ≡ f) where
+  pub guard-go : r ≡ true → t ≡ settled b (unless f Refusal.Form Verdict.Go) t
+  unfolding settled unless pick
+  guard-go h = rw (← e, h) refl
 
-pub guard-stop : (b : BoxState) (f r : Bool) (t : Turn) → r ≡ f → r ≡ false → still b (Answer.Refused Refusal.Form) ≡ settled b (unless f Refusal.Form Verdict.Go) t
-unfolding settled unless pick
-guard-stop b f r t e h = rw (← e, h) refl
+  pub guard-stop : r ≡ false
+      → still b (Answer.Refused Refusal.Form) ≡ settled b (unless f Refusal.Form Verdict.Go) t
+  unfolding settled unless pick
+  guard-stop h = rw (← e, h) refl

@@ -1,4 +1,5 @@
--- The box's rules for any caller: the ranges of form that their arithmetic rests on are looked at first (refusal 1).
+-- The box's rules for any caller: the ranges of form that their arithmetic rests on are looked at
+-- first (refusal 1).
 use Prim.Native.Nat.{ℕ}
 use mathlib.Core.Bool.{Bool, _&&_}
 use lib.Dec.{leb}

@@ -1,4 +1,5 @@
--- A box and a letter with their records; "A box runs the same rules for its own part": an event in, a turn out.
+-- A box and a letter with their records; "A box runs the same rules for its own part": an event in,
+-- a turn out.
 use Prim.Native.Nat.{ℕ}
 use mathlib.Core.List.{List, [], _∷_, _++_}
 use lib.Dec.{ltb}
@@ -32,7 +33,8 @@ written Book.Keep rs ms = rs
 written (Book.Put l r) rs ms = take l rs ++ (r ∷ [])
 written (Book.Take a l) rs ms = take a rs ++ drop a (take l ms)
 
--- the records that go with a mail: of Last all that are held, of Begin the one at last+1, of Commit 1 to last
+-- the records that go with a mail: of Last all that are held, of Begin the one at last+1, of Commit
+-- 1 to last
 unfoldable pub enclosed : Kind → ℕ → List ℕ → List ℕ
 enclosed Kind.Collect l rs = []
 enclosed Kind.Last l rs = rs

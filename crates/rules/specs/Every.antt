@@ -1,4 +1,5 @@
--- Tests on several things: all of a list of tests, each element of a list, every box, how many boxes.
+-- Tests on several things: all of a list of tests, each element of a list, every box, how many
+-- boxes.
 use Prim.Native.Nat.{ℕ, zero, suc, _+_}
 use mathlib.Core.Bool.{Bool, true, _&&_, cond}
 use mathlib.Core.List.{List, [], _∷_}

@@ -5,7 +5,8 @@ use mathlib.Core.List.{List, [], _∷_}
 use lib.Dec.{leb, ltb, eqb}
 use lib.ListN.{length, getD}
 use Rattle.rules.specs.Every.{all, each, every, tally}
-use Rattle.rules.specs.Sizes.{mostBoxes, mostEpoch, mostPn, unknown, within, sizesForm, proper, recordForm}
+use Rattle.rules.specs.Sizes.{mostBoxes, mostEpoch, mostPn, unknown, within, sizesForm}
+use Rattle.rules.specs.Sizes.{proper, recordForm}
 use Rattle.rules.specs.Sets.{setForm}
 use Rattle.rules.specs.Box.{Box, Letter}
 use Rattle.rules.specs.Site.{Site}
@@ -15,7 +16,8 @@ use Rattle.rules.specs.Types.{Kind}
 unfoldable pub countForm : ℕ → ℕ → ℕ → Bool
 countForm J last count = (eqb count last || eqb count (last + 1)) && leb count J
 
--- "each peer's last (0 to J or unknown; its own always unknown)": place k of box b; no box has a number above n
+-- "each peer's last (0 to J or unknown; its own always unknown)": place k of box b; no box has a
+-- number above n
 unfoldable pub peerForm : ℕ → ℕ → ℕ → List ℕ → ℕ → Bool
 peerForm n J b peers k =
     eqb (getD peers (k - 1) 0) unknown
@@ -40,8 +42,9 @@ formBox n J b x =
     ∷ every mostBoxes (peerForm n J b (x .head .peers))
     ∷ [])
 
--- "Last holds last or last+1 records (at most J), Commit holds last, Begin one (and its last is below J), the
--- rest none; unagreed pn is 0 except in a Last with last+1 records"; "pn (0 in Lease)"
+-- "Last holds last or last+1 records (at most J), Commit holds last, Begin one (and its last is
+-- below J), the rest none; unagreed pn is 0 except in a Last with last+1 records"; "pn (0 in
+-- Lease)"
 unfoldable pub formKind : Kind → ℕ → ℕ → ℕ → ℕ → ℕ → Bool
 formKind Kind.Collect J pn last unagreed count = eqb count 0 && eqb unagreed 0
 formKind Kind.Last J pn last unagreed count =
@@ -54,7 +57,8 @@ formKind Kind.Lease J pn last unagreed count = eqb count 0 && eqb unagreed 0 && 
 -- "Mail: .. other ranges as for boxes"
 unfoldable pub formLetter : ℕ → Letter → Bool
 formLetter J y =
-    all (formKind (y .head .kind) J (y .head .pn) (y .head .last) (y .head .unagreed) (length (y .records))
+    all (formKind (y .head .kind) J (y .head .pn) (y .head .last)
+    (y .head .unagreed) (length (y .records))
     ∷ each proper (y .records)
     ∷ leb (y .head .pn) mostPn
     ∷ leb (y .head .unagreed) mostPn

@@ -10,10 +10,12 @@ use Rattle.rules.specs.Pick.{pick}
 use Rattle.rules.specs.Sizes.{mostBoxes, mostPn, unknown}
 use Rattle.rules.specs.Numbers.{inPhase}
 use Rattle.rules.specs.NewPn.{newPn}
-use Rattle.rules.specs.Fields.{withPhase, withKept, withBest, withReplies, withPeers, promised}
+use Rattle.rules.specs.Fields.{withPhase, withKept, withBest, withReplies, withPeers}
+use Rattle.rules.specs.Fields.{promised}
 use Rattle.rules.specs.Parts.{others, tookKept, tookBook, cleared}
 use Rattle.rules.specs.Turns.{firstCause, unless, settled, taken, mailOf}
-use Rattle.rules.specs.Types.{Best, BoxState, Held, Kind, Mail, Out, Phase, Refusal, Setting, Turn, Verdict}
+use Rattle.rules.specs.Types.{Best, BoxState, Held, Kind, Mail, Out, Phase, Refusal, Setting}
+use Rattle.rules.specs.Types.{Turn, Verdict}
 
 -- "Note the peer's last."
 unfoldable pub noted : List ℕ → ℕ → ℕ → List ℕ
@@ -29,7 +31,8 @@ heard b sender m =
 unfoldable pub behind : ℕ → ℕ → ℕ → ℕ
 behind peer last v = pick (not (eqb peer unknown) && ltb peer last) v 0
 
--- "each of the others (the sender only if present) whose last is known and below own last, as it is now"
+-- "each of the others (the sender only if present) whose last is known and below own last, as it is
+-- now"
 unfoldable pub lagging : List ℕ → ℕ → Setting → ℕ
 lagging peers last s =
     bitAnd (others s)
@@ -39,7 +42,8 @@ lagging peers last s =
     (bitOr (behind (getD peers 3 0) last 8)
     (behind (getD peers 4 0) last 16)))))
 
--- "its last is at least own, its last+1 at least the best unagreed number, and its unagreed pn at least the best"
+-- "its last is at least own, its last+1 at least the best unagreed number, and its unagreed pn at
+-- least the best"
 unfoldable pub improves : ℕ → Best → Mail → Bool
 improves last best m =
     leb last (m .last) && leb (best .number) (m .last + 1) && leb (best .pn) (m .unagreed)
@@ -85,7 +89,8 @@ lastVerdict b s m =
     (unless (leb (m .pn) (b .kept .pn) || leb (newPn (m .pn) (s .me)) mostPn) Refusal.NewPn
     Verdict.Go)
 
--- the Commits to lagging boxes carry own last as it is now, and the promised pn as it was before the raise
+-- the Commits to lagging boxes carry own last as it is now, and the promised pn as it was before
+-- the raise
 unfoldable pub onLast : BoxState → Setting → ℕ → Mail → Held → Turn
 onLast b s sender m next =
     settled b (lastVerdict b s m)

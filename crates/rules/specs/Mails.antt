@@ -9,15 +9,16 @@ use Rattle.rules.specs.Fields.{withState, withKept, withBest, withAccept
 use Rattle.rules.specs.Parts.{underOf, tookKept, tookBook, cleared}
 use Rattle.rules.specs.Turns.{firstCause, unless, settled, taken, mailOf}
 use Rattle.rules.specs.Last.{onLast}
-use Rattle.rules.specs.Types.{Book, BoxState, Held, Kept, Kind, Mail, Out, Phase, Refusal, Setting, State, Turn, Verdict}
+use Rattle.rules.specs.Types.{Book, BoxState, Held, Kept, Kind, Mail, Out, Phase, Refusal}
+use Rattle.rules.specs.Types.{Setting, State, Turn, Verdict}
 
 -- "stored pn if last+1 is held and the stored number is last+1, else 0"
 unfoldable pub unagreedOf : Kept → Held → ℕ
 unagreedOf k (Held.Record r) = underOf k
 unagreedOf k Held.Nothing = 0
 
--- "Collect (role: receiver leads). Recovering; promised pn becomes the larger; replies Last(promised pn, last,
--- records held, [unagreed pn])."
+-- "Collect (role: receiver leads). Recovering; promised pn becomes the larger; replies
+-- Last(promised pn, last, records held, [unagreed pn])."
 unfoldable pub onCollect : BoxState → ℕ → Mail → Held → Turn
 onCollect b sender m mine =
     settled b (firstCause (b .leads) false false false Verdict.Go)
@@ -28,8 +29,8 @@ onCollect b sender m mine =
     (Out.To (bit sender)
     (mailOf Kind.Last (max (b .kept .pn) (m .pn)) (b .kept .last) (unagreedOf (b .kept) mine))))
 
--- "Begin (role: receiver leads; number: pn below promised; place: lasts differ)"; refusal 9 stands before
--- every discard but role
+-- "Begin (role: receiver leads; number: pn below promised; place: lasts differ)"; refusal 9 stands
+-- before every discard but role
 unfoldable pub beginVerdict : BoxState → Mail → Verdict
 beginVerdict b m =
     unless (b .leads || leb (m .pn) (b .kept .pn)) Refusal.Above
@@ -61,7 +62,8 @@ onAccept b sender m =
     settled b (acceptVerdict b m)
     (taken (withAccepts (joined (b .accepts) sender) b) Book.Keep Out.Nothing)
 
--- "Commit (role: receiver leads). Takes records as in Last; best cleared if its number is not above last."
+-- "Commit (role: receiver leads). Takes records as in Last; best cleared if its number is not above
+-- last."
 unfoldable pub onCommit : BoxState → Mail → Turn
 onCommit b m =
     settled b (firstCause (b .leads) false false false Verdict.Go)
@@ -78,8 +80,8 @@ onLease b m =
     (firstCause (b .leads) false false (not (eqb (b .kept .last) (m .last))) Verdict.Go)
     (taken (withState State.Active b) Book.Keep Out.Nothing)
 
--- each kind has its rule: `one` is the mail's first record (0: none), `next` what it holds at its last+1,
--- `mine` what the box holds at its own
+-- each kind has its rule: `one` is the mail's first record (0: none), `next` what it holds at its
+-- last+1, `mine` what the box holds at its own
 unfoldable pub ofKind : Kind → BoxState → Setting → ℕ → Mail → ℕ → Held → Held → Turn
 ofKind Kind.Collect b s sender m one next mine = onCollect b sender m mine
 ofKind Kind.Last b s sender m one next mine = onLast b s sender m next

@@ -1,7 +1,8 @@
--- A box by itself: "its fields, the site's sizes, epoch and present set, and one event or mail in; its fields and
--- at most one mail to each peer out". The site's step plays the same turn (Box) and adds the links, 4, 5 and 8.
+-- A box by itself: "its fields, the site's sizes, epoch and present set, and one event or mail in;
+-- its fields and at most one mail to each peer out". The site's step plays the same turn (Box) and
+-- adds the links, 4, 5 and 8.
 use Prim.Native.Nat.{ℕ}
-use mathlib.Core.Bool.{Bool, true, _&&_}
+use mathlib.Core.Bool.{Bool, true}
 use mathlib.Core.List.{List, [], _∷_}
 use lib.Dec.{eqb}
 use Rattle.rules.specs.Pick.{pick}
@@ -14,7 +15,8 @@ use Rattle.rules.specs.Form.{formBox, formLetter}
 use Rattle.rules.specs.Needs.{need, ruled}
 use Rattle.rules.specs.Types.{Answer, Out, Refusal, Setting, Turn}
 
--- the answer, the box after it, and the letters to each box of a set: one, or none where the set is empty
+-- the answer, the box after it, and the letters to each box of a set: one, or none where the set is
+-- empty
 pub record OwnOutcome : Type 0 where
   pub answer : Answer
   pub next : Box

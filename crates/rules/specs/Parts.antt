@@ -1,4 +1,5 @@
--- What several rules share: "others", the record at last+1, records that are taken, the best that is cleared.
+-- What several rules share: "others", the record at last+1, records that are taken, the best that
+-- is cleared.
 use Prim.Native.Nat.{ℕ, _+_}
 use mathlib.Core.Bool.{Bool, true, false}
 use mathlib.Core.List.{List, [], _∷_}

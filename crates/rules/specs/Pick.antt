@@ -1,6 +1,7 @@
--- If t then a else b. It does not unfold by itself: a proof takes a case by `pick-true` or `pick-false`.
+-- If t then a else b. It does not unfold by itself: a proof takes a case by `pick-true` or
+-- `pick-false`.
 use mathlib.Core.Bool.{Bool, true, false}
-use mathlib.Core.Path.{_≡_, refl}
+use mathlib.Core.Path.{_≡_}
 
 unfoldable pub pick {ℓ} : {A : Type ℓ} → Bool → A → A → A
 pick true a b = a

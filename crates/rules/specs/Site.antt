@@ -1,4 +1,5 @@
--- The site: its sizes, epoch, present set, boxes and links; the fresh site; what a turn makes of a site.
+-- The site: its sizes, epoch, present set, boxes and links; the fresh site; what a turn makes of a
+-- site.
 use Prim.Native.Nat.{ℕ}
 use mathlib.Core.Bool.{Bool, true, false, not, _&&_, _||_, cond}
 use mathlib.Core.List.{List, [], _∷_, _++_, tail}

@@ -1,5 +1,5 @@
--- A call on a site: its answer and the site after it. A box takes its turn by its own rules; the site adds form,
--- the box numbers, the links, and refusals 4, 5 and 8.
+-- A call on a site: its answer and the site after it. A box takes its turn by its own rules; the
+-- site adds form, the box numbers, the links, and refusals 4, 5 and 8.
 use Prim.Native.Nat.{ℕ, _+_, _-_}
 use mathlib.Core.Bool.{Bool, not, _&&_, cond}
 use mathlib.Core.List.{List, [], _∷_}
@@ -9,7 +9,7 @@ use lib.ListN.{length, getD}
 use Rattle.rules.specs.Sizes.{majorityOf, mostEpoch, even, leftOf, rightOf}
 use Rattle.rules.specs.Sets.{has, joined, without}
 use Rattle.rules.specs.Steps.{elected}
-use Rattle.rules.specs.Box.{Box, Letter, Event, own, mail, turnOf}
+use Rattle.rules.specs.Box.{Box, Letter, own, mail, turnOf}
 use Rattle.rules.specs.Site.{Site, Outcome, isBox, isLink, setting, room, played, popped}
 use Rattle.rules.specs.Form.{form}
 use Rattle.rules.specs.Needs.{Need, need, ruled}
@@ -22,7 +22,8 @@ refused s why = record { answer = Answer.Refused why; next = s }
 abbrev pub did : Site → Outcome
 did s = record { answer = Answer.Done; next = s }
 
--- box c's turn t is played on the site, where its mails have room; base is the site without the mail that came
+-- box c's turn t is played on the site, where its mails have room; base is the site without the
+-- mail that came
 unfoldable pub byAnswer : Answer → Site → Site → ℕ → Turn → List ℕ → Outcome
 byAnswer (Answer.Refused why) s base c t ms = refused s why
 byAnswer (Answer.Discarded why) s base c t ms =

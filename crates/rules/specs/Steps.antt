@@ -9,13 +9,16 @@ use Rattle.rules.specs.Sizes.{even, mostPn, recordOf}
 use Rattle.rules.specs.Sets.{bit, includes}
 use Rattle.rules.specs.Numbers.{inPhase, inState}
 use Rattle.rules.specs.NewPn.{newPn}
-use Rattle.rules.specs.Fields.{withLeads, withState, withPhase, withKept, withBest, withReplies, withAccepts, withWaiting, withAgreeing, withPeers, promised, lasting, storing}
+use Rattle.rules.specs.Fields.{withLeads, withState, withPhase, withKept, withBest}
+use Rattle.rules.specs.Fields.{withReplies, withAccepts, withWaiting, withAgreeing, withPeers}
+use Rattle.rules.specs.Fields.{promised, lasting, storing}
 use Rattle.rules.specs.Parts.{others, allUnknown, isHeld, underOf, none}
 use Rattle.rules.specs.Turns.{unless, settled, done, mailOf}
-use Rattle.rules.specs.Types.{Act, Best, Book, BoxState, Held, Kept, Kind, Out, Phase, Refusal, Setting, State, Turn, Verdict}
+use Rattle.rules.specs.Types.{Act, Best, Book, BoxState, Held, Kept, Kind, Out, Phase}
+use Rattle.rules.specs.Types.{Refusal, Setting, State, Turn, Verdict}
 
--- "Elect c: .. c alone is leader; every box becomes Recovering (Active if exactly one is present), phase
--- Election, waiting offer and record being agreed 0"
+-- "Elect c: .. c alone is leader; every box becomes Recovering (Active if exactly one is present),
+-- phase Election, waiting offer and record being agreed 0"
 unfoldable pub elected : BoxState → Setting → ℕ → BoxState
 elected b s c =
     withLeads (eqb (s .me) c)
@@ -48,8 +51,8 @@ canCollect b s =
     even (s .epoch) && b .leads && inState (b .state) State.Recovering
     && inPhase (b .phase) Phase.SendCollect
 
--- "If last+1 is held it becomes the best unagreed, its pn the stored pn if the stored number is last+1, else 0;
--- if not held, cleared."
+-- "If last+1 is held it becomes the best unagreed, its pn the stored pn if the stored number is
+-- last+1, else 0; if not held, cleared."
 unfoldable pub bestHeld : Kept → Held → Best
 bestHeld k (Held.Record r) = record { pn = underOf k; number = k .last + 1; value = r }
 bestHeld k Held.Nothing = none
@@ -66,8 +69,8 @@ collect b s mine =
     Book.Keep
     (Out.To (others s) (mailOf Kind.Collect (b .kept .pn) (b .kept .last) 0)))
 
--- "Start r: last+1 holds r; stored number last+1, stored pn = promised pn; record being agreed r; accept set
--- only c; phase Begin; Begin(pn, last, r) to others."
+-- "Start r: last+1 holds r; stored number last+1, stored pn = promised pn; record being agreed r;
+-- accept set only c; phase Begin; Begin(pn, last, r) to others."
 unfoldable pub started : BoxState → Setting → ℕ → Turn
 started b s r =
     done
@@ -97,7 +100,8 @@ canReady b s =
 unfoldable pub hasPrevious : BoxState → Bool
 hasPrevious b = eqb (b .best .number) (b .kept .last + 1) && not (eqb (b .best .value) 0)
 
--- "Peers unknown. If [so]: UpdatingPrevious and start that record. Else Active, Lease(last) to others, phase Lease."
+-- "Peers unknown. If [so]: UpdatingPrevious and start that record. Else Active, Lease(last) to
+-- others, phase Lease."
 unfoldable pub ready : BoxState → Setting → Turn
 ready b s =
     settled b (unless (canReady b s) Refusal.Condition Verdict.Go)
@@ -134,14 +138,16 @@ propose b s =
     Verdict.Go))
     (started (withState State.Updating (withWaiting 0 b)) s (b .waiting))
 
--- "Agree c: leader, phase Begin, Updating or UpdatingPrevious, accept set includes all present, last+1 held."
+-- "Agree c: leader, phase Begin, Updating or UpdatingPrevious, accept set includes all present,
+-- last+1 held."
 unfoldable pub canAgree : BoxState → Setting → Held → Bool
 canAgree b s mine =
     even (s .epoch) && b .leads && inPhase (b .phase) Phase.Begin
     && (inState (b .state) State.Updating || inState (b .state) State.UpdatingPrevious)
     && includes (b .accepts) (s .present) && isHeld mine
 
--- "last + 1; record being agreed 0; Commit(pn, last, records 1..last) to others; Refresh, phase Commit."
+-- "last + 1; record being agreed 0; Commit(pn, last, records 1..last) to others; Refresh, phase
+-- Commit."
 unfoldable pub agree : BoxState → Setting → Held → Turn
 agree b s mine =
     settled b (unless (canAgree b s mine) Refusal.Condition Verdict.Go)

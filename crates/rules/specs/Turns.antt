@@ -1,8 +1,10 @@
--- A verdict: the first refusal or cause that applies. A turn: the answer, the next box, what is written and sent.
+-- A verdict: the first refusal or cause that applies. A turn: the answer, the next box, what is
+-- written and sent.
 use Prim.Native.Nat.{ℕ}
 use mathlib.Core.Bool.{Bool}
 use Rattle.rules.specs.Pick.{pick}
-use Rattle.rules.specs.Types.{Answer, Book, BoxState, Cause, Kind, Mail, Out, Refusal, Turn, Verdict}
+use Rattle.rules.specs.Types.{Answer, Book, BoxState, Cause, Kind, Mail, Out, Refusal, Turn}
+use Rattle.rules.specs.Types.{Verdict}
 
 -- "the first that applies: role, phase, number, place"; where none does, what v says
 unfoldable pub firstCause : Bool → Bool → Bool → Bool → Verdict → Verdict

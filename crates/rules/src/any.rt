@@ -1,4 +1,5 @@
-// The rules of a box for any caller: nothing is required, and what lies outside the ranges is refused with 1.
+// The rules of a box for any caller: nothing is required, and what lies outside the ranges is
+// refused with 1.
 ghost use mathlib.Core.Path.{_≡_};
 ghost use Rattle.rules.specs.Bounds.{boundedBox, boundedMail, anyMail, anyAct};
 use crate::model::Act;
@@ -25,8 +26,8 @@ impl BoxState {
         (self.kept.pn <= 999999999) & (self.kept.last <= 4096) & (self.replies <= 5) & (s.me <= 5)
     }
 
-    // Any mail from a sender: `one` is its first record (0: none), `next` what it holds at its last+1,
-    // `mine` what this box holds at its own.
+    // Any mail from a sender: `one` is its first record (0: none), `next` what it holds at its
+    // last+1, `mine` what this box holds at its own.
     pub fn any_mail(
         self,
         s: Setting,

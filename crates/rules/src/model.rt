@@ -1,4 +1,5 @@
-// The types of the paper: a box, a mail, what a box knows of its site, a call, and what they answer.
+// The types of the paper: a box, a mail, what a box knows of its site, a call, and what they
+// answer.
 
 pub enum State {
     Recovering,
@@ -34,7 +35,8 @@ pub enum Cause {
     Place,
 }
 
-// Why a call is refused, in the order of the paper's table: 13, 1, 2, 10, 3, 4, 5, 6, 9, 7, 8, 12, 14, 11.
+// Why a call is refused, in the order of the paper's table: 13, 1, 2, 10, 3, 4, 5, 6, 9, 7, 8, 12,
+// 14, 11.
 pub enum Refusal {
     Sizes,
     Form,
@@ -59,7 +61,8 @@ pub enum Answer {
     Refused(Refusal),
 }
 
-// What a box finds before anything is done: it goes on, or it stops for the first cause that applies.
+// What a box finds before anything is done: it goes on, or it stops for the first cause that
+// applies.
 pub enum Verdict {
     Go,
     Discard(Cause),

@@ -1,9 +1,11 @@
-// What several rules share: others, what outlives a stop, records that are taken, the best that is cleared.
+// What several rules share: others, what outlives a stop, records that are taken, the best that is
+// cleared.
 ghost use mathlib.Core.Path.{_≡_};
 ghost use Prim.Native.Nat.{_≤_, max};
 ghost use Rattle.rules.specs.Sizes.{mostLoads};
 ghost use Rattle.rules.specs.Fields.{promised, lasting, storing};
-ghost use Rattle.rules.specs.Parts.{others, isHeld, underOf, tookKept, tookBook, none, cleared};
+ghost use Rattle.rules.specs.Parts.{others, isHeld, underOf, tookKept, tookBook};
+ghost use Rattle.rules.specs.Parts.{none, cleared};
 use crate::model::Best;
 use crate::model::Book;
 use crate::model::Held;

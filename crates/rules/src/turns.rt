@@ -1,4 +1,5 @@
-// Verdicts and turns. Each choice of the rules is one of these small functions, so that a rule itself is straight.
+// Verdicts and turns. Each choice of the rules is one of these small functions, so that a rule
+// itself is straight.
 ghost use mathlib.Core.Path.{_≡_};
 ghost use Rattle.rules.specs.Pick.{pick};
 ghost use Rattle.rules.specs.Turns.{firstCause, unless, still, settled, taken, done, mailOf};

@@ -11,14 +11,52 @@ use Rattle.rules.specs.NewPn.{newPn}
 use Rattle.rules.specs.Turns.{firstCause, unless, settled}
 use Rattle.rules.specs.Parts.{others, isHeld, underOf, tookKept, tookBook, cleared}
 use Rattle.rules.specs.Last.{
-  noted, heard, behind, lagging, improves, bettered, raised, counted, uncounted, answered, lastVerdict, onLast
+  noted,
+  heard,
+  behind,
+  lagging,
+  improves,
+  bettered,
+  raised,
+  counted,
+  uncounted,
+  answered,
+  lastVerdict,
+  onLast,
 }
 use Rattle.rules.specs.Mails.{
-  unagreedOf, onCollect, beginVerdict, onBegin, acceptVerdict, onAccept, onCommit, onLease, ofKind, onMail
+  unagreedOf,
+  onCollect,
+  beginVerdict,
+  onBegin,
+  acceptVerdict,
+  onAccept,
+  onCommit,
+  onLease,
+  ofKind,
+  onMail,
 }
 use Rattle.rules.specs.Steps.{
-  elected, canRecover, recover, canCollect, bestHeld, collect, started, leased, canReady, hasPrevious, ready,
-  canOffer, offer, canPropose, propose, canAgree, agree, canFinish, finish, acted
+  elected,
+  canRecover,
+  recover,
+  canCollect,
+  bestHeld,
+  collect,
+  started,
+  leased,
+  canReady,
+  hasPrevious,
+  ready,
+  canOffer,
+  offer,
+  canPropose,
+  propose,
+  canAgree,
+  agree,
+  canFinish,
+  finish,
+  acted,
 }
 use Rattle.rules.specs.Box.{heldAt, written, enclosed}
 use Rattle.rules.specs.Site.{freshHead, fresh, posted, room}

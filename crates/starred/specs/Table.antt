@@ -1,13 +1,12 @@
 -- The starred cases of the paper, one table: what the rules give, and what the paper says.
-use Prim.Native.Nat.{ℕ, _+_}
-use mathlib.Core.Bool.{Bool, true}
+use Prim.Native.Nat.{ℕ}
+use mathlib.Core.Bool.{Bool}
 use mathlib.Core.List.{List, [], _∷_}
 use lib.Dec.{eqb}
 use lib.ListN.{getD}
 use Rattle.rules.specs.Sizes.{majorityOf, recordOf}
 use Rattle.rules.specs.Numbers.{answerNumber}
 use Rattle.rules.specs.Fields.{withLeads, withKept, promised}
-use Rattle.rules.specs.Box.{Box}
 use Rattle.rules.specs.Site.{Site, Outcome, fresh, freshHead}
 use Rattle.rules.specs.Step.{step, run}
 use Rattle.rules.specs.declared.model.BoxState.{BoxState}
@@ -20,7 +19,8 @@ pub record Star : Type 0 where
 abbrev pub star : ℕ → ℕ → Star
 star gives says = record { gives = gives; says = says }
 
--- a fresh site of n boxes, J 16 and L 8, at another epoch, with other boxes present and another head in each box
+-- a fresh site of n boxes, J 16 and L 8, at another epoch, with other boxes present and another
+-- head in each box
 abbrev pub siteAt : ℕ → ℕ → ℕ → (ℕ → BoxState) → Site
 siteAt n epoch present head = record {
   n = n;

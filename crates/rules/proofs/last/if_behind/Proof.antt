@@ -1,5 +1,4 @@
 use Rattle.rules.specs.Last.{behind}
-use borrow.Author.Needs.{needs}
 use Rattle.rules.proofs.last.if_behind.Statement.{statement}
 use Rattle.rules.proofs.last.if_behind.Tie as tie
 
@@ -13,5 +12,5 @@ pub if-behind-spec : {M : Type 1} → statement M
 if-behind-spec =
     tie.close
     (tie.spec
-    (λ c κs. search needs)
+    (λ c κs. tt)
     returns)

@@ -1,5 +1,4 @@
 use Rattle.rules.specs.Numbers.{inState}
-use borrow.Author.Needs.{needs}
 use Rattle.rules.proofs.numbers.in_state.Statement.{statement}
 use Rattle.rules.proofs.numbers.in_state.Tie as tie
 
@@ -15,6 +14,6 @@ pub in-state-spec : {M : Type 1} → statement M
 in-state-spec =
     tie.close
     (tie.spec
-    (λ c κs. search needs)
-    (λ c κs. search needs)
+    (λ c κs. tt)
+    (λ c κs. tt)
     returns)

@@ -1,5 +1,4 @@
 use mathlib.Core.Path.{sym, _∙_}
-use borrow.Author.Needs.{needs}
 use Rattle.rules.proofs.BoundLaws.{bounded-box, bounded-mail, both-of, first-of, second-of, guard-go, guard-stop}
 use Rattle.rules.specs.Bounds.{anyMail}
 use Rattle.rules.proofs.model.BoxState.any_mail.Statement.{statement}
@@ -33,9 +32,9 @@ pub any-mail-spec : {M : Type 1} → statement M
 any-mail-spec =
     tie.close
     (tie.spec
-    (λ c κs. search needs)
-    (λ c κs. search needs)
+    (λ c κs. tt)
+    (λ c κs. tt)
     on-mail-requires
     returns
-    (λ c κs. search needs)
+    (λ c κs. tt)
     returns-2)

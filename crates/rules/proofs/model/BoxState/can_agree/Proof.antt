@@ -1,5 +1,4 @@
 use Rattle.rules.specs.Steps.{canAgree}
-use borrow.Author.Needs.{needs}
 use Rattle.rules.proofs.model.BoxState.can_agree.Statement.{statement}
 use Rattle.rules.proofs.model.BoxState.can_agree.Tie as tie
 
@@ -19,10 +18,10 @@ pub can-agree-spec : {M : Type 1} → statement M
 can-agree-spec =
     tie.close
     (tie.spec
-    (λ c κs. search needs)
-    (λ c κs. search needs)
-    (λ c κs. search needs)
-    (λ c κs. search needs)
-    (λ c κs. search needs)
-    (λ c κs. search needs)
+    (λ c κs. tt)
+    (λ c κs. tt)
+    (λ c κs. tt)
+    (λ c κs. tt)
+    (λ c κs. tt)
+    (λ c κs. tt)
     returns)

@@ -1,5 +1,4 @@
 use Rattle.rules.specs.Steps.{canCollect}
-use borrow.Author.Needs.{needs}
 use Rattle.rules.proofs.model.BoxState.can_collect.Statement.{statement}
 use Rattle.rules.proofs.model.BoxState.can_collect.Tie as tie
 
@@ -16,7 +15,7 @@ pub can-collect-spec : {M : Type 1} → statement M
 can-collect-spec =
     tie.close
     (tie.spec
-    (λ c κs. search needs)
-    (λ c κs. search needs)
-    (λ c κs. search needs)
+    (λ c κs. tt)
+    (λ c κs. tt)
+    (λ c κs. tt)
     returns)

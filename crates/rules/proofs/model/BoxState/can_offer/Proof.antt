@@ -1,5 +1,4 @@
 use Rattle.rules.specs.Steps.{canOffer}
-use borrow.Author.Needs.{needs}
 use Rattle.rules.proofs.model.BoxState.can_offer.Statement.{statement}
 use Rattle.rules.proofs.model.BoxState.can_offer.Tie as tie
 
@@ -15,6 +14,6 @@ pub can-offer-spec : {M : Type 1} → statement M
 can-offer-spec =
     tie.close
     (tie.spec
-    (λ c κs. search needs)
-    (λ c κs. search needs)
+    (λ c κs. tt)
+    (λ c κs. tt)
     returns)

@@ -1,5 +1,4 @@
 use Rattle.rules.specs.Steps.{canPropose}
-use borrow.Author.Needs.{needs}
 use Rattle.rules.proofs.model.BoxState.can_propose.Statement.{statement}
 use Rattle.rules.proofs.model.BoxState.can_propose.Tie as tie
 
@@ -17,8 +16,8 @@ pub can-propose-spec : {M : Type 1} → statement M
 can-propose-spec =
     tie.close
     (tie.spec
-    (λ c κs. search needs)
-    (λ c κs. search needs)
-    (λ c κs. search needs)
-    (λ c κs. search needs)
+    (λ c κs. tt)
+    (λ c κs. tt)
+    (λ c κs. tt)
+    (λ c κs. tt)
     returns)

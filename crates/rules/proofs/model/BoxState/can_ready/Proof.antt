@@ -1,5 +1,4 @@
 use Rattle.rules.specs.Steps.{canReady}
-use borrow.Author.Needs.{needs}
 use Rattle.rules.proofs.model.BoxState.can_ready.Statement.{statement}
 use Rattle.rules.proofs.model.BoxState.can_ready.Tie as tie
 
@@ -16,7 +15,7 @@ pub can-ready-spec : {M : Type 1} → statement M
 can-ready-spec =
     tie.close
     (tie.spec
-    (λ c κs. search needs)
-    (λ c κs. search needs)
-    (λ c κs. search needs)
+    (λ c κs. tt)
+    (λ c κs. tt)
+    (λ c κs. tt)
     returns)

@@ -1,5 +1,4 @@
 use Rattle.rules.specs.Steps.{canRecover}
-use borrow.Author.Needs.{needs}
 use Rattle.rules.proofs.model.BoxState.can_recover.Statement.{statement}
 use Rattle.rules.proofs.model.BoxState.can_recover.Tie as tie
 
@@ -17,8 +16,8 @@ pub can-recover-spec : {M : Type 1} → statement M
 can-recover-spec =
     tie.close
     (tie.spec
-    (λ c κs. search needs)
-    (λ c κs. search needs)
-    (λ c κs. search needs)
-    (λ c κs. search needs)
+    (λ c κs. tt)
+    (λ c κs. tt)
+    (λ c κs. tt)
+    (λ c κs. tt)
     returns)

@@ -1,5 +1,4 @@
 use Rattle.rules.specs.Steps.{elected}
-use borrow.Author.Needs.{needs}
 use Rattle.rules.proofs.model.BoxState.elected.Statement.{statement}
 use Rattle.rules.proofs.model.BoxState.elected.Tie as tie
 
@@ -15,6 +14,6 @@ pub elected-spec : {M : Type 1} → statement M
 elected-spec =
     tie.close
     (tie.spec
-    (λ c κs. search needs)
-    (λ c κs. search needs)
+    (λ c κs. tt)
+    (λ c κs. tt)
     returns)

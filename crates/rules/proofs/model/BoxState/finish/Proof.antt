@@ -1,5 +1,4 @@
 use Rattle.rules.specs.Steps.{finish}
-use borrow.Author.Needs.{needs}
 use Rattle.rules.proofs.model.BoxState.finish.Statement.{statement}
 use Rattle.rules.proofs.model.BoxState.finish.Tie as tie
 
@@ -17,8 +16,8 @@ pub finish-spec : {M : Type 1} → statement M
 finish-spec =
     tie.close
     (tie.spec
-    (λ c κs. search needs)
-    (λ c κs. search needs)
-    (λ c κs. search needs)
-    (λ c κs. search needs)
+    (λ c κs. tt)
+    (λ c κs. tt)
+    (λ c κs. tt)
+    (λ c κs. tt)
     returns)

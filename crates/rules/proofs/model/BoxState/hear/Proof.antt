@@ -1,6 +1,5 @@
 use mathlib.Core.Path.{refl}
 use Rattle.rules.specs.Last.{heard}
-use borrow.Author.Needs.{needs}
 use Rattle.rules.proofs.model.BoxState.hear.Statement.{statement}
 use Rattle.rules.proofs.model.BoxState.hear.Tie as tie
 
@@ -9,4 +8,4 @@ unfolding heard
 returns c = (simp (c .before .take .ensures, c .before .before .note .ensures), refl)
 
 pub hear-spec : {M : Type 1} → statement M
-hear-spec = tie.close (tie.spec (λ c κs. search needs) (λ c κs. search needs) returns)
+hear-spec = tie.close (tie.spec (λ c κs. tt) (λ c κs. tt) returns)

@@ -1,5 +1,4 @@
 use Rattle.rules.specs.Mails.{beginVerdict}
-use borrow.Author.Needs.{needs}
 use Rattle.rules.proofs.model.BoxState.judge_begin.Statement.{statement}
 use Rattle.rules.proofs.model.BoxState.judge_begin.Tie as tie
 
@@ -15,6 +14,6 @@ pub judge-begin-spec : {M : Type 1} → statement M
 judge-begin-spec =
     tie.close
     (tie.spec
-    (λ c κs. search needs)
-    (λ c κs. search needs)
+    (λ c κs. tt)
+    (λ c κs. tt)
     returns)

@@ -1,5 +1,4 @@
 use Rattle.rules.specs.Steps.{leased}
-use borrow.Author.Needs.{needs}
 use Rattle.rules.proofs.model.BoxState.lease.Statement.{statement}
 use Rattle.rules.proofs.model.BoxState.lease.Tie as tie
 
@@ -16,7 +15,7 @@ pub lease-spec : {M : Type 1} → statement M
 lease-spec =
     tie.close
     (tie.spec
-    (λ c κs. search needs)
-    (λ c κs. search needs)
-    (λ c κs. search needs)
+    (λ c κs. tt)
+    (λ c κs. tt)
+    (λ c κs. tt)
     returns)

@@ -1,5 +1,4 @@
 use Rattle.rules.specs.Mails.{onAccept}
-use borrow.Author.Needs.{needs}
 use Rattle.rules.proofs.model.BoxState.on_accept.Statement.{statement}
 use Rattle.rules.proofs.model.BoxState.on_accept.Tie as tie
 
@@ -17,8 +16,8 @@ pub on-accept-spec : {M : Type 1} → statement M
 on-accept-spec =
     tie.close
     (tie.spec
-    (λ c κs. search needs)
-    (λ c κs. search needs)
-    (λ c κs. search needs)
-    (λ c κs. search needs)
+    (λ c κs. tt)
+    (λ c κs. tt)
+    (λ c κs. tt)
+    (λ c κs. tt)
     returns)

@@ -1,5 +1,4 @@
 use Rattle.rules.specs.Last.{uncounted}
-use borrow.Author.Needs.{needs}
 use Rattle.rules.proofs.model.BoxState.pass.Statement.{statement}
 use Rattle.rules.proofs.model.BoxState.pass.Tie as tie
 
@@ -13,5 +12,5 @@ pub pass-spec : {M : Type 1} → statement M
 pass-spec =
     tie.close
     (tie.spec
-    (λ c κs. search needs)
+    (λ c κs. tt)
     returns)

@@ -25,7 +25,7 @@ best-held-spec =
     (tie.spec
     (λ c. search needs)
     (λ c. search needs)
-    (λ c κs. search needs)
+    (λ c κs. tt)
     returns
     (λ c κs. search needs)
     (λ c. search needs)

@@ -1,5 +1,4 @@
 use Rattle.rules.specs.Parts.{tookKept}
-use borrow.Author.Needs.{needs}
 use Rattle.rules.proofs.model.Kept.take.Statement.{statement}
 use Rattle.rules.proofs.model.Kept.take.Tie as tie
 
@@ -15,6 +14,6 @@ pub take-spec : {M : Type 1} → statement M
 take-spec =
     tie.close
     (tie.spec
-    (λ c κs. search needs)
-    (λ c κs. search needs)
+    (λ c κs. tt)
+    (λ c κs. tt)
     returns)

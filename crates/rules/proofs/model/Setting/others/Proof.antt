@@ -1,5 +1,4 @@
 use Rattle.rules.specs.Parts.{others}
-use borrow.Author.Needs.{needs}
 use Rattle.rules.proofs.model.Setting.others.Statement.{statement}
 use Rattle.rules.proofs.model.Setting.others.Tie as tie
 
@@ -13,5 +12,5 @@ pub others-spec : {M : Type 1} → statement M
 others-spec =
     tie.close
     (tie.spec
-    (λ c κs. search needs)
+    (λ c κs. tt)
     returns)

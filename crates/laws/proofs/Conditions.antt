@@ -1,0 +1,228 @@
+-- What is known where a verdict says Go: the condition of each step and of each mail that is taken.
+use Prim.Native.Nat.{ℕ, _+_, _≤_, _<_}
+use mathlib.Core.Path.{_≡_, refl}
+use mathlib.Core.Bool.{Bool, true, false, not, _&&_}
+use native.Mathlib.Omega.{arith}
+use lib.Count.{ones}
+use lib.Dec.{eqb, leb}
+use borrow.Author.Tests.{leb-true, leb-false, ltb-true, ltb-false, not-true, not-false}
+use Rattle.rules.specs.Pick.{pick}
+use Rattle.rules.specs.Sizes.{even, mostPn}
+use Rattle.rules.specs.Sets.{includes}
+use Rattle.rules.specs.Numbers.{stateNumber, phaseNumber, inState, inPhase}
+use Rattle.rules.specs.NewPn.{newPn}
+use Rattle.rules.specs.Parts.{isHeld}
+use Rattle.rules.specs.Turns.{firstCause, unless}
+use Rattle.rules.specs.Last.{lastVerdict}
+use Rattle.rules.specs.Mails.{beginVerdict, acceptVerdict}
+use Rattle.rules.specs.Steps.{canRecover, canCollect, canReady, hasPrevious, canOffer, canPropose}
+use Rattle.rules.specs.Steps.{canAgree, canFinish}
+use Rattle.laws.proofs.Types.{BoxState, Held, Mail, Phase, Refusal, Setting, State, Verdict}
+use Rattle.laws.proofs.Logic.{Or, left, right, eqb-yes, eqb-no, both-no, and-yes, or-cases}
+use Rattle.laws.proofs.Logic.{or-no}
+
+-- ---- verdicts
+
+pub go-unless : (t : Bool) (why : Refusal) (v : Verdict) → unless t why v ≡ Verdict.Go
+    → (t ≡ true) × (v ≡ Verdict.Go)
+unfolding unless pick
+go-unless true why v e = (refl, e)
+go-unless false why v e = let z : _≡_ {A = ℕ} 0 1 = cc in absurd (omega arith)
+
+-- none of the four causes applies
+pub record Goes (role phase number place : Bool) (v : Verdict) : Type 0 where
+  pub no-role : role ≡ false
+  pub no-phase : phase ≡ false
+  pub no-number : number ≡ false
+  pub no-place : place ≡ false
+  pub next : v ≡ Verdict.Go
+
+pub go-cause : (a b c d : Bool) (v : Verdict) → firstCause a b c d v ≡ Verdict.Go → Goes a b c d v
+unfolding firstCause pick
+go-cause true b c d v e = let z : _≡_ {A = ℕ} 0 1 = cc in absurd (omega arith)
+go-cause false true c d v e = let z : _≡_ {A = ℕ} 0 1 = cc in absurd (omega arith)
+go-cause false false true d v e = let z : _≡_ {A = ℕ} 0 1 = cc in absurd (omega arith)
+go-cause false false false true v e = let z : _≡_ {A = ℕ} 0 1 = cc in absurd (omega arith)
+go-cause false false false false v e =
+    record { no-role = refl; no-phase = refl; no-number = refl; no-place = refl; next = e }
+
+pub in-phase : (p q : Phase) → inPhase p q ≡ true → phaseNumber p ≡ phaseNumber q
+unfolding inPhase
+in-phase p q e = eqb-yes (phaseNumber p) (phaseNumber q) e
+
+pub in-state : (p q : State) → inState p q ≡ true → stateNumber p ≡ stateNumber q
+unfolding inState
+in-state p q e = eqb-yes (stateNumber p) (stateNumber q) e
+
+-- ---- mails
+
+pub record LastTaken (b : BoxState) (s : Setting) (m : Mail) : Type 0 where
+  pub leads : b .leads ≡ true
+  pub phase : phaseNumber (b .phase) ≡ 2
+  pub fewer : b .replies < ones (s .present)
+  pub new : Or (m .pn ≤ b .kept .pn) (newPn (m .pn) (s .me) ≤ mostPn)
+
+pub go-last : {b : BoxState} {s : Setting} {m : Mail} → lastVerdict b s m ≡ Verdict.Go
+    → LastTaken b s m
+unfolding lastVerdict
+go-last {b} {s} {m} e =
+    let g = go-cause _ _ _ _ _ e in
+    let collect = not (inPhase (b .phase) Phase.Collect) in
+    let p = or-no collect (leb (ones (s .present)) (b .replies)) (g .no-phase) in
+    record {
+      leads = not-false _ (g .no-role);
+      phase = in-phase _ _ (not-false _ (p .0));
+      fewer = leb-false _ _ (p .1);
+      new = go (or-cases _ _ (go-unless _ _ _ (g .next) .0));
+    }
+  where
+    go : Or (leb (m .pn) (b .kept .pn) ≡ true) (leb (newPn (m .pn) (s .me)) mostPn ≡ true)
+        → Or (m .pn ≤ b .kept .pn) (newPn (m .pn) (s .me) ≤ mostPn)
+    go (left h) = left (leb-true _ _ h)
+    go (right h) = right (leb-true _ _ h)
+
+pub record BeginTaken (b : BoxState) (m : Mail) : Type 0 where
+  pub follows : b .leads ≡ false
+  pub pn : m .pn ≡ b .kept .pn
+  pub place : b .kept .last ≡ m .last
+
+pub go-begin : {b : BoxState} {m : Mail} → beginVerdict b m ≡ Verdict.Go → BeginTaken b m
+unfolding beginVerdict
+go-begin {b} {m} e =
+    let h = go-unless _ _ _ e in
+    let g = go-cause _ _ _ _ _ (h .1) in
+    record {
+      follows = g .no-role;
+      pn =
+          go (g .no-role) (or-cases (b .leads) (leb (m .pn) (b .kept .pn)) (h .0))
+          (ltb-false _ _ (g .no-number));
+      place = eqb-yes _ _ (not-false _ (g .no-place));
+    }
+  where
+    go : b .leads ≡ false → Or (b .leads ≡ true) (leb (m .pn) (b .kept .pn) ≡ true)
+        → b .kept .pn ≤ m .pn → m .pn ≡ b .kept .pn
+    go f (left h) le = absurd (both-no h f)
+    go f (right h) le = omega (arith, leb-true (m .pn) (b .kept .pn) h)
+
+pub record AcceptTaken (b : BoxState) (m : Mail) : Type 0 where
+  pub leads : b .leads ≡ true
+  pub phase : phaseNumber (b .phase) ≡ 4
+  pub pn : b .kept .pn ≡ m .pn
+  pub place : b .kept .last ≡ m .last
+
+pub go-accept : {b : BoxState} {m : Mail} → acceptVerdict b m ≡ Verdict.Go → AcceptTaken b m
+unfolding acceptVerdict
+go-accept {b} {m} e = let g = go-cause _ _ _ _ _ e in record {
+  leads = not-false _ (g .no-role);
+  phase = in-phase _ _ (not-false _ (g .no-phase));
+  pn = eqb-yes _ _ (not-false _ (g .no-number));
+  place = eqb-yes _ _ (not-false _ (g .no-place));
+}
+
+-- ---- steps
+
+and3 : (a b c : Bool) → (a && b && c) ≡ true → (a ≡ true) × (b ≡ true) × (c ≡ true)
+and3 a b c e = let p = and-yes (a && b) c e in let q = and-yes a b (p .0) in (q .0, q .1, p .1)
+
+and4 : (a b c d : Bool) → (a && b && c && d) ≡ true
+    → (a ≡ true) × (b ≡ true) × (c ≡ true) × (d ≡ true)
+and4 a b c d e = let p = and-yes (a && b && c) d e in let q = and3 a b c (p .0) in
+    (q .0, q .1, q .2, p .1)
+
+and5 : (a b c d f : Bool) → (a && b && c && d && f) ≡ true
+    → (a ≡ true) × (b ≡ true) × (c ≡ true) × (d ≡ true) × (f ≡ true)
+and5 a b c d f e =
+    let p = and-yes (a && b && c && d) f e in let q = and4 a b c d (p .0) in
+    (q .0, q .1, q .2, q .3, p .1)
+
+and6 : (a b c d f g : Bool) → (a && b && c && d && f && g) ≡ true
+    → (a ≡ true) × (b ≡ true) × (c ≡ true) × (d ≡ true) × (f ≡ true) × (g ≡ true)
+and6 a b c d f g e =
+    let p = and-yes (a && b && c && d && f) g e in let q = and5 a b c d f (p .0) in
+    (q .0, q .1, q .2, q .3, q .4, p .1)
+
+-- in every step the epoch is even and the box leads, in a phase and a state of these
+pub record Leading (phases states : ℕ → Type 0) (b : BoxState) (s : Setting) : Type 0 where
+  pub even : even (s .epoch) ≡ true
+  pub leads : b .leads ≡ true
+  pub phase : phases (phaseNumber (b .phase))
+  pub state : states (stateNumber (b .state))
+
+abbrev pub Is : ℕ → ℕ → Type 0
+Is k i = i ≡ k
+
+abbrev pub Not : ℕ → ℕ → Type 0
+Not k i = i ≡ k → ⊥
+
+abbrev pub Any : ℕ → Type 0
+Any i = Unit {0}
+
+pub record CanAgree (b : BoxState) (s : Setting) (mine : Held) : Type 0 where
+  pub leading : Leading (Is 4) (Not 0) b s
+  pub accepted : includes (b .accepts) (s .present) ≡ true
+  pub held : isHeld mine ≡ true
+
+module _ {b : BoxState} {s : Setting} where
+  led : {ph st : ℕ → Type 0} → even (s .epoch) ≡ true → b .leads ≡ true
+      → ph (phaseNumber (b .phase)) → st (stateNumber (b .state)) → Leading ph st b s
+  led e l p q = record { even = e; leads = l; phase = p; state = q }
+
+  pub can-recover : canRecover b s ≡ true → Leading (Is 0) (Is 0) b s × (1 < ones (s .present))
+  unfolding canRecover
+  can-recover e = let p = and5 _ _ _ _ _ e in
+      (led (p .0) (p .1) (in-phase _ _ (p .2)) (in-state _ _ (p .3)), ltb-true _ _ (p .4))
+
+  pub can-collect : canCollect b s ≡ true → Leading (Is 1) (Is 0) b s
+  unfolding canCollect
+  can-collect e = let p = and4 _ _ _ _ e in
+      led (p .0) (p .1) (in-phase _ _ (p .3)) (in-state _ _ (p .2))
+
+  pub can-ready : canReady b s ≡ true → Leading (Is 2) Any b s × (b .replies ≡ ones (s .present))
+  unfolding canReady
+  can-ready e = let p = and4 _ _ _ _ e in
+      (led (p .0) (p .1) (in-phase _ _ (p .2)) tt, eqb-yes _ _ (p .3))
+
+  pub can-offer : canOffer b s ≡ true → Leading Any (Is 1) b s × (b .waiting ≡ 0)
+  unfolding canOffer
+  can-offer e = let p = and4 _ _ _ _ e in
+      (led (p .0) (p .1) tt (in-state _ _ (p .2)), eqb-yes _ _ (p .3))
+
+  pub can-propose : canPropose b s ≡ true → Leading (Not 4) (Is 1) b s × (b .waiting ≡ 0 → ⊥)
+  unfolding canPropose
+  can-propose e = let p = and5 _ _ _ _ _ e in
+      (led (p .0) (p .1) (idle (or-cases _ _ (p .3))) (in-state _ _ (p .2)), some (p .4))
+    where
+      idle : Or (inPhase (b .phase) Phase.Lease ≡ true) (inPhase (b .phase) Phase.Election ≡ true)
+          → phaseNumber (b .phase) ≡ 4 → ⊥
+      idle (left f) g = omega (arith, in-phase _ _ f, g)
+      idle (right f) g = omega (arith, in-phase _ _ f, g)
+
+      some : not (eqb (b .waiting) 0) ≡ true → b .waiting ≡ 0 → ⊥
+      some f = eqb-no (b .waiting) 0 (not-true _ f)
+
+  pub can-agree : {mine : Held} → canAgree b s mine ≡ true → CanAgree b s mine
+  unfolding canAgree
+  can-agree e = let p = and6 _ _ _ _ _ _ e in record {
+    leading = led (p .0) (p .1) (in-phase _ _ (p .2)) (busy (or-cases _ _ (p .3)));
+    accepted = p .4;
+    held = p .5;
+  }
+    where
+      busy : Or (inState (b .state) State.Updating ≡ true)
+          (inState (b .state) State.UpdatingPrevious ≡ true)
+          → stateNumber (b .state) ≡ 0 → ⊥
+      busy (left f) g = omega (arith, in-state _ _ f, g)
+      busy (right f) g = omega (arith, in-state _ _ f, g)
+
+  pub can-finish : canFinish b s ≡ true → Leading (Is 5) (Is 4) b s
+  unfolding canFinish
+  can-finish e = let p = and4 _ _ _ _ e in
+      led (p .0) (p .1) (in-phase _ _ (p .3)) (in-state _ _ (p .2))
+
+-- Ready starts the best where it is the record of last+1
+pub has-previous : (b : BoxState) → hasPrevious b ≡ true
+    → (b .best .number ≡ b .kept .last + 1) × (b .best .value ≡ 0 → ⊥)
+unfolding hasPrevious
+has-previous b e =
+    let p = and-yes (eqb (b .best .number) (b .kept .last + 1)) (not (eqb (b .best .value) 0)) e in
+    (eqb-yes _ _ (p .0), eqb-no _ _ (not-true _ (p .1)))

@@ -1,0 +1,15 @@
+pub mod Types
+pub mod Logic
+pub mod Counts
+pub mod SetLaws
+pub mod NewPnLaws
+pub mod FormLaws
+pub mod Conditions
+pub mod StepLaws
+pub mod FrameLaws
+pub mod View
+pub mod Growth
+pub mod StoreForm
+pub mod TurnForm
+pub mod FormKept
+pub mod LeftAlone

@@ -1,0 +1,20 @@
+-- The types that the code declares, under one name for the crates that come after `rules`.
+pub use Rattle.rules.specs.declared.model.Act.{Act}
+pub use Rattle.rules.specs.declared.model.Answer.{Answer}
+pub use Rattle.rules.specs.declared.model.Best.{Best}
+pub use Rattle.rules.specs.declared.model.Book.{Book}
+pub use Rattle.rules.specs.declared.model.BoxState.{BoxState}
+pub use Rattle.rules.specs.declared.model.Call.{Call}
+pub use Rattle.rules.specs.declared.model.Cause.{Cause}
+pub use Rattle.rules.specs.declared.model.Held.{Held}
+pub use Rattle.rules.specs.declared.model.Kept.{Kept}
+pub use Rattle.rules.specs.declared.model.Kind.{Kind}
+pub use Rattle.rules.specs.declared.model.Mail.{Mail}
+pub use Rattle.rules.specs.declared.model.Out.{Out}
+pub use Rattle.rules.specs.declared.model.Phase.{Phase}
+pub use Rattle.rules.specs.declared.model.Refusal.{Refusal}
+pub use Rattle.rules.specs.declared.model.Setting.{Setting}
+pub use Rattle.rules.specs.declared.model.State.{State}
+pub use Rattle.rules.specs.declared.model.Stored.{Stored}
+pub use Rattle.rules.specs.declared.model.Turn.{Turn}
+pub use Rattle.rules.specs.declared.model.Verdict.{Verdict}

@@ -1,0 +1,1 @@
+// Theorems about the model (proofs/), for everyone who comes after. No code.
