@@ -11,5 +11,6 @@ pub mod View
 pub mod Growth
 pub mod StoreForm
 pub mod TurnForm
+pub mod Receivers
 pub mod FormKept
 pub mod LeftAlone
