@@ -267,8 +267,7 @@ kind-says Kind.Last J pn last u count e =
     let p = and-yes (countForm J last count) (eqb u 0 || eqb count (last + 1)) e in
     record {
       held = count-says (p .0);
-      under = go
-          (or-cases (eqb u 0) (eqb count (last + 1)) (p .1));
+      under = go (or-cases (eqb u 0) (eqb count (last + 1)) (p .1));
     }
   where
     go : Or (eqb u 0 ≡ true) (eqb count (last + 1) ≡ true) → Or (u ≡ 0) (count ≡ last + 1)

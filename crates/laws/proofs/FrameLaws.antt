@@ -14,6 +14,7 @@ use Rattle.laws.proofs.Types.{Mail, Out}
 use Rattle.laws.proofs.Logic.{Or, left, right, In, both-no, eqb-same, eqb-yes, and-yes}
 use Rattle.laws.proofs.Logic.{or-cases, cond-elim, every-at, All, nil, cons, All-append}
 use Rattle.laws.proofs.Logic.{All-tail}
+use Rattle.laws.proofs.View.{Links}
 
 -- ---- one place of a function
 
@@ -34,7 +35,7 @@ upd-all P f c {v} new old b =
 
 -- ---- the mails of every link
 
-module _ {κ} (P : ℕ → ℕ → Letter → Type κ) (link : ℕ → ℕ → List Letter)
+module _ {κ} (P : ℕ → ℕ → Letter → Type κ) (link : Links)
     (old : (x y : ℕ) → All (P x y) (link x y)) where
   -- the head of one link leaves
   pub all-pop : (a b x y : ℕ) → All (P x y) (cond (eqb x a && eqb y b) (tail (link x y)) (link x y))

@@ -1,7 +1,7 @@
 -- What is agreed only grows: at any box of any site, and at a box by itself, last never falls and
 -- an agreed record never changes, whatever comes.
 use Prim.Native.Nat.{ℕ, _≤_, _<_}
-use mathlib.Core.Path.{_≡_, refl, sym, ap, _∙_, subst}
+use mathlib.Core.Path.{_≡_, refl, sym, ap, _∙_}
 use mathlib.Core.List.{List, [], _∷_, _++_}
 use native.Mathlib.Omega.{arith}
 use lib.Dec.{eqb, ltb}
@@ -14,7 +14,6 @@ use Rattle.rules.specs.Steps.{elected, recover, collect, started, leased, ready
 use Rattle.rules.specs.Steps.{agree, finish, acted}
 use Rattle.rules.specs.Box.{Box, Letter, Event, own, mail, heldAt, mine, written, turnOf, turned}
 use Rattle.rules.specs.Box.{brought}
-use Rattle.rules.specs.Fields.{withKept}
 use Rattle.rules.specs.Site.{Site, setting, isBox, upd}
 use Rattle.rules.specs.Step.{elect, presented, step, run}
 use Rattle.laws.proofs.Types.{Act, BoxState, Call, Held, Kept, Kind, Setting, Turn}
@@ -72,12 +71,10 @@ module _ (s : Setting) (x : Box) (shaped : Shaped (store x)) where
 
   grow-started : (b : BoxState) (r : ℕ) → b .kept ≡ x .head .kept → Turning x [] (started b s r)
   unfolding started written
-  grow-started b r e =
-      subst (λ (k : Kept). Grows (store x) (stored (k .pn) r (store (with k))))
-      (sym e) (grows-stored (x .head .kept .pn) r (store x) shaped)
-    where
-      with : Kept → Box
-      with k = record { head = withKept k (x .head); records = x .records }
+  grow-started b r e = record {
+    up = omega (arith, ap (λ (k : Kept). k .last) e);
+    same = rw e (front (x .head .kept .last) (x .records) (r ∷ []) shaped);
+  }
 
   grow-act : (a : Act) → Turning x [] (acted a (x .head) s (mine x))
   unfolding acted recover collect ready offer propose agree finish leased written
@@ -145,7 +142,7 @@ unfolding elect elected presented
 grow-step s d =
     by-step (Grown s) s same
     (λ c f e b. cond-elim (With b) (isBox (s .n) b) (λ e. same b) (λ e. same b))
-    (λ w f g h. same) (λ a b f. same) d
+    (λ w f g h b. record { up = omega arith; same = refl }) (λ a b f. same) d
     (λ c e link w f c-in r.
     one-box c _ (grow-turn (setting s c) (s .box c) (f .boxes c c-in .held .all) e))
   where

@@ -151,8 +151,8 @@ unfolding power digit
 digit-power zero zero = refl
 digit-power zero (suc i) = digit-zero i ∙ sym (ne-eqb (suc i) zero (λ e. omega (arith, e)))
 digit-power (suc k) zero =
-    ap (λ (t : ℕ).
-    eqb t 1) (even-pair (power k)) ∙ sym (ne-eqb zero (suc k) (λ e. omega (arith, e)))
+    ap (λ (t : ℕ). eqb t 1) (even-pair (power k))
+    ∙ sym (ne-eqb zero (suc k) (λ e. omega (arith, e)))
   where
     even-pair : (t : ℕ) → t * 2 % 2 ≡ 0
     even-pair t = omega arith

@@ -19,6 +19,7 @@ use Rattle.laws.proofs.Types.{Act, Answer, BoxState, Call, Cause, Refus
 use Rattle.laws.proofs.Logic.{In, Passed, cond-elim}
 use Rattle.laws.proofs.SetLaws.{set-joined, set-without}
 use Rattle.laws.proofs.FormLaws.{Formed, form-says, is-box, is-link}
+use Rattle.laws.proofs.View.{Links}
 
 -- ---- needs
 
@@ -125,7 +126,7 @@ by-acting P s c b v t old =
 -- ---- every call at once
 
 -- the site with other boxes and links
-abbrev pub changed : Site → (ℕ → Box) → (ℕ → ℕ → List Letter) → Site
+abbrev pub changed : Site → (ℕ → Box) → Links → Site
 changed s box link = record {
   n = s .n;
   J = s .J;
@@ -137,7 +138,7 @@ changed s box link = record {
 }
 
 -- the call plays the event at box c; the links are those without the mail that came
-pub data Plays (s : Site) (c : ℕ) : Call → Event → (ℕ → ℕ → List Letter) → Type 0 where
+pub data Plays (s : Site) (c : ℕ) : Call → Event → Links → Type 0 where
   recovers : Plays s c (Call.Recover c) (own Act.Recover) (s .link)
   collects : Plays s c (Call.Collect c) (own Act.Collect) (s .link)
   readies : Plays s c (Call.Ready c) (own Act.Ready) (s .link)
@@ -165,7 +166,7 @@ module _ {κ} (P : Site → Type κ) (s : Site) (old : P s)
   -- what a call that is played needs and does
   abbrev pub Playing : Call → Type κ
   Playing d =
-      (c : ℕ) (e : Event) (link : ℕ → ℕ → List Letter) → Plays s c d e link → Formed s → In c (s .n)
+      (c : ℕ) (e : Event) (link : Links) → Plays s c d e link → Formed s → In c (s .n)
       → room (changed s (s .box) link) c (turnOf (setting s c) (s .box c) e .out) ≡ true
       → P (played (changed s (s .box) link) c (turnOf (setting s c) (s .box c) e) (brought e))
 

@@ -40,7 +40,7 @@ use Rattle.laws.proofs.StoreForm.{peers-part, box-of}
 abbrev pub BookFits : ℕ → List ℕ → List ℕ → Book → Type 0
 BookFits J rs ms Book.Keep = Unit {0}
 BookFits J rs ms (Book.Put l r) = (l ≤ length rs) × (l < J)
-BookFits J rs ms (Book.Take a l) = (a ≤ length rs) × (a ≤ l) × (l ≤ length ms) × (l ≤ J)
+BookFits J rs ms (Book.Take a l) = (a ≤ length rs) × (a < l) × (l ≤ length ms) × (l ≤ J)
 
 -- what is sent, with its records of rs, goes to boxes of the site and is by form
 abbrev pub OutFits : ℕ → ℕ → List ℕ → Out → Type 0

@@ -42,6 +42,10 @@ stateOf x = stateNumber (x .head .state)
 abbrev pub Shaped : Store → Type 0
 Shaped a = a .last ≤ length (a .records)
 
+-- the link from each box to each
+abbrev pub Links : Type 0
+Links = ℕ → ℕ → List Letter
+
 -- ---- a letter by its kind
 
 pub data Reading : Type 0 where

@@ -1,0 +1,3 @@
+-- What the contracts of `link` cite.
+pub mod Link
+pub mod Holds

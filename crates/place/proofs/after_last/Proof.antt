@@ -1,0 +1,17 @@
+-- `place::after_last` meets its contract.
+use borrow.Author.Needs.{needs}
+use Rattle.place.proofs.after_last.Statement.{statement}
+use Rattle.place.proofs.after_last.Tie as tie
+
+returns : tie.Need-returns
+returns c = simp (c .held-at .ensures, c .before .records .ensures, c .before .before .number .ensures)
+
+pub after-last-spec : {M : Type 1} → statement M
+after-last-spec =
+    tie.close
+    (tie.spec
+    (λ c. search needs)
+    (λ c κs. search needs)
+    (λ c κs. search needs)
+    (λ c κs. search needs)
+    returns)

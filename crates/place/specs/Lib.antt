@@ -1,0 +1,3 @@
+-- What the contracts of `place` cite.
+pub mod Place
+pub mod Lent

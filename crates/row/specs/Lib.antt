@@ -1,0 +1,3 @@
+-- What the contracts of `row` cite.
+pub mod Row
+pub mod Lent

@@ -1,0 +1,234 @@
+-- Collect: the leader's own record is the first best, and no peer has been asked.
+use Prim.Native.Nat.{ℕ, _+_, _<_}
+use mathlib.Core.Path.{_≡_, refl, sym, _∙_, ap, subst}
+use mathlib.Core.Bool.{Bool, true, _&&_}
+use mathlib.Core.List.{[]}
+use native.Mathlib.Omega.{arith}
+use lib.Dec.{eqb}
+use lib.ListN.{length}
+use borrow.Author.Tests.{eq-eqb, ne-eqb}
+use Rattle.rules.specs.Pick.{pick-true}
+use Rattle.rules.specs.Sizes.{mostBoxes}
+use Rattle.rules.specs.Sets.{has, without}
+use Rattle.rules.specs.Fields.{withPhase, withBest, withReplies, withPeers}
+use Rattle.rules.specs.Parts.{others, allUnknown, underOf}
+use Rattle.rules.specs.Turns.{mailOf}
+use Rattle.rules.specs.Steps.{bestHeld, collect, acted}
+use Rattle.rules.specs.Box.{Box, Letter, mine, written, enclosed}
+use Rattle.rules.specs.Site.{Site, setting, posted, upd}
+use Rattle.rules.specs.Step.{step}
+use Rattle.laws.proofs.Types.{Call, Held, Kind, Out, Phase}
+use Rattle.laws.proofs.Logic.{Or, left, right, In, both-no, eqb-same, same?, All, All-map}
+use Rattle.laws.proofs.Counts.{one, plus, nobody, tally-plus, tally-nobody}
+use Rattle.laws.proofs.SetLaws.{without-in}
+use Rattle.laws.proofs.Conditions.{Leading, Is, go-unless, can-collect}
+use Rattle.laws.proofs.FrameLaws.{upd-all, all-post}
+use Rattle.laws.proofs.View.{Links, Store, store, held-elim, Reading, Collect, Last, Begin, Accept}
+use Rattle.laws.proofs.View.{Commit, Lease, read}
+use Rattle.laws.proofs.StepLaws.{changed, by-acting}
+use Rattle.safety.proofs.Replies.{Asks, tell, Counted, tells-zero, tidy-sent}
+use Rattle.safety.proofs.Inv.{BoxOk, MailOk, Asking, Hearing, Inv}
+use Rattle.safety.proofs.Base.{core-kept, ranks-kept}
+use Rattle.safety.proofs.Chosen.{BestOk, Found}
+use Rattle.safety.proofs.Leader.{Led, led, PostLed, lead-mails, lead-live}
+
+module _ (s : Site) (i : Inv s) (c : ℕ) (c-in : In c (s .n))
+    (o : Leading (Is 1) (Is 0) (s .box c .head) (setting s c)) where
+  abbrev st : Store
+  st = store (s .box c)
+
+  L : Led (s .n) (s .present) (s .box) (s .link) (i .agreed) c (s .box c)
+  L = led (i .live (o .even)) c c-in (o .leads)
+
+  asking : Asking (s .n) (s .present) (s .box) (s .link) (i .agreed) c (s .box c)
+  asking = L .asking (o .phase)
+
+  abbrev x : Box
+  x = record {
+    head =
+        withPeers allUnknown
+        (withReplies 1
+        (withBest (bestHeld (s .box c .head .kept) (mine (s .box c)))
+        (withPhase Phase.Collect (s .box c .head))));
+    records = s .box c .records;
+  }
+
+  five : In c mostBoxes
+  five = (c-in .0, omega (arith, c-in .1, i .ranks .few))
+
+  -- ---- the mail on its way is of no use to it
+
+  mail-collect : (a : ℕ) (sa : Store) (b : ℕ) (sb : Store) (m : Reading)
+      → MailOk (s .present) (i .agreed) c (s .box c) a sa b sb m
+      → MailOk (s .present) (i .agreed) c x a sa b sb m
+  mail-collect a sa b sb (Collect q l) h = record {
+    from = h .from;
+    to = h .to;
+    rank = h .rank;
+    le = h .le;
+    fresh = λ e. absurd (omega arith);
+  }
+  mail-collect a sa b sb (Last q l u rs) h = record {
+    to = h .to;
+    from = h .from;
+    told = λ e. let t = h .told e in record {
+      rank = t .rank;
+      fresh = λ f. absurd (omega arith);
+      low = t .low;
+      prefix = t .prefix;
+      same = t .same;
+      old = t .old;
+      answers = λ f j. absurd (t .fresh (o .phase) j);
+    };
+  }
+  mail-collect a sa b sb (Begin q l r) h = absurd (h .recovered (o .state))
+  mail-collect a sa b sb (Accept q l) h = absurd (h .recovered (o .state))
+  mail-collect a sa b sb (Commit q l rs) h =
+      record { from = h .from; to = h .to; le = h .le; prefix = h .prefix }
+  mail-collect a sa b sb (Lease l) h = record { from = h .from; to = h .to }
+
+  none-told : (a : ℕ) (sa : Store) (b : ℕ) (sb : Store) (m : Reading)
+      → MailOk (s .present) (i .agreed) c (s .box c) a sa b sb m → tell (st .pn) m ≡ 0
+  none-told a sa b sb (Collect q l) h = refl
+  none-told a sa b sb (Last q l u rs) h =
+      ap one (ne-eqb q (st .pn) (h .told (o .state) .fresh (o .phase)))
+  none-told a sa b sb (Begin q l r) h = refl
+  none-told a sa b sb (Accept q l) h = refl
+  none-told a sa b sb (Commit q l rs) h = refl
+  none-told a sa b sb (Lease l) h = refl
+
+  none-asks : (a : ℕ) (sa : Store) (b : ℕ) (sb : Store) (m : Reading)
+      → MailOk (s .present) (i .agreed) c (s .box c) a sa b sb m → Asks (st .pn) m → ⊥
+  none-asks a sa b sb (Collect q l) h e = h .fresh (o .phase) e
+  none-asks a sa b sb (Last q l u rs) h e = e
+  none-asks a sa b sb (Begin q l r) h e = e
+  none-asks a sa b sb (Accept q l) h e = e
+  none-asks a sa b sb (Commit q l rs) h e = e
+  none-asks a sa b sb (Lease l) h e = e
+
+  -- ---- the first best
+
+  own : BoxOk (i .agreed) (i .agreed .by c) st
+  own = i .core .boxes c c-in
+
+  under-is : st .last < length (s .box c .records) → underOf (s .box c .head .kept) ≡ st .storedPn
+  unfolding underOf
+  under-is h =
+      let k = s .box c .head .kept in
+      pick-true (eqb (k .stored .number) (k .last + 1)) _ _
+      (eq-eqb (k .stored .number) (k .last + 1) (omega (arith, own .number h)))
+
+  best-ok : BestOk (i .agreed) (st .last) (bestHeld (s .box c .head .kept) (mine (s .box c)))
+  unfolding bestHeld
+  best-ok =
+      held-elim (λ (q : Held). BestOk (i .agreed) (st .last) (bestHeld (s .box c .head .kept) q))
+      (s .box c .records) (s .box c .head .kept .last)
+      (λ k. record {
+        same = λ j f h u. let jl : j ≡ st .last = omega arith in
+            rw jl (own .same (omega (arith, f, h)) k (omega (arith, u, under-is k)));
+        old = λ f. omega (arith, own .old (omega arith) k, under-is k);
+        limit = omega arith;
+      })
+      (λ k. record {
+        same = λ j f. absurd (omega arith);
+        old = λ f. omega arith;
+        limit = omega arith;
+      })
+
+  found : i .agreed .by c ≡ true → st .last < length (i .agreed .records)
+      → Found (i .agreed) (bestHeld (s .box c .head .kept) (mine (s .box c)))
+  unfolding bestHeld
+  found m l = let v = own .vote m l in
+      held-elim (λ (q : Held). Found (i .agreed) (bestHeld (s .box c .head .kept) q))
+      (s .box c .records) (s .box c .head .kept .last)
+      (λ e. record { number = omega (arith, v .0); pn = omega (arith, v .2, under-is e) })
+      (λ e. absurd (omega (arith, v .1, e)))
+
+  -- ---- the leader alone has answered
+
+  abbrev asks : Letter
+  asks = record {
+    head = mailOf Kind.Collect (s .box c .head .kept .pn) (s .box c .head .kept .last) 0;
+    records = [];
+  }
+
+  abbrev link′ : Links
+  link′ = posted (s .link) c (Out.To (others (setting s c)) (asks .head)) (s .box c .records)
+
+  R₀ : ℕ → Bool
+  R₀ = plus nobody c
+
+  only-own : (b : ℕ) → R₀ b ≡ true → b ≡ c
+  unfolding R₀
+  only-own b e = go (same? b c)
+    where
+      go : Or (b ≡ c) (b ≡ c → ⊥) → b ≡ c
+      go (left h) = h
+      go (right h) = absurd (both-no (rw (ne-eqb b c h) at e) refl)
+
+  no-asks : (b : ℕ) → (b ≡ c → ⊥) → All (λ m. Asks (st .pn) (read m) → ⊥) (s .link c b)
+  no-asks b bc = All-map (λ m h. none-asks c _ b _ (read m) (h (λ e. bc (sym e)))) (L .mails c b)
+
+  counted : Counted (s .n) (s .present) (st .pn) 1 (λ b. store (upd (s .box) c x b) .pn) link′ c R₀
+  unfolding R₀ others posted enclosed
+  counted = record {
+    own = rw (eqb-same c) refl;
+    present = λ b bn e. subst (λ (j : ℕ). has (s .present) j ≡ true) (sym (only-own b e)) (L .here);
+    count = tally-plus (s .n) nobody c c-in refl ∙ omega (arith, tally-nobody (s .n));
+    peer = λ b bn bc. left (record {
+      new = rw (ne-eqb b c bc) (asking .new b bn bc);
+      out = rw (ne-eqb b c bc) refl;
+      none = rw (ne-eqb b c bc)
+          (tells-zero (st .pn) (All-map (λ m h. none-told b _ c _ (read m) (h bc)) (L .mails b c)));
+      tidy =
+          tidy-sent (st .pn) (eqb c c && has (without (s .present) c) b) (s .link c b) asks
+          (no-asks b bc);
+    });
+  }
+
+  hearing : Hearing (s .n) (s .present) (upd (s .box) c x) link′ (i .agreed) c x
+  unfolding R₀
+  hearing = record {
+    recovering = o .state;
+    apart = upd-all (λ b t. In b (s .n) → store t .storedPn ≡ st .pn → ⊥) (s .box) c
+        (asking .apart c) (asking .apart);
+    R = R₀;
+    counted = counted;
+    promise = λ b bn e. rw (only-own b e, eqb-same c) refl;
+    lasts = λ b bn e. rw (only-own b e, eqb-same c) (omega arith);
+    found = λ b bn e m l.
+        let m′ = subst (λ (j : ℕ). i .agreed .by j ≡ true) (only-own b e) m in
+        let f = found m′ l in
+        (f .number, f .pn);
+    same = best-ok .same;
+    old = best-ok .old;
+    limit = best-ok .limit;
+  }
+
+  inv-collected : Inv (changed s (upd (s .box) c x) link′)
+  unfolding others posted enclosed
+  inv-collected = record {
+    agreed = i .agreed;
+    core = core-kept (i .core) c x c-in own (omega arith) (omega arith) refl;
+    ranks = ranks-kept (i .ranks) c x c-in refl refl;
+    live = λ e.
+        lead-live c L x (o .leads) link′ (i .agreed)
+        (λ f. absurd (omega arith)) (λ f. absurd (omega arith)) (λ f. hearing)
+        (λ f. absurd (f (o .state)))
+        (all-post (PostLed c L x (o .leads) (i .agreed)) (s .link)
+        (lead-mails c L x (o .leads) (i .agreed) (λ a b m. mail-collect a _ b _ m))
+        (without (s .present) c) c _
+        (λ b t ab. record {
+          from = refl;
+          to = without-in (s .present) c b five t .0;
+          rank = asking .rank;
+          le = omega arith;
+          fresh = λ f. absurd (omega arith);
+        }));
+  }
+
+pub inv-collect : (s : Site) (i : Inv s) (c : ℕ) → Inv (step s (Call.Collect c) .next)
+unfolding step acted collect written
+inv-collect s i c =
+    by-acting Inv s c _ _ _ i
+    (λ f c-in go. inv-collected s i c c-in (can-collect (go-unless _ _ _ go .0)))

@@ -1,0 +1,171 @@
+-- The invariant holds after every run from a fresh site; what follows from it at once.
+use Prim.Native.Nat.{ℕ, _≤_, _<_}
+use mathlib.Core.Path.{_≡_, refl, sym, ap, _∙_}
+use mathlib.Core.List.{List, [], _∷_}
+use native.Mathlib.Omega.{arith}
+use lib.ListN.{length, getD, length-take}
+use lib.Seq.{getD-take, length-take-le}
+use Rattle.rules.specs.Sizes.{mostBoxes, even}
+use Rattle.rules.specs.Sets.{joined, without}
+use Rattle.rules.specs.Mails.{ofKind, onMail}
+use Rattle.rules.specs.Box.{Letter, heldAt, mine}
+use Rattle.rules.specs.Site.{Site, setting, popped, fresh, freshHead}
+use Rattle.rules.specs.Step.{byTurn, delivered, step, run}
+use Rattle.laws.proofs.Types.{Call, Kind}
+use Rattle.laws.proofs.Logic.{In, both-no}
+use Rattle.laws.proofs.Counts.{everyone, major-everyone}
+use Rattle.laws.proofs.FormLaws.{Formed, form-says, is-box, is-link}
+use Rattle.laws.proofs.Conditions.{go-unless}
+use Rattle.laws.proofs.View.{store}
+use Rattle.laws.proofs.StepLaws.{by-ruled, by-inner, sizes-run}
+use Rattle.safety.specs.Demand3.{start}
+use Rattle.safety.proofs.Inv.{Agreement, Inv, BoxOk}
+use Rattle.safety.proofs.Arrival.{Arrives}
+use Rattle.safety.proofs.Quiet.{inv-presented, inv-popped}
+use Rattle.safety.proofs.Elect.{inv-elect}
+use Rattle.safety.proofs.Recover.{inv-recover}
+use Rattle.safety.proofs.Collect.{inv-collect}
+use Rattle.safety.proofs.Ready.{inv-ready}
+use Rattle.safety.proofs.Offer.{inv-offer}
+use Rattle.safety.proofs.Propose.{inv-propose}
+use Rattle.safety.proofs.Agree.{inv-agree}
+use Rattle.safety.proofs.Finish.{inv-finish}
+use Rattle.safety.proofs.MailCollect.{inv-collect-mail}
+use Rattle.safety.proofs.MailLast.{inv-last}
+use Rattle.safety.proofs.MailBegin.{begin-pn, inv-begin}
+use Rattle.safety.proofs.MailAccept.{inv-accept}
+use Rattle.safety.proofs.MailCommit.{inv-commit}
+use Rattle.safety.proofs.MailLease.{inv-lease}
+
+-- ---- every call
+
+inv-kind : (s : Site) (i : Inv s) (a b : ℕ) (y : Letter) (ys : List Letter) (k : Kind)
+    → Arrives s a b y ys k
+    → Inv (byTurn s (popped s a b) b
+    (ofKind k (s .box b .head) (setting s b) a (y .head) (getD (y .records) 0 0)
+    (heldAt (y .records) (y .head .last)) (mine (s .box b))) (y .records) .next)
+unfolding ofKind
+inv-kind s i a b y ys Kind.Collect r = inv-collect-mail s i a b y ys r
+inv-kind s i a b y ys Kind.Last r = inv-last s i a b y ys r
+inv-kind s i a b y ys Kind.Begin r = inv-begin s i a b y ys r
+inv-kind s i a b y ys Kind.Accept r = inv-accept s i a b y ys r
+inv-kind s i a b y ys Kind.Commit r = inv-commit s i a b y ys r
+inv-kind s i a b y ys Kind.Lease r = inv-lease s i a b y ys r
+
+inv-delivered : (s : Site) (i : Inv s) (a b : ℕ)
+    → Formed s → In a (s .n) → In b (s .n) → (a ≡ b → ⊥)
+    → (ys : List Letter) → s .link a b ≡ ys → Inv (delivered s a b ys .next)
+unfolding delivered onMail
+inv-delivered s i a b f ha hb ab [] e = i
+inv-delivered s i a b f ha hb ab (y ∷ ys) e =
+    by-inner Inv s (popped s a b) b _ _ _ _ i (inv-popped s a b i)
+    (λ go. inv-kind s i a b y ys (y .head .kind) (record {
+      form = f;
+      even = go-unless _ _ _ go .0;
+      from = ha;
+      to = hb;
+      apart = ab;
+      head = e;
+      kind = refl;
+    }))
+
+pub inv-step : (s : Site) (c : Call) → Inv s → Inv (step s c .next)
+unfolding step
+inv-step s (Call.Elect c) i =
+    by-ruled Inv s _ _ i
+    (λ p. inv-elect s c i (form-says (p .0)) (record {
+      box = is-box (p .1 .0);
+      due = p .1 .1 .0;
+      here = p .1 .1 .1 .0;
+      majority = p .1 .1 .1 .1 .0;
+    }))
+inv-step s (Call.Recover c) i = inv-recover s i c
+inv-step s (Call.Collect c) i = inv-collect s i c
+inv-step s (Call.Ready c) i = inv-ready s i c
+inv-step s (Call.Offer c l r) i = inv-offer s i c l r
+inv-step s (Call.Propose c) i = inv-propose s i c
+inv-step s (Call.Agree c) i = inv-agree s i c
+inv-step s (Call.Finish c) i = inv-finish s i c
+inv-step s (Call.Stop c) i = by-ruled Inv s _ _ i (λ p. inv-presented s (without (s .present) c) i)
+inv-step s (Call.Return c) i = by-ruled Inv s _ _ i (λ p. inv-presented s (joined (s .present) c) i)
+inv-step s (Call.Timeout c) i = by-ruled Inv s _ _ i (λ p. inv-presented s (s .present) i)
+inv-step s (Call.Lose a b) i = by-ruled Inv s _ _ i (λ p. inv-popped s a b i)
+inv-step s (Call.Deliver a b) i =
+    by-ruled Inv s _ _ i
+    (λ p. let l = is-link (p .1 .0) in
+    inv-delivered s i a b (form-says (p .0)) (l .0) (l .1) (l .2) (s .link a b) refl)
+
+-- ---- from a fresh site
+
+pub inv-start : (n J L : ℕ) → In n mostBoxes → Inv (start n J L)
+unfolding fresh freshHead
+inv-start n J L h = record {
+  agreed = record { records = []; pn = 0; by = everyone };
+  core = record {
+    boxes = λ b i. record {
+      low = omega arith;
+      prefix = refl;
+      number = λ e. absurd (omega arith);
+      promise = λ e. omega arith;
+      vote = λ e f. absurd (omega arith);
+      same = λ e. absurd (omega arith);
+      old = λ e. absurd (omega arith);
+    };
+    major = major-everyone n (h .0);
+    top = 1;
+    top-in = (omega arith, h .0);
+    topped = omega arith;
+    N = λ x. everyone;
+    N-major = λ x i. major-everyone n (h .0);
+    N-pn = λ x b i j e. omega arith;
+  };
+  ranks = record {
+    few = h .1;
+    pns = λ x b i j e. omega arith;
+    storedPns = λ x b i j e. omega arith;
+  };
+  live = λ e. absurd (both-no e refl);
+}
+
+module _ (n J L : ℕ) (size : In n mostBoxes) where
+  pub inv-run : (cs : List Call) → Inv (run (start n J L) cs)
+  unfolding run
+  inv-run [] = inv-start n J L size
+  inv-run (c ∷ cs) = inv-step (run (start n J L) cs) c (inv-run cs)
+
+  module _ (cs : List Call) where
+    abbrev end : Site
+    end = run (start n J L) cs
+
+    pub same-n : end .n ≡ n
+    unfolding fresh
+    same-n = sizes-run (start n J L) cs .n
+
+    abbrev g : Agreement
+    g = inv-run cs .agreed
+
+    box-ok : (b : ℕ) → In b n → BoxOk g (g .by b) (store (end .box b))
+    box-ok b h = inv-run cs .core .boxes b (rw same-n h)
+
+    -- a box holds all that it counts as agreed
+    pub held-all : (b : ℕ) → In b n → end .box b .head .kept .last ≤ length (end .box b .records)
+    held-all b h =
+        let k = box-ok b h in
+        let l = end .box b .head .kept .last in
+        let theirs = length-take l (end .box b .records) in
+        let agreed = length-take-le l (g .records) (k .low) in
+        omega (arith, theirs, ap length (k .prefix), agreed)
+
+    -- .. and its record of number k+1 is the agreed one
+    pub agreed-record : (b k : ℕ) → In b n → k < end .box b .head .kept .last
+        → getD (end .box b .records) k 0 ≡ getD (inv-run cs .agreed .records) k 0
+    agreed-record b k h l =
+        let last = end .box b .head .kept .last in
+        sym (getD-take last (end .box b .records) k 0 l)
+        ∙ ap (λ (t : List ℕ). getD t k 0) (box-ok b h .prefix)
+        ∙ getD-take last (inv-run cs .agreed .records) k 0 l
+
+    -- Refusal 9 never comes: in an even epoch a Begin at a link's head has just its receiver's pn.
+    pub no-nine : (a b : ℕ) (y : Letter) (ys : List Letter) → Arrives end a b y ys Kind.Begin
+        → y .head .pn ≡ end .box b .head .kept .pn
+    no-nine a b y ys r = begin-pn end (inv-run cs) a b y ys r

@@ -1,0 +1,2 @@
+-- Demand 3, in statements.
+pub mod Demand3

@@ -1,0 +1,1 @@
+// Demand 3 (specs/, proofs/). No code.
