@@ -1,0 +1,171 @@
+-- One mail to each box of a set: room for it, and the links when it has gone to the first boxes.
+use Prim.Native.Nat.{ℕ, zero, suc, _+_, _≤_, _<_}
+use mathlib.Core.Path.{_≡_, refl, sym, ap, _∙_}
+use mathlib.Core.Bool.{Bool, true, false, not, _&&_, and-false, _||_, cond}
+use mathlib.Core.List.{List, [], _∷_, _++_}
+use native.Mathlib.Decide.{decLt}
+use native.Mathlib.Omega.{arith}
+use lib.Dec.{eqb, leb, ltb}
+use lib.ListN.{length, take, length-take, List·getD-eq-default}
+use borrow.Author.Tests.{leb-true, leb-false, le-leb, lt-leb, ltb-true, ne-eqb}
+use Rattle.rules.specs.Every.{every}
+use Rattle.rules.specs.Sets.{has, setForm}
+use Rattle.rules.specs.Box.{Letter, enclosed, letterOf}
+use Rattle.rules.specs.Form.{formLetter}
+use Rattle.rules.specs.Site.{isBox, isLink}
+use Rattle.rules.specs.declared.model.Kind.{Kind}
+use Rattle.rules.specs.declared.model.Mail.{Mail}
+use Rattle.rules.specs.declared.model.Setting.{Setting}
+use Rattle.laws.proofs.Logic.{both-no, eqb-yes, eqb-no, and-both, All, All-head, every-at}
+use Rattle.laws.proofs.SetLaws.{set-in}
+use Rattle.laws.proofs.FormLaws.{Proper, FormedKind, letter-says, proper-some}
+use Rattle.place.specs.Lent.{enclosedFrom, enclosedCount}
+use Rattle.link.specs.Holds.{Sendable}
+use Rattle.memory.specs.After.{linksOf, LinksLent, LinksPut, roomFor, sent}
+use Rattle.memory.proofs.LinkLaws.{not-sent}
+
+-- a box of the set is another, and has a link from me
+pub other-link : (n me b set : ℕ) → isBox n me ≡ true → isBox n b ≡ true → has set me ≡ false
+    → has set b ≡ true → isLink n me b ≡ true
+other-link n me b set hm hb out in-set =
+    and-both (and-both hm hb)
+    (ap not (ne-eqb me b (λ e. both-no in-set (ap (has set) (sym e) ∙ out))))
+
+-- there is room where it is asked for
+pub room-says : (s : Setting) (ls : List ℕ) (set b : ℕ) → roomFor s ls set b ≡ true
+    → has set b ≡ true → length (linksOf s ls (s .me) b) < s .l
+room-says s ls set b e f =
+    ltb-true _ _ (go (has set b) _ f e)
+  where
+    go : (t u : Bool) → t ≡ true → (not t || u) ≡ true → u ≡ true
+    go true u d e = e
+    go false u d e = absurd (both-no d refl)
+
+-- ---- the letter
+
+-- a letter by form has its records of those that are there, and has room for them
+module _ (J pn last unagreed : ℕ) (rs : List ℕ) (most : last ≤ J) where
+  abbrev Enclosable : Kind → Type 0
+  Enclosable k =
+      (enclosedFrom k last + enclosedCount k last (length rs) ≤ length rs)
+      × (enclosedCount k last (length rs) ≤ J)
+
+  enclosable : (k : Kind) → FormedKind k J pn last unagreed (length (enclosed k last rs))
+      → All Proper (enclosed k last rs) → Enclosable k
+  unfolding enclosed
+  enclosable Kind.Collect h p = (omega arith, omega arith)
+  enclosable Kind.Last h p = (omega arith, h .held .room)
+  enclosable Kind.Begin h p = (there (decLt last (length rs)), omega (arith, h .room))
+    where
+      there : Dec (last < length rs) → last + 1 ≤ length rs
+      there (yes l) = omega arith
+      there (no l) =
+          absurd (proper-some (All-head p) (List·getD-eq-default rs 0 {n = last} (omega arith)))
+  enclosable Kind.Accept h p = (omega arith, omega arith)
+  enclosable Kind.Commit h p = (
+    let l : length (take last rs) ≡ last = h .all-records in
+        omega (arith, length-take last rs),
+    most,
+  )
+  enclosable Kind.Lease h p = (omega arith, omega arith)
+
+pub sendable : (J : ℕ) (m : Mail) (rs : List ℕ) → formLetter J (letterOf m rs) ≡ true
+    → Sendable J m rs
+sendable J m rs e =
+    let f = letter-says e in
+    let h = enclosable J (m .pn) (m .last) (m .unagreed) rs (f .last) (m .kind) (f .kind)
+    (f .records) in
+    record { held = h .0; room = h .1 }
+
+-- ---- the letters to the boxes up to b
+
+-- a letter to the boxes below, and then to one more
+cond-next {ℓ} : {A : Type ℓ} (t u now below up : Bool) (x : A) (f : A → A)
+    → (now ≡ true → (below ≡ false) × (up ≡ true)) → (now ≡ false → below ≡ up)
+    → cond (t && (u && now)) (f (cond (t && (u && below)) (f x) x))
+    (cond (t && (u && below)) (f x) x)
+    ≡ cond (t && (u && up)) (f x) x
+cond-next false u now below up x f p q = refl
+cond-next true false now below up x f p q = refl
+cond-next true true true below up x f p q = rw (p refl .0, p refl .1) refl
+cond-next true true false below up x f p q = rw (q refl) refl
+
+module _ (s : Setting) (set : ℕ) (y : Letter) (ls₀ : List ℕ) where
+  abbrev sentUpTo : ℕ → ℕ → ℕ → List Letter
+  sentUpTo b = sent (linksOf s ls₀) (s .me) (λ c. has set c && leb c b) y
+
+  pub record SentUpTo (b : ℕ) (ls : List ℕ) : Type 0 where
+    pub few : b ≤ s .n
+    pub put : LinksPut s (sentUpTo b) ls₀ ls
+
+  pub sent-none : LinksLent s ls₀ → SentUpTo 0 ls₀
+  unfolding has
+  sent-none lent = record {
+    few = omega arith;
+    put = record {
+      links = λ t. λ x c.
+          not-sent (linksOf s ls₀) (s .me) (λ k. has set k && leb k 0) y x c (low c) t;
+      words = refl;
+      lent = lent;
+    };
+  }
+    where
+      low : (c : ℕ) → (has set c && leb c 0) ≡ false
+      low zero = refl
+      low (suc c) = rw (lt-leb (suc c) 0 (omega arith), and-false (has set (suc c))) refl
+
+  module _ (b : ℕ) (ls : List ℕ) (upTo : SentUpTo b ls) (h : b < s .n) where
+    -- the next link is as it was
+    next-link : linksOf s ls (s .me) (b + 1) ≡ linksOf s ls₀ (s .me) (b + 1)
+    next-link =
+        (λ t. upTo .put .links t (s .me) (b + 1))
+        ∙ sym (not-sent (linksOf s ls₀) (s .me) (λ k. has set k && leb k b) y (s .me) (b + 1)
+        (rw (lt-leb (b + 1) b (omega arith), and-false (has set (b + 1))) refl))
+
+    pub sent-room : every (s .n) (roomFor s ls₀ set) ≡ true → roomFor s ls set (b + 1) ≡ true
+    sent-room room =
+        ap (λ (l : List Letter). not (has set (b + 1)) || ltb (length l) (s .l)) next-link
+        ∙ every-at (s .n) (roomFor s ls₀ set) room (b + 1) (omega arith, omega arith)
+
+    pub sent-more : (ls' : List ℕ)
+        → LinksPut s (sent (linksOf s ls) (s .me) (λ c. has set c && eqb c (b + 1)) y) ls ls'
+        → SentUpTo (b + 1) ls'
+    sent-more ls' put = record {
+      few = omega arith;
+      put = record {
+        links = put .links ∙ (λ t. λ x c.
+            ((λ i. sent (upTo .put .links i) (s .me) (λ k. has set k && eqb k (b + 1)) y x c)
+            ∙ next x c) t);
+        words = put .words ∙ upTo .put .words;
+        lent = put .lent;
+      };
+    }
+      where
+        next : (x c : ℕ)
+            → sent (sentUpTo b) (s .me) (λ k. has set k && eqb k (b + 1)) y x c
+            ≡ sentUpTo (b + 1) x c
+        next x c =
+            cond-next (eqb x (s .me)) (has set c) (eqb c (b + 1)) (leb c b) (leb c (b + 1))
+            (linksOf s ls₀ x c) (λ l. l ++ (y ∷ []))
+            (λ e. let d = eqb-yes c (b + 1) e in
+            (lt-leb c b (omega arith), le-leb c (b + 1) (omega arith)))
+            (λ e. apart (eqb-no c (b + 1) e) (leb c b) refl)
+          where
+            apart : (c ≡ b + 1 → ⊥) → (t : Bool) → leb c b ≡ t → t ≡ leb c (b + 1)
+            apart ne true e = sym (le-leb c (b + 1) (omega (arith, leb-true c b e)))
+            apart ne false e = sym (lt-leb c (b + 1) (omega (arith, leb-false c b e)))
+
+  pub sent-all : (b : ℕ) (ls : List ℕ) → SentUpTo b ls → s .n ≤ b → setForm (s .n) set ≡ true
+      → LinksPut s (sent (linksOf s ls₀) (s .me) (has set) y) ls₀ ls
+  sent-all b ls upTo h boxes = record {
+    links = upTo .put .links ∙ (λ t. λ x c.
+        cond (eqb x (s .me) && all c (has set c) refl t) (linksOf s ls₀ x c ++ (y ∷ []))
+        (linksOf s ls₀ x c));
+    words = upTo .put .words;
+    lent = upTo .put .lent;
+  }
+    where
+      all : (c : ℕ) (t : Bool) → has set c ≡ t → (t && leb c b) ≡ t
+      all c true e =
+          let i = set-in (s .n) set c boxes e in le-leb c b (omega (arith, i .1))
+      all c false e = refl

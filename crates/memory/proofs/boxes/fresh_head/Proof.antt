@@ -1,0 +1,15 @@
+-- `memory::boxes::fresh_head` meets its contract.
+use mathlib.Core.Path.{refl}
+use Rattle.rules.specs.Site.{freshHead}
+use Rattle.memory.proofs.boxes.fresh_head.Statement.{statement}
+use Rattle.memory.proofs.boxes.fresh_head.Tie as tie
+
+returns : tie.Need-returns
+unfolding freshHead
+returns c = refl
+
+pub fresh-head-spec : {M : Type 1} → statement M
+fresh-head-spec =
+    tie.close
+    (tie.spec
+    returns)

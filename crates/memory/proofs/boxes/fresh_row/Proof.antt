@@ -1,0 +1,46 @@
+-- `memory::boxes::fresh_row` meets its contract, by the laws of a box's row.
+use borrow.Author.Needs.{needs}
+use mathlib.Core.Path.{ap, _∙_}
+use mathlib.Core.List.{List}
+use Prim.Native.Nat.{ℕ, _+_}
+use lib.ListN.{length}
+use Rattle.rules.specs.Site.{freshBox}
+use Rattle.memory.proofs.RowLaws.{row-sized, row-cut, row-done, fresh-law}
+use Rattle.memory.proofs.boxes.fresh_row.Statement.{statement}
+use Rattle.memory.proofs.boxes.fresh_row.Tie as tie
+
+returns : tie.Need-returns
+returns c =
+    let stored = c .before .before in
+    let made = stored .before in
+    let ended = made .before .before in
+    let started = ended .before in
+    let s = started .before .before in
+    let t = s .args .s in
+    let from = started .row-start .ensures .0 in
+    let to = ap (λ (w : ℕ). started .row-start .result + w) (ended .row-width .ensures) in
+    let cut = row-cut t (s .args .b) (s .args .site .now) (s .pre .1 .1) from to in
+    let words = ap (λ (l : List ℕ). length l) cut
+    ∙ row-sized t (s .args .b) (s .args .site .now) (s .pre .1 .1) (s .pre .0) (s .pre .1 .0)
+    .words in
+    row-done t (s .args .b) (s .args .site .now) (s .pre .1 .1) from to (s .pre .0) (s .pre .1 .0)
+    freshBox
+    (stored .store .last .0)
+    (fresh-law (t .n) (t .j) _ words (made .fresh-head .result) (stored .store .last .0)
+    (made .fresh-head .ensures) (stored .store .ensures))
+
+pub fresh-row-spec : {M : Type 1} → statement M
+fresh-row-spec =
+    tie.close
+    (tie.spec
+    (λ c κs. search needs)
+    (λ c κs. search needs)
+    (λ c. search needs)
+    (λ c. search needs)
+    (λ c. search needs)
+    (λ c. search needs)
+    (λ c. search needs)
+    (λ c κs. search needs)
+    (λ c κs. search needs)
+    (λ c. search needs)
+    returns)

@@ -1,0 +1,15 @@
+-- `memory::general::is_link` meets its contract.
+use borrow.Author.Needs.{needs}
+use Rattle.memory.proofs.general.is_link.Statement.{statement}
+use Rattle.memory.proofs.general.is_link.Tie as tie
+
+returns : tie.Need-returns
+returns c = simp (c .is-box2 .ensures, c .before .is-box .ensures)
+
+pub is-link-spec : {M : Type 1} → statement M
+is-link-spec =
+    tie.close
+    (tie.spec
+    (λ c κs. search needs)
+    (λ c κs. search needs)
+    returns)

@@ -1,0 +1,47 @@
+// Numbers of boxes, sets of them, and what a box knows of its site.
+ghost use mathlib.Core.Path.{_≡_};
+ghost use Prim.Native.Nat.{_≤_};
+ghost use Rattle.rules.specs.Sizes.{mostBoxes};
+ghost use Rattle.rules.specs.Sets.{has};
+ghost use Rattle.rules.specs.Site.{isBox, isLink};
+ghost use Rattle.memory.specs.After.{settingAt, GeneralLent};
+use rules::model::Setting;
+use rules::sets;
+
+pub fn is_box(n: u32, c: u32) -> bool
+    ensures { λ r. ⌜ r ≡ isBox n c ⌝ }
+{
+    (1 <= c) & (c <= n)
+}
+
+pub fn is_link(n: u32, a: u32, b: u32) -> bool
+    ensures { λ r. ⌜ r ≡ isLink n a b ⌝ }
+{
+    let from = is_box(n, a);
+    let to = is_box(n, b);
+    from & to & (a != b)
+}
+
+// Box k is in the set w.
+pub fn has(w: u32, k: u32) -> bool
+    requires { ⌜ k ≤ mostBoxes ⌝ }
+    ensures { λ r. ⌜ r ≡ has w k ⌝ }
+{
+    let one = sets::bit_of(k);
+    w & one != 0
+}
+
+// What box c knows of the site.
+pub fn setting_of(site: &[u64], c: u32) -> Setting
+    requires { ⌜ GeneralLent (now site) ⌝ }
+    ensures { λ r. ⌜ r ≡ settingAt (now (site .entry)) c ⌝ }
+{
+    Setting {
+        n: place::number(site[0]),
+        j: place::number(site[1]),
+        l: place::number(site[2]),
+        epoch: place::number(site[3]),
+        present: place::number(site[4]),
+        me: c,
+    }
+}

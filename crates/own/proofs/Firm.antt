@@ -1,0 +1,88 @@
+-- How firm the statement is: nothing else could satisfy it.
+use mathlib.Core.Path.{_≡_, refl, sym, ap, _∙_}
+use mathlib.Core.Bool.{Bool, true, false, not, _&&_, _||_, cond}
+use mathlib.Core.List.{List}
+use Prim.Native.Nat.{ℕ, _+_}
+use lib.Dec.{ltb}
+use lib.ListN.{length}
+use Rattle.rules.specs.Sizes.{sizesForm}
+use Rattle.rules.specs.Box.{Box, Event, turnOf, brought}
+use Rattle.rules.specs.Own.{OwnOutcome, unmoved, ownTurn, ownStep}
+use Rattle.laws.proofs.Types.{Answer, Refusal, Setting, Turn}
+use Rattle.laws.proofs.Logic.{both-no}
+use Rattle.laws.proofs.StepLaws.{by-needs}
+use Rattle.own.specs.Entry.{ownBox, isRefusal, isAccepted, buffered, ownOn, lettersIn, Owned}
+
+-- a row, a place, an answer and a set that show the same
+pub record Alike (s : Setting) (r out : List ℕ) (a : Answer) (to : ℕ)
+    (r' out' : List ℕ) (a' : Answer) (to' : ℕ) : Type 0 where
+  pub answer : a ≡ a'
+  pub receivers : to ≡ to'
+  pub box : ownBox s r ≡ ownBox s r'
+  pub letter : lettersIn s to out ≡ lettersIn s to' out'
+
+-- Two ends of the same outcome are alike, wherever they began ..
+pub alike : (s : Setting) (o o' : OwnOutcome) → o ≡ o'
+    → {r out r₁ out₁ : List ℕ} {a : Answer} {to : ℕ} → Owned s o r out r₁ out₁ a to
+    → {r' out' r₂ out₂ : List ℕ} {a' : Answer} {to' : ℕ} → Owned s o' r' out' r₂ out₂ a' to'
+    → Alike s r₁ out₁ a to r₂ out₂ a' to'
+alike s o o' e p q = record {
+  answer = p .answer ∙ ap (λ (u : OwnOutcome). u .answer) e ∙ sym (q .answer);
+  receivers = p .receivers ∙ ap (λ (u : OwnOutcome). u .to) e ∙ sym (q .receivers);
+  box = p .box ∙ ap (λ (u : OwnOutcome). u .next) e ∙ sym (q .box);
+  letter = p .letter ∙ ap (λ (u : OwnOutcome). u .letters) e ∙ sym (q .letter);
+}
+
+-- a refusal sends nothing
+Silent : OwnOutcome → Type 0
+Silent o = isRefusal (o .answer) ≡ true → o .to ≡ 0
+
+still-silent : (x : Box) (a : Answer) → Silent (unmoved x a)
+unfolding Silent
+still-silent x a h = refl
+
+turn-silent : (b : Answer) (x : Box) (t : Turn) (ms : List ℕ) → Silent (ownTurn b x t ms)
+unfolding Silent ownTurn
+turn-silent Answer.Done x t ms h = absurd (both-no h refl)
+turn-silent Answer.Taken x t ms h = absurd (both-no h refl)
+turn-silent (Answer.Discarded why) x t ms h = refl
+turn-silent (Answer.Refused why) x t ms h = refl
+
+one-silent : (b : Bool) (o o' : OwnOutcome) → Silent o → Silent o' → Silent (cond b o o')
+one-silent true o o' p q = p
+one-silent false o o' p q = q
+
+step-silent : (s : Setting) (x : Box) (e : Event) → Silent (ownStep s x e)
+unfolding ownStep
+step-silent s x e =
+    by-needs Silent (λ why. unmoved x (Answer.Refused why)) _ _
+    (λ why. still-silent x (Answer.Refused why))
+    (λ p. turn-silent (turnOf s x e .answer) x (turnOf s x e) (brought e))
+
+silent : (s : Setting) (x : Box) (reads : Bool) (e : Event) (out : List ℕ)
+    → Silent (ownOn s x reads e out)
+unfolding ownOn buffered
+silent s x reads e out =
+    let o = ownStep s x e in
+    one-silent (reads || not (sizesForm (s .n) (s .j) (s .l))) (buffered s x out o) _
+    (one-silent (isAccepted (o .answer) && ltb (length out) (5 + s .j)) _ o
+    (still-silent x (Answer.Refused Refusal.Buffer)) (step-silent s x e))
+    (still-silent x (Answer.Refused Refusal.Form))
+
+-- .. and where they began with the same words, a refusal leaves the same words, and so does a place
+-- into which nothing is sent.
+module _ (s : Setting) (x : Box) (reads : Bool) (e : Event) {r out r₁ out₁ r₂ out₂ : List ℕ}
+    {a a' : Answer} {to to' : ℕ} (p : Owned s (ownOn s x reads e out) r out r₁ out₁ a to)
+    (q : Owned s (ownOn s x reads e out) r out r₂ out₂ a' to') where
+  pub same-end : Alike s r₁ out₁ a to r₂ out₂ a' to'
+  same-end = alike s _ _ refl p q
+
+  pub same-place : to ≡ 0 → out₁ ≡ out₂
+  same-place z = p .quiet z ∙ sym (q .quiet (sym (same-end .receivers) ∙ z))
+
+  pub same-words : isRefusal a ≡ true → (r₁ ≡ r₂) × (out₁ ≡ out₂)
+  unfolding Silent
+  same-words h = (
+    p .kept h ∙ sym (q .kept (rw (← same-end .answer) h)),
+    same-place (p .receivers ∙ silent s x reads e out (rw (← p .answer) h)),
+  )

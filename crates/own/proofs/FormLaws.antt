@@ -1,0 +1,175 @@
+-- The words of a lent row and of a lent place: what their tests come to, and what they say.
+use mathlib.Core.Path.{_≡_, _∙_}
+use mathlib.Core.Bool.{Bool, true, false, _&&_, and-true, and-false, and-assoc}
+use mathlib.Core.List.{List, [], _∷_}
+use Prim.Native.Nat.{ℕ, _+_, _≤_, _<_}
+use lib.Dec.{leb}
+use lib.ListN.{length, getD}
+use lib.Seq.{length-take-le}
+use borrow.Author.Tests.{leb-true, le-leb, lt-leb}
+use Rattle.rules.specs.Every.{all}
+use Rattle.rules.specs.Sizes.{mostBoxes, mostLoads, mostMails, mostEpoch, within, sizesForm}
+use Rattle.rules.specs.Sets.{setForm}
+use Rattle.rules.specs.Box.{own, mail}
+use Rattle.rules.specs.Form.{formBox, formLetter}
+use Rattle.rules.specs.Own.{formOwn}
+use Rattle.laws.proofs.Types.{Act, Setting}
+use Rattle.laws.proofs.Logic.{and-yes, passed, _&_, none, made}
+use Rattle.laws.proofs.FormLaws.{FormedBox, FormedLetter, sizes-says, box-says, letter-says}
+use Rattle.place.specs.Place.{placeForm}
+use Rattle.place.specs.Lent.{PlaceSized}
+use Rattle.row.specs.Row.{rowFits, rowForm}
+use Rattle.row.specs.Lent.{RowSized, RowByForm, PlaceByForm}
+use Rattle.own.specs.Entry.{rowOf, placeOf, ownBox, ownLetter, rowReads, placeReads}
+
+-- ---- words of which the first w are read: what they hold fits, and has a form
+
+module _ (w : ℕ) (ws : List ℕ) (fits form : Bool) where
+  -- Where there are enough, their test is t ..
+  long-tested : (t : Bool) → w ≤ length ws → t ≡ all (fits ∷ form ∷ [])
+      → t ≡ (leb w (length ws) && fits && form)
+  unfolding all
+  long-tested t h e = e ∙ rw (le-leb w (length ws) h, and-true)
+
+  -- .. and where there are too few, they cannot be read.
+  short-tested : length ws < w → false ≡ (leb w (length ws) && fits && form)
+  short-tested h = rw (lt-leb w (length ws) h)
+
+  tested : (leb w (length ws) && fits && form) ≡ true
+      → (w ≤ length ws) × (fits ≡ true) × (form ≡ true)
+  tested e =
+      let p = and-yes (leb w (length ws) && fits) form e in
+      let q = and-yes (leb w (length ws)) fits (p .0) in
+      (leb-true w (length ws) (q .0), q .1, p .1)
+
+module _ (s : Setting) where
+  -- the epoch and the present set
+  abbrev pub settingForm : Bool
+  settingForm = within 1 mostEpoch (s .epoch) && setForm (s .n) (s .present)
+
+  -- the row can be read, and the box that it holds is by form
+  abbrev pub rowTest : List ℕ → Bool
+  rowTest r = rowReads (s .j) r && formBox (s .n) (s .j) (s .me) (ownBox s r)
+
+  -- the place can be read, and the letter that it holds is by form
+  abbrev pub placeTest : List ℕ → Bool
+  placeTest p = placeReads (s .j) p && formLetter (s .j) (ownLetter s p)
+
+  pub row-tested : (t : Bool) (r : List ℕ) → 20 + s .j ≤ length r
+      → t ≡ rowForm (s .n) (s .j) (s .me) (rowOf (s .j) r) → t ≡ rowTest r
+  unfolding rowForm rowReads
+  row-tested t r h e = long-tested (20 + s .j) r _ _ t h e
+
+  pub row-short : (r : List ℕ) → length r < 20 + s .j → false ≡ rowTest r
+  unfolding rowReads
+  row-short r h = short-tested (20 + s .j) r _ _ h
+
+  pub row-sized : (r : List ℕ) → sizesForm (s .n) (s .j) (s .l) ≡ true → 20 + s .j ≤ length r
+      → RowSized (s .n) (s .j) (rowOf (s .j) r)
+  row-sized r sizes h = let z = sizes-says sizes in
+      record {
+        words = length-take-le (20 + s .j) r h;
+        boxes = z .few-boxes;
+        loads = z .few-loads;
+      }
+
+  pub place-tested : (t : Bool) (p : List ℕ) → 5 + s .j ≤ length p
+      → t ≡ placeForm (s .j) (placeOf (s .j) p) → t ≡ placeTest p
+  unfolding placeForm placeReads
+  place-tested t p h e = long-tested (5 + s .j) p _ _ t h e
+
+  pub place-short : (p : List ℕ) → length p < 5 + s .j → false ≡ placeTest p
+  unfolding placeReads
+  place-short p h = short-tested (5 + s .j) p _ _ h
+
+  pub place-sized : (p : List ℕ) → sizesForm (s .n) (s .j) (s .l) ≡ true → 5 + s .j ≤ length p
+      → PlaceSized (s .j) (placeOf (s .j) p)
+  place-sized p sizes h =
+      record { words = length-take-le (5 + s .j) p h; most = sizes-says sizes .few-loads }
+
+-- ---- the tests together
+
+pub sizes-tested : (n J L : ℕ)
+    → (within 1 mostBoxes n && within 1 mostLoads J && within 1 mostMails L) ≡ sizesForm n J L
+unfolding sizesForm all
+sizes-tested n J L = simp (and-assoc, and-true)
+
+module _ (s : Setting) (r : List ℕ) where
+  -- what is by form before a step of its own ..
+  abbrev pub actForm : Act → Bool
+  actForm a = rowReads (s .j) r && formOwn s (ownBox s r) (own a)
+
+  -- .. and before a mail from a sender in the place p
+  abbrev pub mailForm : ℕ → List ℕ → Bool
+  mailForm sender p =
+      rowReads (s .j) r && placeReads (s .j) p
+      && formOwn s (ownBox s r) (mail sender (ownLetter s p))
+
+  pub act-tested : (a : Act) (t u : Bool) → t ≡ settingForm s → u ≡ rowTest s r
+      → (t && u) ≡ actForm a
+  unfolding formOwn all
+  act-tested a t u et eu = rw (et, eu) (go (rowReads (s .j) r))
+    where
+      go : (b : Bool)
+          → (settingForm s && (b && formBox (s .n) (s .j) (s .me) (ownBox s r)))
+          ≡ (b && formOwn s (ownBox s r) (own a))
+      go true = simp (and-assoc, and-true)
+      go false = simp and-false
+
+  pub mail-tested : (sender : ℕ) (p : List ℕ) (t u v : Bool) → t ≡ settingForm s → u ≡ rowTest s r
+      → v ≡ placeTest s p → (t && u && v) ≡ mailForm sender p
+  unfolding formOwn all
+  mail-tested sender p t u v et eu ev =
+      rw (et, eu, ev) (go (rowReads (s .j) r) (placeReads (s .j) p))
+    where
+      go : (b c : Bool)
+          → (settingForm s && (b && formBox (s .n) (s .j) (s .me) (ownBox s r))
+          && (c && formLetter (s .j) (ownLetter s p)))
+          ≡ (b && c && formOwn s (ownBox s r) (mail sender (ownLetter s p)))
+      go true true = simp (and-assoc, and-true)
+      go true false = simp and-false
+      go false c = simp and-false
+
+-- ---- what they say
+
+-- a box's own row by form
+pub record OwnRow (s : Setting) (r : List ℕ) : Type 0 where
+  pub long : 20 + s .j ≤ length r
+  pub count : getD (rowOf (s .j) r) 19 0 ≤ s .j
+  pub box : FormedBox (s .n) (s .j) (s .me) (ownBox s r)
+  pub by-form : s .me ≤ mostBoxes → RowByForm s (rowOf (s .j) r)
+
+pub own-row : (s : Setting) (r : List ℕ) → sizesForm (s .n) (s .j) (s .l) ≡ true
+    → rowTest s r ≡ true → OwnRow s r
+unfolding rowReads rowFits rowForm
+own-row s r sizes e =
+    let p = tested (20 + s .j) r _ _ e in
+    record {
+      long = p .0;
+      count = leb-true (getD (rowOf (s .j) r) 19 0) (s .j) (passed _ (p .1) .1 .1 .1 .0);
+      box = box-says (p .2);
+      by-form = λ me. record {
+        size = row-sized s r sizes (p .0);
+        form = made (p .1 & p .2 & none);
+        me = me;
+      };
+    }
+
+-- a letter by form in its place
+pub record OwnPlace (s : Setting) (p : List ℕ) : Type 0 where
+  pub long : 5 + s .j ≤ length p
+  pub letter : FormedLetter (s .j) (ownLetter s p)
+  pub by-form : PlaceByForm s (placeOf (s .j) p)
+
+pub own-place : (s : Setting) (p : List ℕ) → placeTest s p ≡ true → OwnPlace s p
+unfolding placeReads placeForm
+own-place s p e =
+    let q = tested (5 + s .j) p _ _ e in
+    record {
+      long = q .0;
+      letter = letter-says (q .2);
+      by-form = record {
+        words = length-take-le (5 + s .j) p (q .0);
+        form = made (q .1 & q .2 & none);
+      };
+    }

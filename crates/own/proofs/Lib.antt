@@ -1,0 +1,10 @@
+-- The laws of `specs/`, and how firm its statement is.
+pub mod OrderLaws
+pub mod FormLaws
+pub mod TakeLaws
+pub mod TurnLaws
+pub mod PostLaws
+pub mod OwnedLaws
+pub mod EntryLaws
+pub mod Firm
+pub mod Room

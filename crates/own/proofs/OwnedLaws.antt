@@ -1,0 +1,175 @@
+-- What the code has done is what the statement says: nothing, or a turn that is carried out.
+use mathlib.Core.Path.{_≡_, refl, sym, ap, _∙_}
+use mathlib.Core.Bool.{Bool, true, false, _&&_, cond}
+use mathlib.Core.List.{List, _++_}
+use Prim.Native.Nat.{ℕ, _+_, _≤_}
+use native.Mathlib.Omega.{arith}
+use lib.Dec.{ltb}
+use lib.ListN.{length, take, drop, take-append-drop}
+use lib.Seq.{length-take-le, length-front, take-at}
+use borrow.Author.Tests.{ltb-false, le-leb}
+use Rattle.rules.specs.Box.{Box, turned}
+use Rattle.rules.specs.Own.{OwnOutcome, unmoved, receivers, lettersOf, ownTurn}
+use Rattle.laws.proofs.Types.{Answer, Refusal, Setting, Turn}
+use Rattle.laws.proofs.Logic.{both-no, and-both}
+use Rattle.place.specs.Place.{letterAt}
+use Rattle.own.specs.Entry.{rowOf, placeOf, ownBox, rowReads, placeReads}
+use Rattle.own.specs.Entry.{isRefusal, isAccepted, buffered, Owned}
+use Rattle.own.specs.Lent.{Carries, Carried, Concludes, concluded, StillReads}
+
+-- Nothing has changed, and nothing is sent.
+pub nothing-done : (s : Setting) (r out : List ℕ) (o : OwnOutcome) (a : Answer)
+    → o ≡ unmoved (ownBox s r) a → Owned s o r out r out a 0
+nothing-done s r out o a e = record {
+  answer = ap (λ (u : OwnOutcome). u .answer) (sym e);
+  box = ap (λ (u : OwnOutcome). u .next) (sym e);
+  receivers = ap (λ (u : OwnOutcome). u .to) (sym e);
+  letter = ap (λ (u : OwnOutcome). u .letters) (sym e);
+  kept = λ h. refl;
+  quiet = λ h. refl;
+  row-words = refl;
+  out-words = refl;
+}
+
+pub still-there : (s : Setting) (r out : List ℕ) → StillReads s r r out 0
+still-there s r out = record { row = λ h. h; letter = λ h. absurd (h refl) }
+
+-- ---- the answer: the turn's, or 12 where its letter has no room
+
+abbrev pub answerIn : Answer → Bool → Answer
+answerIn a short = cond (isAccepted a && short) (Answer.Refused Refusal.Buffer) a
+
+-- what a turn comes to that goes on
+abbrev wentOn : Answer → Box → Turn → List ℕ → OwnOutcome
+wentOn a x t ms = record {
+  answer = a;
+  next = turned x t ms;
+  to = receivers (t .out);
+  letters = lettersOf (t .out) (turned x t ms .records);
+}
+
+module _ (x : Box) (t : Turn) (ms : List ℕ) where
+  abbrev comes : Answer → Bool → OwnOutcome
+  comes b short =
+      cond (isAccepted (ownTurn b x t ms .answer) && short)
+      (unmoved x (Answer.Refused Refusal.Buffer))
+      (ownTurn b x t ms)
+
+  -- The turn does not go on.
+  stops : (b : Answer) (short : Bool) → isAccepted (answerIn b short) ≡ false
+      → comes b short ≡ unmoved x (answerIn b short)
+  unfolding ownTurn
+  stops Answer.Done true h = refl
+  stops Answer.Done false h = absurd (both-no refl h)
+  stops Answer.Taken true h = refl
+  stops Answer.Taken false h = absurd (both-no refl h)
+  stops (Answer.Discarded why) short h = refl
+  stops (Answer.Refused why) short h = refl
+
+  -- It goes on.
+  goes : (b : Answer) (short : Bool) → isAccepted (answerIn b short) ≡ true
+      → comes b short ≡ wentOn (answerIn b short) x t ms
+  unfolding ownTurn
+  goes Answer.Done true h = absurd (both-no h refl)
+  goes Answer.Done false h = refl
+  goes Answer.Taken true h = absurd (both-no h refl)
+  goes Answer.Taken false h = refl
+  goes (Answer.Discarded why) short h = absurd (both-no h refl)
+  goes (Answer.Refused why) short h = absurd (both-no h refl)
+
+-- Its letter has room.
+went-on : (b : Answer) (short : Bool) → isAccepted (answerIn b short) ≡ true → short ≡ false
+went-on b false h = refl
+went-on Answer.Done true h = sym h
+went-on Answer.Taken true h = sym h
+went-on (Answer.Discarded why) true h = sym h
+went-on (Answer.Refused why) true h = sym h
+
+-- ---- the first w of xs have become ys
+
+front-is : (w : ℕ) (xs ys : List ℕ) → w ≤ length xs → length ys ≡ length (take w xs)
+    → take w (ys ++ drop w xs) ≡ ys
+front-is w xs ys h e = take-at ys (drop w xs) w (e ∙ length-take-le w xs h)
+
+front-back : (w : ℕ) (xs ys : List ℕ) → ys ≡ take w xs → ys ++ drop w xs ≡ xs
+front-back w xs ys e = rw e (take-append-drop w xs)
+
+accepted-kept : (a : Answer) → isAccepted a ≡ true → isRefusal a ≡ false
+accepted-kept Answer.Done h = refl
+accepted-kept Answer.Taken h = refl
+accepted-kept (Answer.Discarded why) h = refl
+accepted-kept (Answer.Refused why) h = absurd (both-no h refl)
+
+-- ---- the turn t is concluded, with the answer a
+
+pub has-room : (s : Setting) (out : List ℕ) (b a : Answer)
+    → a ≡ answerIn b (ltb (length out) (5 + s .j)) → isAccepted a ≡ true → 5 + s .j ≤ length out
+has-room s out b a e h = ltb-false (length out) (5 + s .j) (went-on b _ (rw e at h))
+
+module _ (s : Setting) (r p out : List ℕ) (t : Turn) (a : Answer)
+    (e : a ≡ answerIn (t .answer) (ltb (length out) (5 + s .j))) where
+  pub stopped : isAccepted a ≡ false → Owned s (concluded s r p t out) r out r out a 0
+  unfolding buffered
+  stopped h = rw e (nothing-done s r out _ _ (stops (ownBox s r) t _ (t .answer) _ (rw e at h)))
+
+  module _ (h : isAccepted a ≡ true) where
+    long : 5 + s .j ≤ length out
+    long = has-room s out (t .answer) a e h
+
+    -- The code cuts the row at `end` and the place at `room`.
+    module _ (ok : Concludes s r p t) (end room : ℕ) (ee : end ≡ 20 + s .j)
+        (er : room ≡ 5 + s .j) where
+      pub can-carry : Carries (s .n) (take end r) p (take room out) t
+      can-carry =
+          rw (ee, er)
+          (record {
+            plays = ok .plays;
+            posts = ok .posts (placeOf (s .j) out) (length-take-le (5 + s .j) out long);
+          })
+
+      module _ (q w : List ℕ) (to : ℕ)
+          (c : Carried (s .n) (take end r) p (take room out) t q w to) where
+        done : Carried (s .n) (rowOf (s .j) r) p (placeOf (s .j) out) t q w to
+        done = rw (ee, er) at c
+
+        row-is : rowOf (s .j) (q ++ drop end r) ≡ q
+        row-is = rw ee (front-is (20 + s .j) r q (ok .words) (done .played .words))
+
+        place-is : placeOf (s .j) (w ++ drop room out) ≡ w
+        place-is = rw er (front-is (5 + s .j) out w long (done .posted .words))
+
+        row-words : length (q ++ drop end r) ≡ length r
+        row-words = rw ee (length-front r q (20 + s .j) (done .played .words))
+
+        place-words : length (w ++ drop room out) ≡ length out
+        place-words = rw er (length-front out w (5 + s .j) (done .posted .words))
+
+        outcome : concluded s r p t out ≡ wentOn a (ownBox s r) t (letterAt p .records)
+        unfolding buffered
+        outcome = rw e (goes (ownBox s r) t (letterAt p .records) (t .answer) _ (rw e at h))
+
+        pub carried-out : Owned s (concluded s r p t out) r out
+            (q ++ drop end r) (w ++ drop room out) a to
+        carried-out =
+            rw outcome
+            (record {
+              answer = refl;
+              box = rw row-is (done .played .box);
+              receivers = done .posted .set;
+              letter = rw place-is (done .posted .letter);
+              kept = λ f. absurd (both-no f (accepted-kept a h));
+              quiet = λ z. rw er (front-back (5 + s .j) out w (done .posted .quiet z));
+              row-words = row-words;
+              out-words = place-words;
+            })
+
+        pub reads-again : StillReads s r (q ++ drop end r) (w ++ drop room out) to
+        unfolding rowReads placeReads
+        reads-again = record {
+          row = λ f.
+              and-both (le-leb (20 + s .j) _ (omega (arith, ok .words, row-words)))
+              (rw row-is (done .played .fits (s .j) (length-take-le (20 + s .j) r (ok .words))));
+          letter = λ f.
+              and-both (le-leb (5 + s .j) _ (omega (arith, long, place-words)))
+              (rw place-is (done .posted .fits f (s .j) (length-take-le (5 + s .j) out long)));
+        }

@@ -1,0 +1,107 @@
+-- A turn of a box by form can be carried out: its row can take it, and any place of the site what
+-- it sends.
+use mathlib.Core.Bool.{true, false}
+use mathlib.Core.Path.{_≡_, subst}
+use mathlib.Core.List.{List}
+use Prim.Native.Nat.{ℕ, _+_, _-_, _≤_, _<_}
+use native.Mathlib.Omega.{arith}
+use lib.ListN.{length, getD, length-take, List·getD-eq-default}
+use lib.Seq.{length-take-le}
+use lib.Dec.{ltb}
+use borrow.Author.Tests.{ltb-true, ltb-false}
+use Rattle.rules.specs.Sizes.{mostBoxes, unknown, sizesForm}
+use Rattle.rules.specs.Sets.{setForm}
+use Rattle.rules.specs.Box.{Box, Event, enclosed, turnOf, brought}
+use Rattle.laws.proofs.Types.{Book, Kind, Out, Setting}
+use Rattle.laws.proofs.Logic.{Or, left, right, In, All, All-head, decide}
+use Rattle.laws.proofs.FormLaws.{Proper, proper-some, Peer, FormedBox, FormedKind}
+use Rattle.laws.proofs.FormLaws.{sizes-says}
+use Rattle.laws.proofs.TurnForm.{BookFits, OutFits, Fits, EventFits, turn-fits}
+use Rattle.place.specs.Place.{letterAt}
+use Rattle.place.specs.Lent.{enclosedFrom, enclosedCount}
+use Rattle.row.specs.Lent as row
+use Rattle.own.specs.Entry.{ownBox}
+use Rattle.own.specs.Lent.{Posts, Concludes}
+use Rattle.own.proofs.FormLaws.{OwnRow}
+use Rattle.own.proofs.TakeLaws.{Takes, turn-takes}
+
+-- ---- the row
+
+-- No box has a number above n: nothing is known of it.
+peers-above : {n J b : ℕ} {x : Box} → FormedBox n J b x → (k : ℕ) → n < k → k ≤ mostBoxes
+    → getD (x .head .peers) (k - 1) 0 ≡ unknown
+peers-above {n} {J} {b} {x} f k h m = go (f .peers k (omega arith, m))
+  where
+    go : Peer n J b k (getD (x .head .peers) (k - 1) 0) → getD (x .head .peers) (k - 1) 0 ≡ unknown
+    go (left e) = e
+    go (right p) = absurd (omega (arith, p .0))
+
+book-fits : (J : ℕ) (rs ms : List ℕ) (b : Book) → BookFits J rs ms b → Takes b
+    → row.BookFits J rs ms b
+book-fits J rs ms Book.Keep h g = tt
+book-fits J rs ms (Book.Put l r) h g = h
+book-fits J rs ms (Book.Take a l) h g = (h .0, g, h .2, h .3)
+
+-- ---- the place
+
+-- What is read past the end is no record.
+proper-held : (rs : List ℕ) (l : ℕ) → Proper (getD rs l 0) → l < length rs
+proper-held rs l p = go (decide (ltb l (length rs)))
+  where
+    go : Or (ltb l (length rs) ≡ true) (ltb l (length rs) ≡ false) → l < length rs
+    go (left e) = ltb-true l (length rs) e
+    go (right e) =
+        absurd (proper-some p (List·getD-eq-default rs 0 (ltb-false l (length rs) e)))
+
+-- The records that go with a mail by form are held, and at most J.
+module _ (J pn last unagreed : ℕ) (rs : List ℕ) (room : last ≤ J) where
+  enclosed-held : (k : Kind) → FormedKind k J pn last unagreed (length (enclosed k last rs))
+      → All Proper (enclosed k last rs)
+      → (enclosedFrom k last + enclosedCount k last (length rs) ≤ length rs)
+      × (enclosedCount k last (length rs) ≤ J)
+  unfolding enclosed
+  enclosed-held Kind.Collect f p = (omega arith, omega arith)
+  enclosed-held Kind.Last f p = (omega arith, f .held .room)
+  enclosed-held Kind.Begin f p =
+      let h : last < length rs = proper-held rs last (All-head p) in
+      (omega arith, omega (arith, f .room))
+  enclosed-held Kind.Accept f p = (omega arith, omega arith)
+  enclosed-held Kind.Commit f p =
+      let e = rw length-take at (f .all-records) in
+      (omega arith, room)
+  enclosed-held Kind.Lease f p = (omega arith, omega arith)
+
+posts : (n J : ℕ) (o : Out) (rs : List ℕ) → OutFits n J rs o → (q : List ℕ) → length q ≡ 5 + J
+    → Posts q o rs
+posts n J Out.Nothing rs h q e = tt
+posts n J (Out.To set m) rs h q e =
+    let f = h .1 in
+    let held = enclosed-held J _ (m .last) _ rs (f .last) (m .kind) (f .kind) (f .records) in
+    record { held = held .0; room = omega (arith, held .1) }
+
+-- ---- the turn
+
+pub concludes : (s : Setting) (r p : List ℕ) (e : Event) → sizesForm (s .n) (s .j) (s .l) ≡ true
+    → OwnRow s r → In (s .me) (s .n) → setForm (s .n) (s .present) ≡ true → EventFits s e
+    → brought e ≡ letterAt p .records → Concludes s r p (turnOf s (ownBox s r) e)
+concludes s r p e sizes own me present fits same =
+    let z = sizes-says sizes in
+    let x = ownBox s r in
+    let t = turnOf s x e in
+    let f = subst (λ (ms : List ℕ). Fits (s .n) (s .j) (s .me) x ms t) same
+    (turn-fits s x e (own .box) (z .few-boxes) me present fits) in
+    record {
+      words = own .long;
+      plays = record {
+        writes = record {
+          J = s .j;
+          words = length-take-le (20 + s .j) r (own .long);
+          loads = z .few-loads;
+          count = own .count;
+          book = book-fits (s .j) _ _ (t .book) (f .book) (turn-takes s x e);
+        };
+        five = f .box .places;
+        above = peers-above (f .box);
+      };
+      posts = posts (s .n) (s .j) (t .out) _ (f .out);
+    }

@@ -1,0 +1,91 @@
+-- The box by itself in lent words: its row, its setting, one event in; the row, one letter and its
+-- receivers out.
+use Prim.Native.Nat.{ℕ, _+_}
+use mathlib.Core.Path.{_≡_}
+use mathlib.Core.Bool.{Bool, true, false, not, _&&_, _||_, cond}
+use mathlib.Core.List.{List, [], _∷_}
+use lib.Dec.{eqb, leb, ltb}
+use lib.ListN.{length, take}
+use Rattle.rules.specs.Sizes.{sizesForm}
+use Rattle.rules.specs.Box.{Box, Letter, Event, own, mail}
+use Rattle.rules.specs.Own.{OwnOutcome, unmoved, ownStep}
+use Rattle.rules.specs.declared.model.Act.{Act}
+use Rattle.rules.specs.declared.model.Answer.{Answer}
+use Rattle.rules.specs.declared.model.Refusal.{Refusal}
+use Rattle.rules.specs.declared.model.Setting.{Setting}
+use Rattle.place.specs.Place.{letterAt, placeFits}
+use Rattle.row.specs.Row.{boxOf, rowFits}
+
+-- the words of a box's row and of a letter's place; what follows them is unused room
+abbrev pub rowOf : ℕ → List ℕ → List ℕ
+rowOf J r = take (20 + J) r
+
+abbrev pub placeOf : ℕ → List ℕ → List ℕ
+placeOf J p = take (5 + J) p
+
+-- the box that a lent row holds, the letter that a lent place holds
+abbrev pub ownBox : Setting → List ℕ → Box
+ownBox s r = boxOf (s .n) (rowOf (s .j) r)
+
+abbrev pub ownLetter : Setting → List ℕ → Letter
+ownLetter s p = letterAt (placeOf (s .j) p)
+
+-- the words can be read: there are enough of them, and they fit
+unfoldable pub rowReads : ℕ → List ℕ → Bool
+rowReads J r = leb (20 + J) (length r) && rowFits J (rowOf J r)
+
+unfoldable pub placeReads : ℕ → List ℕ → Bool
+placeReads J p = leb (5 + J) (length p) && placeFits J (placeOf J p)
+
+abbrev pub isRefusal : Answer → Bool
+isRefusal Answer.Done = false
+isRefusal Answer.Taken = false
+isRefusal (Answer.Discarded why) = false
+isRefusal (Answer.Refused why) = true
+
+abbrev pub isAccepted : Answer → Bool
+isAccepted Answer.Done = true
+isAccepted Answer.Taken = true
+isAccepted (Answer.Discarded why) = false
+isAccepted (Answer.Refused why) = false
+
+-- refusal 12 where the lent place for the letter is too short for any letter of the site
+unfoldable pub buffered : Setting → Box → List ℕ → OwnOutcome → OwnOutcome
+buffered s x out o =
+    cond (isAccepted (o .answer) && ltb (length out) (5 + s .j))
+    (unmoved x (Answer.Refused Refusal.Buffer))
+    o
+
+-- words that cannot be read are not by form (1); sizes outside their ranges come first (13)
+unfoldable pub ownOn : Setting → Box → Bool → Event → List ℕ → OwnOutcome
+ownOn s x reads e out =
+    cond (reads || not (sizesForm (s .n) (s .j) (s .l)))
+    (buffered s x out (ownStep s x e))
+    (unmoved x (Answer.Refused Refusal.Form))
+
+-- a step of its own
+abbrev pub actOn : Setting → List ℕ → Act → List ℕ → OwnOutcome
+actOn s r a out = ownOn s (ownBox s r) (rowReads (s .j) r) (own a) out
+
+-- a letter in the place p, from a sender
+abbrev pub mailOn : Setting → List ℕ → ℕ → List ℕ → List ℕ → OwnOutcome
+mailOn s r sender p out =
+    ownOn s (ownBox s r) (rowReads (s .j) r && placeReads (s .j) p)
+    (mail sender (ownLetter s p)) out
+
+-- the letters to each box of a set: one, in the lent place, or none where the set is empty
+abbrev pub lettersIn : Setting → ℕ → List ℕ → List Letter
+lettersIn s to out = cond (eqb to 0) [] (ownLetter s out ∷ [])
+
+-- the outcome o on the row r and the place out: they have become r' and out'; a and the set `to`
+-- were answered
+pub record Owned (s : Setting) (o : OwnOutcome) (r out r' out' : List ℕ) (a : Answer) (to : ℕ)
+    : Type 0 where
+  pub answer : a ≡ o .answer
+  pub box : ownBox s r' ≡ o .next
+  pub receivers : to ≡ o .to
+  pub letter : lettersIn s to out' ≡ o .letters
+  pub kept : isRefusal a ≡ true → r' ≡ r
+  pub quiet : to ≡ 0 → out' ≡ out
+  pub row-words : length r' ≡ length r
+  pub out-words : length out' ≡ length out

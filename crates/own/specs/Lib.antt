@@ -1,0 +1,3 @@
+-- What the contracts of `own` cite.
+pub mod Entry
+pub mod Lent
