@@ -1,0 +1,98 @@
+-- The site's own calls: elections, stops, returns, timeouts and lost mail.
+use Prim.Native.Nat.{ℕ, _+_, _*_, _≤_}
+use mathlib.Core.Path.{_≡_, refl, sym, ap, _∙_}
+use mathlib.Core.Bool.{Bool, true, false, _&&_, cond}
+use mathlib.Core.List.{List, [], _∷_, tail}
+use native.Mathlib.Omega.{arith}
+use lib.Dec.{eqb}
+use lib.ListN.{length, set, take, getD, length-set}
+use Rattle.rules.specs.Sets.{joined, without}
+use Rattle.rules.specs.Box.{Letter}
+use Rattle.rules.specs.Site.{Site, Outcome, isLink}
+use Rattle.rules.specs.Needs.{Need, ruled}
+use Rattle.rules.specs.Step.{refused, did, elect, presented, risen, step}
+use Rattle.rules.specs.declared.model.Answer.{Answer}
+use Rattle.rules.specs.declared.model.Call.{Call}
+use Rattle.rules.specs.declared.model.Refusal.{Refusal}
+use Rattle.rules.specs.declared.model.Setting.{Setting}
+use Rattle.rules.specs.declared.model.Verdict.{Verdict}
+use Rattle.laws.proofs.Logic.{true≠false}
+use Rattle.laws.proofs.StepLaws.{changed}
+use Rattle.memory.specs.Memory.{siteWords, siteOf, readable, memoryForm}
+use Rattle.memory.specs.After.{settingAt, linksOf, RowsPut, LinksPut}
+use Rattle.memory.proofs.LentLaws.{form-readable, setting-same, readable-rows, readable-made}
+use Rattle.site.specs.General.{generalPut, withGeneral}
+use Rattle.site.proofs.GeneralLaws.{general-length, general-put, general-readable}
+use Rattle.site.specs.Entries.{After}
+use Rattle.site.specs.Verdicts.{verdictOf, electNeeds, loseNeeds}
+use Rattle.site.proofs.AfterLaws.{refused-after, changed-after, rows-same, site-changed}
+use Rattle.site.proofs.CallLaws.{verdict-go, verdict-refuse, lose-needs}
+
+module _ (xs ls : List ℕ) (f : memoryForm xs ls ≡ true) where
+  abbrev s : Site
+  s = siteOf xs ls
+
+  abbrev at : ℕ → Setting
+  at c = settingAt xs c
+
+  -- a need fails
+  pub needs-refused : (o r : Outcome) (ks : List Need) (v : Verdict) (why : Refusal)
+      → o ≡ ruled (refused s) ks r
+      → v ≡ verdictOf ks → v ≡ Verdict.Refuse why → After o xs ls xs ls (Answer.Refused why)
+  needs-refused o r ks v why e p q =
+      refused-after xs ls why o (e ∙ verdict-refuse (refused s) r ks why (sym p ∙ q))
+
+  five : 5 ≤ length xs
+  five = omega (arith, readable-rows xs ls 0 (form-readable xs ls f) .words)
+
+  -- ---- the epoch and the present set
+
+  -- presence is w, and the epoch has risen
+  pub presented-after : (o : Outcome) (w : ℕ) → o ≡ did (presented s w)
+      → After o xs ls (generalPut (risen (s .epoch)) w xs) ls Answer.Done
+  unfolding presented
+  presented-after o w e = record {
+    answer = ap (λ (r : Outcome). r .answer) (sym e);
+    site = general-put xs (risen (s .epoch)) w ls five ∙ ap (λ (r : Outcome). r .next) (sym e);
+    kept = λ t. absurd (true≠false (sym t));
+    site-words = general-length xs _ _;
+    links-words = refl;
+    readable = general-readable xs (risen (s .epoch)) w ls;
+  }
+
+  -- ---- an election
+
+  pub elected-after : (c : ℕ) (o : Outcome) (xs' ls' : List ℕ) → o ≡ did (elect s c)
+      → RowsPut (at c) (elect s c .box) xs xs' → LinksPut (at c) (λ a b. []) ls ls'
+      → After o xs ls (generalPut (s .epoch + 1) (s .present) xs') ls' Answer.Done
+  unfolding elect siteOf
+  elected-after c o xs' ls' e rows links = record {
+    answer = ap (λ (r : Outcome). r .answer) (sym e);
+    site =
+        general-put xs' (s .epoch + 1) (s .present) ls' (omega (arith, five, rows .words))
+        ∙ ap (withGeneral (s .epoch + 1) (s .present))
+        (site-changed xs ls xs' ls' c _ _ (rows .general) (rows .boxes) (links .links))
+        ∙ ap (λ (r : Outcome). r .next) (sym e);
+    kept = λ t. absurd (true≠false (sym t));
+    site-words = general-length xs' _ _ ∙ rows .words;
+    links-words = links .words;
+    readable = λ h.
+        general-readable xs' (s .epoch + 1) (s .present) ls'
+        (readable-made xs' ls' c
+        (rw (setting-same xs xs' c (rows .general)) (rows .lent))
+        (rw (setting-same xs xs' c (rows .general)) (links .lent)));
+  }
+
+  -- ---- a lost mail
+
+  pub lost-after : (a b : ℕ) (ls' : List ℕ) (v : Verdict) → isLink (at b .n) a b ≡ true
+      → v ≡ verdictOf (loseNeeds (linksOf (at b) ls a b))
+      → v ≡ Verdict.Go
+      → LinksPut (at b) (λ x y. cond (eqb x a && eqb y b) (tail (linksOf (at b) ls x y))
+      (linksOf (at b) ls x y)) ls ls'
+      → After (step s (Call.Lose a b)) xs ls xs ls' Answer.Done
+  unfolding siteOf
+  lost-after a b ls' v h p q links =
+      changed-after xs ls xs ls' b _ _ _ Answer.Done
+      (lose-needs xs ls f a b h ∙ verdict-go _ _ _ (sym p ∙ q))
+      refl (rows-same xs ls b (form-readable xs ls f)) links

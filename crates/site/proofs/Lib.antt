@@ -1,0 +1,16 @@
+pub mod AfterLaws
+pub mod CallLaws
+pub mod TurnAfter
+pub mod GeneralLaws
+pub mod CallAfter
+pub mod FreshAfter
+pub mod KnownLaws
+pub mod CarryLaws
+pub mod TurnKnown
+pub mod MailKnown
+pub mod HandOver
+pub mod ElectLaws
+pub mod HoldsLaws
+pub mod Once
+pub mod Unformed
+pub mod AgreedLaws

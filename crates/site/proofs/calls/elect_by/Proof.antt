@@ -1,0 +1,59 @@
+use mathlib.Core.Path.{refl}
+use native.Mathlib.Omega.{arith}
+use borrow.Author.Needs.{needs}
+use Rattle.site.proofs.KnownLaws.{five-words, epoch-most, links-lent}
+use Rattle.site.proofs.ElectLaws.{boxes-lent, elect-go}
+use Rattle.site.proofs.calls.elect_by.Statement.{statement}
+use Rattle.site.proofs.calls.elect_by.Tie as tie
+
+add-epoch : tie.Need-add-epoch
+add-epoch c = let k = c .before .before .before .pre in omega
+    (arith, epoch-most _ _ (k .form) _ _ (k .setting))
+
+elect-rows-requires : tie.Need-elect-rows-requires
+elect-rows-requires c κs = boxes-lent (c .before .before .before .before .before .before .pre)
+
+clear-links-requires : tie.Need-clear-links-requires
+clear-links-requires c κs =
+    let k = c .before .before .before .before .before .before .before .before .before .before .pre
+    in
+    let l = links-lent _ _ (k .form) _ _ (k .setting) in
+    (l .sizes, l .words)
+
+put-general-requires : tie.Need-put-general-requires
+put-general-requires c κs =
+    let k = c .before .before .before .before .before .before .before .before .before .before .before .before .before .before .pre in
+    let l = c .before .before .before .before .before .before .before .elect-rows .ensures in
+    omega (arith, five-words _ _ (k .form), l .words)
+
+returns : tie.Need-returns
+returns c =
+    elect-go _ _ _ _ _ _ _ _
+    (c .before .before .before .before .before .before .before .before .before .before .before .before .enum-told .given .1)
+    refl
+    (c .before .before .before .before .before .before .before .before .before .before .elect-rows .ensures)
+    (c .before .before .before .before .before .before .clear-links .ensures)
+    (c .before .before .put-general .ensures)
+
+returns-2 : tie.Need-returns-2
+returns-2 c = rw (c .before .v .given .1) (refl, (refl, refl))
+
+returns-3 : tie.Need-returns-3
+returns-3 c = rw (c .before .v2 .given .1) (refl, (refl, refl))
+
+pub elect-by-spec : {M : Type 1} → statement M
+elect-by-spec =
+    tie.close
+    (tie.spec
+    add-epoch
+    (λ c. search needs)
+    elect-rows-requires
+    clear-links-requires
+    put-general-requires
+    (λ c. search needs)
+    (λ c. search needs)
+    (λ c. search needs)
+    (λ c. search needs)
+    returns
+    returns-2
+    returns-3)

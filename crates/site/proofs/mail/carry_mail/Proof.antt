@@ -1,0 +1,47 @@
+use mathlib.Core.Path.{refl}
+use native.Mathlib.Omega.{arith}
+use borrow.Author.Needs.{needs}
+use Rattle.site.proofs.MailKnown.{mail-some, mail-playable, mail-rows, mail-posts, mail-carried}
+use Rattle.site.proofs.mail.carry_mail.Statement.{statement}
+use Rattle.site.proofs.mail.carry_mail.Tie as tie
+
+add-q : tie.Need-add-q
+add-q c = omega (arith, c .before .before .before .pre .head .inside)
+
+add-q-2 : tie.Need-add-q-2
+add-q-2 c = omega (arith, c .before .before .before .pre .head .inside)
+
+play-requires : tie.Need-play-requires
+play-requires c κs =
+    let k = c .before .before .before .before .before .pre in
+    ((omega arith, omega (arith, k .head .inside)), mail-playable k _ refl)
+
+pop-requires : tie.Need-pop-requires
+pop-requires c κs = let k = c .before .before .before .before .before .before .before .before .before .pre in (k .carries .links, (k .link, mail-some k))
+
+post-requires : tie.Need-post-requires
+post-requires c κs =
+    let k = c .before .before .before .before .before .before .before .before .before .before .before .before .before .before .pre in
+    let rows = c .before .before .before .before .before .before .before .before .play .ensures in (
+      mail-rows k _ refl rows .lent,
+      mail-posts k _ refl rows
+          (c .before .before .before .before .pop .ensures),
+    )
+
+returns : tie.Need-returns
+returns c =
+    mail-carried (c .before .before .before .before .before .before .before .before .before .before .before .before .before .before .before .before .before .pre) _ refl (c .before .before .before .before .before .before .before .before .before .before .before .play .ensures) (c .before .before .before .before .before .before .before .pop .ensures) (c .before .before .post .ensures)
+
+pub carry-mail-spec : {M : Type 1} → statement M
+carry-mail-spec =
+    tie.close
+    (tie.spec
+    (λ c. search needs)
+    add-q
+    add-q-2
+    play-requires
+    pop-requires
+    post-requires
+    (λ c. search needs)
+    (λ c. search needs)
+    returns)

@@ -1,0 +1,70 @@
+use mathlib.Core.Path.{refl}
+use borrow.Author.Needs.{needs}
+use Rattle.rules.specs.Sets.{joined}
+use Rattle.memory.specs.Memory.{siteOf}
+use Rattle.site.specs.Verdicts.{returnNeeds}
+use Rattle.site.proofs.AfterLaws.{refused-after}
+use Rattle.site.proofs.CallLaws.{return-no-box, return-needs}
+use Rattle.site.proofs.KnownLaws.{general-lent, five-words, box-yes, box-not, box-few}
+use Rattle.site.proofs.KnownLaws.{epoch-most, here-told, carried}
+use Rattle.site.proofs.presence.come_back.Statement.{statement}
+use Rattle.site.proofs.presence.come_back.Tie as tie
+
+setting-of-requires : tie.Need-setting-of-requires
+setting-of-requires c κs = general-lent _ _ (c .before .before .before .pre)
+
+returns : tie.Need-returns
+unfolding siteOf
+returns c =
+    let f = c .before .before .before .before .before .before .pre in
+    refused-after _ _ _ _
+    (return-no-box _ _ f _
+    (box-not _ _ f _ _ (c .before .before .setting-of .ensures) _ (c .before .is-box .ensures)
+    (c .if1 .taken)))
+
+has-requires : tie.Need-has-requires
+has-requires c κs =
+    box-few _ _ (c .before .before .before .before .before .before .pre) _ _
+    (c .before .before .setting-of .ensures) _ (c .before .is-box .ensures) (c .if1 .left)
+
+return-verdict-requires : tie.Need-return-verdict-requires
+return-verdict-requires c κs =
+    let a = c .before .before .before .before .before .before .before .args in
+    here-told (a .site .now) (a .c) _ (c .before .before .before .setting-of .ensures)
+    (c .has .ensures)
+
+present-as-requires : tie.Need-present-as-requires
+present-as-requires c κs =
+    let f = c .before .before .before .before .before .before .before .before .before .before .pre
+    in (
+      five-words _ _ f,
+      epoch-most _ _ f _ _
+          (c .before .before .before .before .before .before .setting-of .ensures),
+    )
+
+returns-2 : tie.Need-returns-2
+unfolding siteOf
+returns-2 c =
+    let f = c .before .before .before .before .before .before .before .before .before .before .before .before .before .pre in
+    let e = c .before .before .before .before .before .before .before .before .before .setting-of .ensures in
+    let is = box-yes _ _ f _ _ e _ (c .before .before .before .before .before .before .before .before .is-box .ensures) (c .before .before .before .before .before .before .before .if1 .left) in
+    carried _ _ f _ _ e _ returnNeeds
+    (λ k. joined (k .present) (c .before .before .before .before .before .before .before .before .before .before .before .before .before .args .c)) _ _ _ _ (return-needs _ _ f _ is)
+    (c .before .before .before .before .before .return-verdict .ensures)
+    (c .before .before .before .with-box .ensures)
+    (c .before .before .present-as .ensures)
+
+pub come-back-spec : {M : Type 1} → statement M
+come-back-spec =
+    tie.close
+    (tie.spec
+    setting-of-requires
+    (λ c κs. search needs)
+    (λ c. search needs)
+    returns
+    has-requires
+    return-verdict-requires
+    (λ c κs. search needs)
+    present-as-requires
+    (λ c. search needs)
+    returns-2)

@@ -1,0 +1,70 @@
+use mathlib.Core.Path.{refl}
+use borrow.Author.Needs.{needs}
+use Rattle.rules.specs.Sets.{without}
+use Rattle.memory.specs.Memory.{siteOf}
+use Rattle.site.specs.Verdicts.{stopNeeds}
+use Rattle.site.proofs.AfterLaws.{refused-after}
+use Rattle.site.proofs.CallLaws.{stop-no-box, stop-needs}
+use Rattle.site.proofs.KnownLaws.{general-lent, five-words, box-yes, box-not, box-few}
+use Rattle.site.proofs.KnownLaws.{epoch-most, here-told, carried}
+use Rattle.site.proofs.presence.stop.Statement.{statement}
+use Rattle.site.proofs.presence.stop.Tie as tie
+
+setting-of-requires : tie.Need-setting-of-requires
+setting-of-requires c κs = general-lent _ _ (c .before .before .before .pre)
+
+returns : tie.Need-returns
+unfolding siteOf
+returns c =
+    let f = c .before .before .before .before .before .before .pre in
+    refused-after _ _ _ _
+    (stop-no-box _ _ f _
+    (box-not _ _ f _ _ (c .before .before .setting-of .ensures) _ (c .before .is-box .ensures)
+    (c .if1 .taken)))
+
+has-requires : tie.Need-has-requires
+has-requires c κs =
+    box-few _ _ (c .before .before .before .before .before .before .pre) _ _
+    (c .before .before .setting-of .ensures) _ (c .before .is-box .ensures) (c .if1 .left)
+
+stop-verdict-requires : tie.Need-stop-verdict-requires
+stop-verdict-requires c κs =
+    let a = c .before .before .before .before .before .before .before .args in
+    here-told (a .site .now) (a .c) _ (c .before .before .before .setting-of .ensures)
+    (c .has .ensures)
+
+present-as-requires : tie.Need-present-as-requires
+present-as-requires c κs =
+    let f = c .before .before .before .before .before .before .before .before .before .before .pre
+    in (
+      five-words _ _ f,
+      epoch-most _ _ f _ _
+          (c .before .before .before .before .before .before .setting-of .ensures),
+    )
+
+returns-2 : tie.Need-returns-2
+unfolding siteOf
+returns-2 c =
+    let f = c .before .before .before .before .before .before .before .before .before .before .before .before .before .pre in
+    let e = c .before .before .before .before .before .before .before .before .before .setting-of .ensures in
+    let is = box-yes _ _ f _ _ e _ (c .before .before .before .before .before .before .before .before .is-box .ensures) (c .before .before .before .before .before .before .before .if1 .left) in
+    carried _ _ f _ _ e _ stopNeeds
+    (λ k. without (k .present) (c .before .before .before .before .before .before .before .before .before .before .before .before .before .args .c)) _ _ _ _ (stop-needs _ _ f _ is)
+    (c .before .before .before .before .before .stop-verdict .ensures)
+    (c .before .before .before .without-box .ensures)
+    (c .before .before .present-as .ensures)
+
+pub stop-spec : {M : Type 1} → statement M
+stop-spec =
+    tie.close
+    (tie.spec
+    setting-of-requires
+    (λ c κs. search needs)
+    (λ c. search needs)
+    returns
+    has-requires
+    stop-verdict-requires
+    (λ c κs. search needs)
+    present-as-requires
+    (λ c. search needs)
+    returns-2)

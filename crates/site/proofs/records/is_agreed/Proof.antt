@@ -1,0 +1,37 @@
+use native.Mathlib.Omega.{arith}
+use borrow.Author.Needs.{needs}
+use borrow.Author.Tests.{ltb-true, ltb-false}
+use Rattle.site.proofs.AgreedLaws.{agreed-zero, agreed-above, agreed-here}
+use Rattle.site.proofs.records.is_agreed.Statement.{statement}
+use Rattle.site.proofs.records.is_agreed.Tie as tie
+
+returns : tie.Need-returns
+returns c =
+    let a = c .before .args in
+    agreed-zero (a .n) (a .row .now) (a .k) (a .left) (a .right) (omega (arith, c .if1 .taken))
+
+returns-2 : tie.Need-returns-2
+returns-2 c =
+    let a = c .before .before .before .args in
+    agreed-above (a .n) (a .row .now) (a .k) (a .left) (a .right) (omega (arith, c .if2 .taken))
+
+returns-3 : tie.Need-returns-3
+returns-3 c =
+    let s = c .before .before .before .before in
+    let a = s .args in
+    agreed-here (a .n) (a .row .now) (a .k) (a .left) (a .right)
+    (omega (arith, c .before .before .before .if1 .left))
+    (omega (arith, c .before .if2 .left))
+    (s .pre)
+
+pub is-agreed-spec : {M : Type 1} → statement M
+is-agreed-spec =
+    tie.close
+    (tie.spec
+    returns
+    (λ c. search needs)
+    returns-2
+    (λ c. search needs)
+    (λ c. search needs)
+    (λ c. search needs)
+    returns-3)

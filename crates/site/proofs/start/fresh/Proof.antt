@@ -1,0 +1,81 @@
+use mathlib.Core.Path.{_≡_, sym, _∙_}
+use mathlib.Core.Bool.{true}
+use borrow.Author.Needs.{needs}
+use borrow.Author.Tests.{not-true, not-false}
+use Rattle.rules.specs.Sizes.{sizesForm}
+use Rattle.site.proofs.FreshAfter.{fresh-sizes, fresh-short, fresh-made, boxes-few, five-room, rows-room-put, links-room}
+use Rattle.site.proofs.start.fresh.Statement.{statement}
+use Rattle.site.proofs.start.fresh.Tie as tie
+
+returns : tie.Need-returns
+returns c =
+    fresh-sizes _ _ _ _ _ (sym (c .before .are-sizes .ensures) ∙ not-true _ (c .if1 .taken))
+
+sized : (c : tie.Else1) → let a = c .before .before .before .before .args in sizesForm (a .n) (a .j)
+    (a .l) ≡ true
+sized c = sym (c .before .are-sizes .ensures) ∙ not-false _ (c .if1 .left)
+
+full-set-requires : tie.Need-full-set-requires
+full-set-requires c κs =
+    let a = c .before .before .before .before .args in
+    boxes-few (a .site .now) (a .links .now) (a .n) (a .j) (a .l) (sized c)
+
+has-words-requires : tie.Need-has-words-requires
+has-words-requires c κs = sized (c .before .before .before)
+
+returns-2 : tie.Need-returns-2
+returns-2 c =
+    fresh-short _ _ _ _ _ (sized (c .before .before .before .before .before))
+    (sym (c .before .has-words .ensures) ∙ not-true _ (c .if2 .taken))
+
+put-setting-requires : tie.Need-put-setting-requires
+put-setting-requires c κs =
+    let a = c .before .before .before .before .before .before .before .before .before .before .args
+    in
+    five-room (a .site .now) (a .links .now) (a .n) (a .j) (a .l)
+    (sym (c .before .before .has-words .ensures) ∙ not-false _ (c .before .if2 .left))
+
+fresh-rows-requires : tie.Need-fresh-rows-requires
+fresh-rows-requires c κs =
+    let a = c .before .before .before .before .before .before .before .before .before .before .before .before .before .before .args in (
+      sized (c .before .before .before .before .before .before .before .before .before .before),
+      rows-room-put (a .site .now) (a .links .now) (a .n) (a .j) (a .l)
+          (c .before .before .before .before .before .before .before .before .before .full-set .result) _
+          (c .before .before .before .put-setting .ensures)
+          (sym (c .before .before .before .before .before .before .has-words .ensures) ∙ not-false _
+          (c .before .before .before .before .before .if2 .left)),
+    )
+
+clear-links-requires : tie.Need-clear-links-requires
+clear-links-requires c κs =
+    let a = c .before .before .before .before .before .before .before .before .before .before .before .before .before .before .before .before .before .before .args in (
+      sized (c .before .before .before .before .before .before .before .before .before .before .before .before .before .before),
+      links-room (a .site .now) (a .links .now) (a .n) (a .j) (a .l)
+          (sym (c .before .before .before .before .before .before .before .before .before .before .has-words .ensures) ∙ not-false _ (c .before .before .before .before .before .before .before .before .before .if2 .left)),
+    )
+
+returns-3 : tie.Need-returns-3
+returns-3 c =
+    let a = c .before .before .before .before .before .before .before .before .before .before .before .before .before .before .before .before .before .before .before .before .before .args in
+    fresh-made (a .site .now) (a .links .now) (a .n) (a .j) (a .l) _
+    (c .before .before .before .before .before .before .before .before .before .before .before .before .before .before .before .before .full-set .ensures) _ _
+    (sized (c .before .before .before .before .before .before .before .before .before .before .before .before .before .before .before .before .before)) (sym (c .before .before .before .before .before .before .before .before .before .before .before .before .before .has-words .ensures) ∙ not-false _ (c .before .before .before .before .before .before .before .before .before .before .before .before .if2 .left)) _
+    (c .before .before .before .before .before .before .before .before .before .before .put-setting .ensures) (c .before .before .before .before .before .before .fresh-rows .ensures) (c .before .before .clear-links .ensures)
+
+pub fresh-spec : {M : Type 1} → statement M
+fresh-spec =
+    tie.close
+    (tie.spec
+    (λ c κs. search needs)
+    returns
+    full-set-requires
+    has-words-requires
+    (λ c. search needs)
+    (λ c. search needs)
+    returns-2
+    put-setting-requires
+    fresh-rows-requires
+    clear-links-requires
+    (λ c. search needs)
+    (λ c. search needs)
+    returns-3)

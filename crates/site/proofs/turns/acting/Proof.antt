@@ -1,0 +1,117 @@
+use mathlib.Core.Path.{refl, sym, _∙_}
+use borrow.Author.Needs.{needs}
+use borrow.Author.Tests.{not-true, not-false}
+use Rattle.rules.specs.Box.{own}
+use mathlib.Core.List.{[]}
+use Rattle.memory.specs.After.{linksOf}
+use Rattle.site.proofs.KnownLaws.{general-lent, links-lent, box-yes, box-not}
+use Rattle.site.proofs.TurnKnown.{box-lent, me-is, turn-is, apart, room-told}
+use Rattle.site.proofs.TurnKnown.{carries, carried-known}
+use Rattle.site.proofs.TurnAfter.{no-box-acts, acting-stays, acting-full, acting-played}
+use Rattle.site.proofs.turns.acting.Statement.{statement}
+use Rattle.site.proofs.turns.acting.Tie as tie
+
+setting-of-requires : tie.Need-setting-of-requires
+setting-of-requires c κs = general-lent _ _ (c .before .before .before .pre .0)
+
+returns : tie.Need-returns
+returns c =
+    let f = c .before .before .before .before .before .before .pre .0 in
+    no-box-acts _ _ f (c .before .before .before .before .before .before .args .c)
+    (c .before .before .before .before .before .before .args .a)
+    (box-not _ _ f _ _ (c .before .before .setting-of .ensures) _ (c .before .is-box .ensures)
+    (c .if1 .taken))
+
+act-turn-requires : tie.Need-act-turn-requires
+act-turn-requires c κs =
+    let f = c .before .before .before .before .before .before .before .pre .0 in
+    let a = c .before .before .before .before .before .before .before .args .a in
+    let e = c .before .before .before .setting-of .ensures in
+    box-lent _ _ f _ (box-yes _ _ f _ _ e _ (c .before .before .is-box .ensures)
+    (c .before .if1 .left)) _ e
+
+returns-2 : tie.Need-returns-2
+returns-2 c =
+    let f = c .before .before .before .before .before .before .before .before .before .before .pre .0 in
+    let a = c .before .before .before .before .before .before .before .before .before .before .args .a in
+    let e = c .before .before .before .before .before .before .setting-of .ensures in
+    let is = box-yes _ _ f _ _ e _ (c .before .before .before .before .before .is-box .ensures)
+    (c .before .before .before .before .if1 .left) in
+    acting-stays _ _ f (c .before .before .before .before .before .before .before .before .before .before .args .c) (c .before .before .before .before .before .before .before .before .before .before .args .a) is _ (turn-is _ _ f _ is _ e (own a) _ (c .before .before .act-turn .ensures))
+    (sym (c .before .is-accepted .ensures) ∙ not-true _ (c .if2 .taken))
+
+has-room-requires : tie.Need-has-room-requires
+has-room-requires c κs =
+    let f = c .before .before .before .before .before .before .before .before .before .before .before .pre .0 in
+    let a = c .before .before .before .before .before .before .before .before .before .before .before .args .a in
+    let e = c .before .before .before .before .before .before .before .setting-of .ensures in
+    let is = box-yes _ _ f _ _ e _ (c .before .before .before .before .before .before .is-box .ensures) (c .before .before .before .before .before .if1 .left) in (
+      links-lent _ _ f _ _ e,
+      (
+        me-is _ _ f _ is _ e,
+        apart _ _ f _ is _ e (own a) _
+            (c .before .before .before .act-turn .ensures) tt,
+      ),
+    )
+
+returns-3 : tie.Need-returns-3
+returns-3 c =
+    let f = c .before .before .before .before .before .before .before .before .before .before .before .before .before .pre .0 in
+    let a = c .before .before .before .before .before .before .before .before .before .before .before .before .before .args .a in
+    let e = c .before .before .before .before .before .before .before .before .before .setting-of .ensures in
+    let is = box-yes _ _ f _ _ e _ (c .before .before .before .before .before .before .before .before .is-box .ensures) (c .before .before .before .before .before .before .before .if1 .left) in
+    let t = c .before .before .before .before .before .act-turn .ensures in
+    acting-full _ _ f (c .before .before .before .before .before .before .before .before .before .before .before .before .before .args .c) (c .before .before .before .before .before .before .before .before .before .before .before .before .before .args .a) is _ (turn-is _ _ f _ is _ e (own a) _ t)
+    (sym (c .before .before .before .before .is-accepted .ensures) ∙ not-false _
+    (c .before .before .before .if2 .left))
+    (sym (room-told _ _ f _ is _ e (own a) _ t _ (c .before .has-room .ensures)) ∙ not-true _
+    (c .if3 .taken))
+
+carry-out-requires : tie.Need-carry-out-requires
+carry-out-requires c κs =
+    let f = c .before .before .before .before .before .before .before .before .before .before .before .before .before .before .before .pre .0 in
+    let a = c .before .before .before .before .before .before .before .before .before .before .before .before .before .before .before .args .a in
+    let e = c .before .before .before .before .before .before .before .before .before .before .before .setting-of .ensures in
+    let is = box-yes _ _ f _ _ e _ (c .before .before .before .before .before .before .before .before .before .before .is-box .ensures) (c .before .before .before .before .before .before .before .before .before .if1 .left) in
+    carries _ _ f _ is _ e (own a) _
+    (c .before .before .before .before .before .before .before .act-turn .ensures)
+    (c .before .before .before .before .before .before .before .before .before .before .before .before .before .before .before .pre .1) tt
+    (sym (c .before .before .before .has-room .ensures) ∙ not-false _
+    (c .before .before .if3 .left))
+
+returns-4 : tie.Need-returns-4
+returns-4 c =
+    let f = c .before .before .before .before .before .before .before .before .before .before .before .before .before .before .before .before .before .before .before .before .pre .0 in
+    let a = c .before .before .before .before .before .before .before .before .before .before .before .before .before .before .before .before .before .before .before .before .args .a in
+    let e = c .before .before .before .before .before .before .before .before .before .before .before .before .before .before .before .before .setting-of .ensures in
+    let is = box-yes _ _ f _ _ e _ (c .before .before .before .before .before .before .before .before .before .before .before .before .before .before .before .is-box .ensures) (c .before .before .before .before .before .before .before .before .before .before .before .before .before .before .if1 .left) in
+    let t = c .before .before .before .before .before .before .before .before .before .before .before .before .act-turn .ensures in
+    let done = carried-known _ _ f _ is _ e
+    (λ k. linksOf k (c .before .before .before .before .before .before .before .before .before .before .before .before .before .before .before .before .before .before .before .before .args .links .now)) (c .before .before .before .before .before .before .before .before .before .before .before .before .act-turn .result) [] _ _ _ (c .before .before .before .before .carry-out .ensures) in
+    acting-played _ _ f (c .before .before .before .before .before .before .before .before .before .before .before .before .before .before .before .before .before .before .before .before .args .c) (c .before .before .before .before .before .before .before .before .before .before .before .before .before .before .before .before .before .before .before .before .args .a) is _ (turn-is _ _ f _ is _ e (own a) _ t) _ _
+    (sym (c .before .before .before .before .before .before .before .before .before .before .before .is-accepted .ensures) ∙ not-false _ (c .before .before .before .before .before .before .before .before .before .before .if2 .left))
+    (sym (room-told _ _ f _ is _ e (own a) _ t _
+    (c .before .before .before .before .before .before .before .before .has-room .ensures))
+    ∙ not-false _ (c .before .before .before .before .before .before .before .if3 .left))
+    (done .rows) (done .links)
+
+pub acting-spec : {M : Type 1} → statement M
+acting-spec =
+    tie.close
+    (tie.spec
+    setting-of-requires
+    (λ c κs. search needs)
+    (λ c. search needs)
+    returns
+    act-turn-requires
+    (λ c κs. search needs)
+    (λ c. search needs)
+    returns-2
+    has-room-requires
+    (λ c. search needs)
+    (λ c. search needs)
+    returns-3
+    carry-out-requires
+    (λ c. search needs)
+    (λ c. search needs)
+    returns-4)

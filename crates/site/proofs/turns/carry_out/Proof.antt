@@ -1,0 +1,26 @@
+use native.Mathlib.Omega.{arith}
+use borrow.Author.Needs.{needs}
+use Rattle.site.proofs.CarryLaws.{playable, posts-after, sent-after}
+use Rattle.site.proofs.turns.carry_out.Statement.{statement}
+use Rattle.site.proofs.turns.carry_out.Tie as tie
+
+play-requires : tie.Need-play-requires
+play-requires c κs =
+    ((omega arith, omega arith), playable (c .before .before .before .before .pre))
+
+post-requires : tie.Need-post-requires
+post-requires c κs =
+    let can = c .before .before .before .before .before .before .before .before .before .pre in
+    let rows = c .before .before .before .before .play .ensures in
+    (rows .lent, posts-after can rows _ (can .links) (can .room))
+
+returns : tie.Need-returns
+returns c =
+    let can = c .before .before .before .before .before .before .before .before .before .before .before .before .pre in
+    let rows = c .before .before .before .before .before .before .before .play .ensures in
+    record { rows = rows; links = sent-after can rows _ _ _ (c .before .before .post .ensures) }
+
+pub carry-out-spec : {M : Type 1} → statement M
+carry-out-spec =
+    tie.close
+    (tie.spec play-requires post-requires (λ c. search needs) (λ c. search needs) returns)

@@ -1,0 +1,5 @@
+pub mod Entries
+pub mod Verdicts
+pub mod Records
+pub mod General
+pub mod Carry

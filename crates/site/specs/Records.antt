@@ -1,0 +1,9 @@
+-- What a row must be for its agreed records to be read.
+use Prim.Native.Nat.{ℕ, _+_, _≤_}
+use mathlib.Core.List.{List}
+use lib.ListN.{length, getD}
+
+-- the agreed numbers are held, and the records lie within the row
+pub record AgreedLie (r : List ℕ) : Type 0 where
+  pub held : getD r 4 0 ≤ getD r 19 0
+  pub room : 20 + getD r 19 0 ≤ length r

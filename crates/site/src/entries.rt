@@ -1,0 +1,77 @@
+// What a caller calls. No entry but the inner step requires anything: what is not by form is refused.
+ghost use mathlib.Core.Path.{_≡_};
+ghost use mathlib.Core.Bool.{true};
+ghost use Rattle.rules.specs.Step.{holds};
+ghost use Rattle.memory.specs.Memory.{siteOf, memoryForm};
+ghost use Rattle.site.specs.Entries.{After, FormedStep, stepOn, holdsOn};
+use crate::calls;
+use crate::mail;
+use crate::presence;
+use crate::records;
+use crate::turns;
+use rules::model::Act;
+use rules::model::Answer;
+use rules::model::Call;
+use rules::model::Refusal;
+
+// Any call on words by form; they stay by form. For loops that have seen to it once.
+pub fn step_formed(site: &mut [u64], links: &mut [u64], call: Call) -> Answer
+    requires { ⌜ memoryForm (now site) (now links) ≡ true ⌝ }
+    ensures { λ r.
+        ⌜ FormedStep call (now (site .entry)) (now (links .entry)) (now (site .exit)) (now (links .exit)) r ⌝ }
+{
+    match call {
+        Call::Elect(c) => calls::elect(site, links, c),
+        Call::Recover(c) => turns::acting(site, links, c, Act::Recover),
+        Call::Collect(c) => turns::acting(site, links, c, Act::Collect),
+        Call::Ready(c) => turns::acting(site, links, c, Act::Ready),
+        Call::Offer(c, left, right) => turns::acting(site, links, c, Act::Offer(left, right)),
+        Call::Propose(c) => turns::acting(site, links, c, Act::Propose),
+        Call::Agree(c) => turns::acting(site, links, c, Act::Agree),
+        Call::Finish(c) => turns::acting(site, links, c, Act::Finish),
+        Call::Stop(c) => presence::stop(site, links, c),
+        Call::Return(c) => presence::come_back(site, links, c),
+        Call::Timeout(c) => presence::time_out(site, links, c),
+        Call::Lose(a, b) => mail::lose(site, links, a, b),
+        Call::Deliver(a, b) => mail::deliver(site, links, a, b),
+    }
+}
+
+// Number k is agreed at box c with these frames, by words by form.
+pub fn holds_formed(site: &[u64], links: &[u64], c: u32, k: u32, left: u32, right: u32) -> Answer
+    requires { ⌜ memoryForm (now site) (now links) ≡ true ⌝ }
+    ensures { λ r.
+        ⌜ r ≡ holds (siteOf (now (site .entry)) (now (links .entry))) c k left right ⌝ }
+{
+    let s = memory::setting_of(site, c);
+    if !memory::is_box(s.n, c) {
+        return Answer::Refused(Refusal::Box);
+    }
+    let row = memory::row_of(site, s, c);
+    if records::is_agreed(row, s.n, k, left, right) {
+        return Answer::Done;
+    }
+    Answer::Refused(Refusal::Untrue)
+}
+
+// Any call on any words.
+pub fn step(site: &mut [u64], links: &mut [u64], call: Call) -> Answer
+    ensures { λ r.
+        ⌜ After (stepOn (now (site .entry)) (now (links .entry)) call) (now (site .entry)) (now (links .entry))
+        (now (site .exit)) (now (links .exit)) r ⌝ }
+{
+    if memory::is_by_form(site, links) {
+        return step_formed(site, links, call);
+    }
+    Answer::Refused(Refusal::Form)
+}
+
+// A holds line on any words.
+pub fn holds(site: &[u64], links: &[u64], c: u32, k: u32, left: u32, right: u32) -> Answer
+    ensures { λ r. ⌜ r ≡ holdsOn (now (site .entry)) (now (links .entry)) c k left right ⌝ }
+{
+    if memory::is_by_form(site, links) {
+        return holds_formed(site, links, c, k, left, right);
+    }
+    Answer::Refused(Refusal::Form)
+}

@@ -1,0 +1,16 @@
+// The engine: a fresh site, any call, and a holds line, on two slices of words that the caller lends.
+mod answers;
+mod calls;
+mod entries;
+mod mail;
+mod presence;
+mod records;
+mod start;
+mod turns;
+mod verdicts;
+
+pub use entries::holds;
+pub use entries::holds_formed;
+pub use entries::step;
+pub use entries::step_formed;
+pub use start::fresh;

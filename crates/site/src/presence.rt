@@ -1,0 +1,99 @@
+// Stops, returns and timeouts: the epoch and the present set.
+ghost use mathlib.Core.Path.{_≡_};
+ghost use mathlib.Core.Bool.{true};
+ghost use Prim.Native.Nat.{_≤_};
+ghost use lib.ListN.{length};
+ghost use Rattle.rules.specs.Sizes.{mostEpoch};
+ghost use Rattle.rules.specs.Step.{risen, step};
+ghost use Rattle.rules.specs.declared.model.Call.{Call};
+ghost use Rattle.memory.specs.Memory.{siteOf, memoryForm};
+ghost use Rattle.site.specs.Entries.{After};
+ghost use Rattle.site.specs.General.{generalPut, Presented};
+use crate::verdicts;
+use rules::model::Answer;
+use rules::model::Refusal;
+use rules::model::Setting;
+use rules::model::Verdict;
+use rules::sets;
+
+// The epoch and the present set are written.
+pub(crate) fn put_general(site: &mut [u64], epoch: u32, present: u32)
+    requires { ⌜ 5 ≤ length (now site) ⌝ }
+    ensures { λ _. ⌜ now (site .exit) ≡ generalPut epoch present (now (site .entry)) ⌝ }
+{
+    site[3] = epoch as u64;
+    site[4] = present as u64;
+}
+
+// An even epoch rises by 1, an odd one stays.
+fn raise(epoch: u32) -> u32
+    requires { ⌜ epoch ≤ mostEpoch ⌝ }
+    ensures { λ r. ⌜ r ≡ risen epoch ⌝ }
+{
+    if sets::is_even(epoch) {
+        epoch + 1
+    } else {
+        epoch
+    }
+}
+
+// Where the verdict says Go the boxes of w are present, and the epoch rises.
+fn present_as(site: &mut [u64], s: Setting, w: u32, v: Verdict) -> Answer
+    requires { ⌜ (5 ≤ length (now site)) × (s .epoch ≤ mostEpoch) ⌝ }
+    ensures { λ r. ⌜ Presented v (s .epoch) w (now (site .entry)) (now (site .exit)) r ⌝ }
+{
+    let epoch = raise(s.epoch);
+    match v {
+        Verdict::Go => {
+            put_general(site, epoch, w);
+            Answer::Done
+        }
+        Verdict::Discard(why) => Answer::Discarded(why),
+        Verdict::Refuse(why) => Answer::Refused(why),
+    }
+}
+
+pub(crate) fn stop(site: &mut [u64], links: &[u64], c: u32) -> Answer
+    requires { ⌜ memoryForm (now site) (now links) ≡ true ⌝ }
+    ensures { λ r.
+        ⌜ After (step (siteOf (now (site .entry)) (now (links .entry))) (Call.Stop c))
+        (now (site .entry)) (now (links .entry)) (now (site .exit)) (now (links .entry)) r ⌝ }
+{
+    let s = memory::setting_of(site, c);
+    if !memory::is_box(s.n, c) {
+        return Answer::Refused(Refusal::Box);
+    }
+    let here = memory::has(s.present, c);
+    let v = verdicts::stop_verdict(s, here);
+    present_as(site, s, sets::without_box(s.present, c), v)
+}
+
+pub(crate) fn come_back(site: &mut [u64], links: &[u64], c: u32) -> Answer
+    requires { ⌜ memoryForm (now site) (now links) ≡ true ⌝ }
+    ensures { λ r.
+        ⌜ After (step (siteOf (now (site .entry)) (now (links .entry))) (Call.Return c))
+        (now (site .entry)) (now (links .entry)) (now (site .exit)) (now (links .entry)) r ⌝ }
+{
+    let s = memory::setting_of(site, c);
+    if !memory::is_box(s.n, c) {
+        return Answer::Refused(Refusal::Box);
+    }
+    let here = memory::has(s.present, c);
+    let v = verdicts::return_verdict(s, here);
+    present_as(site, s, sets::with_box(s.present, c), v)
+}
+
+pub(crate) fn time_out(site: &mut [u64], links: &[u64], c: u32) -> Answer
+    requires { ⌜ memoryForm (now site) (now links) ≡ true ⌝ }
+    ensures { λ r.
+        ⌜ After (step (siteOf (now (site .entry)) (now (links .entry))) (Call.Timeout c))
+        (now (site .entry)) (now (links .entry)) (now (site .exit)) (now (links .entry)) r ⌝ }
+{
+    let s = memory::setting_of(site, c);
+    if !memory::is_box(s.n, c) {
+        return Answer::Refused(Refusal::Box);
+    }
+    let here = memory::has(s.present, c);
+    let v = verdicts::timeout_verdict(s, here);
+    present_as(site, s, s.present, v)
+}

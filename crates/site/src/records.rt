@@ -1,0 +1,22 @@
+// The agreed record of a box.
+ghost use mathlib.Core.Path.{_≡_};
+ghost use Rattle.rules.specs.Step.{agreedAs};
+ghost use Rattle.row.specs.Row.{boxOf};
+ghost use Rattle.site.specs.Records.{AgreedLie};
+
+// Number k is agreed in the row with these frames.
+pub(crate) fn is_agreed(row: &[u64], n: u32, k: u32, left: u32, right: u32) -> bool
+    requires { ⌜ AgreedLie (now row) ⌝ }
+    ensures { λ r. ⌜ r ≡ agreedAs (boxOf n (now (row .entry))) k left right ⌝ }
+{
+    let number = k as u64;
+    if number < 1 {
+        return false;
+    }
+    if row[4] < number {
+        return false;
+    }
+    let at = 19 + k as usize;
+    let record = row[at];
+    (record / 4294967296 == left as u64) & (record % 4294967296 == right as u64)
+}

@@ -1,0 +1,63 @@
+// The needs of each call after form and the box number: the first that fails refuses.
+ghost use mathlib.Core.Path.{_≡_};
+ghost use mathlib.Core.Bool.{cond};
+ghost use Prim.Native.Nat.{_≤_};
+ghost use Rattle.rules.specs.Sets.{has};
+ghost use Rattle.rules.specs.Sizes.{mostBoxes};
+ghost use Rattle.rules.specs.declared.model.Verdict.{Verdict};
+ghost use Rattle.site.specs.Verdicts.{
+  verdictOf,
+  electNeeds,
+  stopNeeds,
+  returnNeeds,
+  timeoutNeeds,
+};
+use rules::model::Refusal;
+use rules::model::Setting;
+use rules::model::Verdict;
+use rules::sets;
+
+pub(crate) fn need(met: bool, why: Refusal, rest: Verdict) -> Verdict
+    ensures { λ r. ⌜ r ≡ cond met rest (Verdict.Refuse why) ⌝ }
+{
+    if met { rest } else { Verdict::Refuse(why) }
+}
+
+// `here` says whether the box is present.
+pub(crate) fn elect_verdict(s: Setting, here: bool) -> Verdict
+    requires { ⌜ (here ≡ has (s .present) (s .me)) × (s .n ≤ mostBoxes) ⌝ }
+    ensures { λ r. ⌜ r ≡ verdictOf (electNeeds s) ⌝ }
+{
+    let majority = s.n / 2 + 1;
+    let enough = majority <= sets::count(s.present);
+    let due = !sets::is_even(s.epoch);
+    let c = need(enough, Refusal::Majority, Verdict::Go);
+    let b = need(here, Refusal::Condition, c);
+    need(due, Refusal::Condition, b)
+}
+
+pub(crate) fn stop_verdict(s: Setting, here: bool) -> Verdict
+    requires { ⌜ here ≡ has (s .present) (s .me) ⌝ }
+    ensures { λ r. ⌜ r ≡ verdictOf (stopNeeds s) ⌝ }
+{
+    let b = need(s.epoch < 1000000, Refusal::Epoch, Verdict::Go);
+    need(here, Refusal::Condition, b)
+}
+
+pub(crate) fn return_verdict(s: Setting, here: bool) -> Verdict
+    requires { ⌜ here ≡ has (s .present) (s .me) ⌝ }
+    ensures { λ r. ⌜ r ≡ verdictOf (returnNeeds s) ⌝ }
+{
+    let b = need(s.epoch < 1000000, Refusal::Epoch, Verdict::Go);
+    need(!here, Refusal::Condition, b)
+}
+
+pub(crate) fn timeout_verdict(s: Setting, here: bool) -> Verdict
+    requires { ⌜ here ≡ has (s .present) (s .me) ⌝ }
+    ensures { λ r. ⌜ r ≡ verdictOf (timeoutNeeds s) ⌝ }
+{
+    let even = sets::is_even(s.epoch);
+    let c = need(s.epoch < 1000000, Refusal::Epoch, Verdict::Go);
+    let b = need(even, Refusal::Condition, c);
+    need(here, Refusal::Condition, b)
+}
