@@ -1,0 +1,2 @@
+-- What the contracts of `cells` cite, and those of every crate that writes or reads an image.
+pub mod Cells

@@ -1,0 +1,42 @@
+// Numbers one after another as bytes, each of the same width.
+ghost use Prim.Native.Nat.{_+_, _*_, _≤_};
+ghost use lib.ListN.{length};
+ghost use Rattle.cells.specs.Cells.{cells, Wrote, Room, Read};
+
+// What a walk over bytes finds: the place behind a thing by form, or that there is none.
+pub enum Walk {
+    Next(usize),
+    Bad,
+}
+
+// The numbers ws, of k bytes each, are written at `at`. The place behind them is answered.
+pub fn put_words(out: &mut [u8], at: usize, k: usize, ws: &[u64]) -> usize
+    requires { ⌜ Room (cells k (now ws)) (now out) at ⌝ }
+    ensures { λ r.
+        ⌜ Wrote (cells k (now (ws .entry))) (now (out .entry)) at (now (out .exit)) r ⌝ }
+{
+    let mut p = at;
+    let mut i = 0;
+    while i < ws.len() {
+        le::put_at(out, p, k, ws[i]);
+        p += k;
+        i += 1;
+    }
+    p
+}
+
+// Numbers of k bytes each are read at `at`, as many as dst holds. The place behind them is
+// answered.
+pub fn get_words(src: &[u8], at: usize, k: usize, dst: &mut [u64]) -> usize
+    requires { ⌜ (at + length (now dst) * k ≤ length (now src)) × (k ≤ 8) ⌝ }
+    ensures { λ r. ⌜ Read k (now (src .entry)) at (now (dst .exit)) r ⌝ }
+{
+    let mut p = at;
+    let mut i = 0;
+    while i < dst.len() {
+        dst[i] = le::get_at(src, p, k);
+        p += k;
+        i += 1;
+    }
+    p
+}

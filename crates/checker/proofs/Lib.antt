@@ -1,0 +1,2 @@
+-- From what a part's walk finds to what the whole's does.
+pub mod MailLaws

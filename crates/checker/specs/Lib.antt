@@ -1,0 +1,2 @@
+-- What the contracts of `checker` cite.
+pub mod Heads

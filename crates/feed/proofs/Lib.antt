@@ -1,0 +1,6 @@
+-- Laws of the feeding.
+pub mod HeldLaws
+pub mod TellLaws
+pub mod EngineLaws
+pub mod AnswerLaws
+pub mod FeedLaws

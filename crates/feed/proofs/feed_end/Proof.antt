@@ -1,0 +1,45 @@
+use mathlib.Core.Path.{_≡_}
+use lib.ListN.{length}
+use borrow.Author.Needs.{needs}
+use Rattle.feed.proofs.FeedLaws.{end-none, end-first, end-going, end-ended}
+use Rattle.feed.proofs.feed_end.Statement.{statement}
+use Rattle.feed.proofs.feed_end.Tie as tie
+
+line-length : (s : tie.Start) → length (s .args .f .line) ≡ 65
+line-length s = search needs
+
+returns : tie.Need-returns
+returns c = λ xs ls. end-none ((c .before .before) .args .f) xs ls _ (c .if1 .taken)
+
+returns-2 : tie.Need-returns-2
+returns-2 c = λ xs ls. end-first ((c .before .before .before .before .before .before .before
+    .before) .args .f) xs ls (c .before .before .before .before .enum-told .given .1) (line-length
+    (c .before .before .before .before .before .before .before .before)) (c .before .before .before
+    .before .before .before .if1 .left) (c .before .before .put-refused .ensures)
+
+returns-3 : tie.Need-returns-3
+returns-3 c = λ xs ls. end-going ((c .before .before .before .before .before .before .before
+    .before) .args .f) xs ls (c .before .before .before .before .enum-told2 .given .1) (line-length
+    (c .before .before .before .before .before .before .before .before)) (c .before .before .before
+    .before .before .before .if1 .left) (c .before .before .put-refused2 .ensures)
+
+returns-4 : tie.Need-returns-4
+returns-4 c = λ xs ls. end-ended ((c .before .before .before .before) .args .f) xs ls _ (c
+    .enum-told3 .given .1) (line-length (c .before .before .before .before)) (c .before .before
+    .if1 .left)
+
+pub feed-end-spec : {M : Type 1} → statement M
+feed-end-spec =
+    tie.close
+    (tie.spec
+    returns
+    (λ c. search needs)
+    (λ c κs. search needs)
+    (λ c. search needs)
+    (λ c κs. search needs)
+    (λ c. search needs)
+    (λ c. search needs)
+    returns-2
+    (λ c. search needs)
+    returns-3
+    returns-4)

@@ -1,0 +1,81 @@
+use Prim.Native.Nat.{_≤_, _-_, _*_}
+use native.Mathlib.Omega.{arith}
+use Rattle.print.specs.Decimal.{spaced}
+use Rattle.print.specs.Text.{Wrote}
+use Rattle.rules.proofs.Tests.{tests}
+use Rattle.feed.specs.Rows.{lastsAt}
+use Rattle.feed.proofs.TellLaws.{lasts-none, lasts-more, lasts-done}
+use Rattle.feed.proofs.tell.put_lasts.Statement.{statement}
+use Rattle.feed.proofs.tell.put_lasts.Tie as tie
+
+abbrev Inv-loop : tie.InvT-loop
+Inv-loop out₀ at site n w p₀ i₀ out p i = (i ≤ n) × Wrote (21 * i) out₀ out at p (spaced (lastsAt
+    site w i))
+
+abbrev μ-loop : tie.MeasureT-loop
+μ-loop out₀ at site n w p₀ i₀ out p i = n - i
+
+loop-holds : tie.Need-loop-holds Inv-loop μ-loop
+loop-holds c = (
+  omega arith,
+  lasts-none _ ((c .before .before) .args .site .now) ((c .before
+      .before) .args .w) _,
+)
+
+row-at-requires : tie.Need-row-at-requires Inv-loop μ-loop
+row-at-requires c κs = (omega arith, omega arith)
+
+add-put-next : tie.Need-add-put-next Inv-loop μ-loop
+add-put-next c = search tests
+
+mul-put-next : tie.Need-mul-put-next Inv-loop μ-loop
+mul-put-next c = search tests
+
+shared-slice-read-put-next : tie.Need-shared-slice-read-put-next Inv-loop μ-loop
+shared-slice-read-put-next c = search tests
+
+put-next-requires : tie.Need-put-next-requires Inv-loop μ-loop
+put-next-requires c κs = omega arith
+
+add-i : tie.Need-add-i Inv-loop μ-loop
+add-i c = search tests
+
+loop-less : tie.Need-loop-less Inv-loop μ-loop
+loop-less c = search tests
+
+loop-again : tie.Need-loop-again Inv-loop μ-loop
+loop-again c = (
+  omega arith,
+  lasts-more ((c .before .before .before .before .before .before .before
+      .before .before .before) .args .site .now) ((c .before .before .before .before .before .before
+      .before .before .before .before) .args .w) (c .before .before .before .before .before .before
+      .before .loop .i) (c .before .before .before .before .before .row-at .result) (c .before
+      .before .before .before .before .row-at .ensures .0) (c .before .before .before .before .before
+      .before .before .loop .inv .1) (c .before .before .put-next .ensures),
+)
+
+same-length : tie.Need-same-length Inv-loop μ-loop
+same-length c = c .before .loop .inv .1 .room
+
+returns : tie.Need-returns Inv-loop μ-loop
+returns c = lasts-done ((c .before .before .before .before) .args .site .now) ((c .before .before
+    .before .before) .args .w) _ _ (c .loop-test .left) (c .before .loop .inv .0) (c .before .loop
+    .inv .1)
+
+pub put-lasts-spec : {M : Type 1} → statement M
+put-lasts-spec =
+    tie.close
+    (tie.spec
+    Inv-loop
+    μ-loop
+    loop-holds
+    row-at-requires
+    add-put-next
+    mul-put-next
+    shared-slice-read-put-next
+    put-next-requires
+    add-i
+    loop-less
+    loop-again
+    same-length
+    returns)

@@ -1,0 +1,4 @@
+-- What the contracts of `feed` cite.
+pub mod State
+pub mod Rows
+pub mod Says

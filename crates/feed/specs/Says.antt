@@ -1,0 +1,81 @@
+-- What each function of the feeding says.
+use Prim.Native.Nat.{ℕ, _-_, _/_, _≤_, _<_, min}
+use mathlib.Core.Path.{_≡_}
+use mathlib.Core.Bool.{true}
+use mathlib.Core.List.{List, []}
+use lib.ListN.{length, take, getD}
+use lib.Seq.{sets}
+use Rattle.words.specs.Rows.{part}
+use Rattle.rules.specs.Sizes.{mostBoxes, mostLoads}
+use Rattle.rules.specs.declared.model.Answer.{Answer}
+use Rattle.memory.specs.Memory.{siteWords, siteOf, memoryForm}
+use Rattle.print.specs.Text.{Wrote}
+use Rattle.trace.specs.Feeding.{Feeding, plain, holding, feedNext, feedText}
+use Rattle.trace.specs.Replay.{Run, Told, told, toldText, toldNext, lineNext, lineText}
+use Rattle.trace.specs.Stops.{accepted}
+use Rattle.feed.specs.State.{feedingOf, formed, Lent}
+use Rattle.feed.specs.declared.state.Feed.{Feed}
+use Rattle.feed.specs.declared.state.Fed.{Fed}
+use Rattle.feed.specs.declared.state.Turn.{Turn}
+
+-- the longest answer: two numbers and five lasts, each of at most 20 digits, spaces and a newline
+abbrev pub answerMost : ℕ
+answerMost = 147
+
+-- e is the place of the first newline from i on and below n, or n where there is none
+pub record LineEnd (piece : List ℕ) (i n e : ℕ) : Type 0 where
+  pub from : i ≤ e
+  pub to : e ≤ n
+  pub plain : plain (part piece i (e - i)) ≡ true
+  pub newline : e < n → getD piece e 0 ≡ 10
+
+-- the words have room for the rows that they say they hold, at most five
+pub record Rowed (xs : List ℕ) : Type 0 where
+  pub boxes : getD xs 0 0 ≤ mostBoxes
+  pub loads : getD xs 1 0 ≤ mostLoads
+  pub rows : siteWords (getD xs 0 0) (getD xs 1 0) ≤ length xs
+
+-- the answer a to a line of which the rules say t
+pub record Answers (t : Told) (xs ls xs' ls' : List ℕ) (a : Answer) : Type 0 where
+  pub answer : told a (siteOf xs' ls') ≡ t
+  pub form : accepted a ≡ true → memoryForm xs' ls' ≡ true
+  pub site : length xs' ≡ length xs
+  pub links : length ls' ≡ length ls
+
+-- the answer a to line k was printed, and the run goes on or is at its end
+pub record Finishes (k : ℕ) (a : Answer) (xs before after : List ℕ) (at : ℕ) (t : Turn) : Type 0
+  where
+    pub next : (ls : List ℕ) → feedingOf (t .feed) xs ls
+        ≡ record { run = toldNext k (told a (siteOf xs ls)); held = [] }
+    pub wrote : (ls : List ℕ)
+        → Wrote answerMost before after at (t .at) (toldText k (told a (siteOf xs ls)))
+    pub form : (ls : List ℕ) → (accepted a ≡ true → memoryForm xs ls ≡ true)
+        → formed (t .feed .stage) xs ls ≡ true
+
+-- the line that has begun went on with p
+pub record Keeps (f : Feed) (p : List ℕ) (g : Feed) : Type 0 where
+  pub next : (xs ls : List ℕ) → feedingOf g xs ls ≡ holding (feedingOf f xs ls) p
+  pub stage : g .stage ≡ f .stage
+
+-- the state after a line is s, and its text was written
+pub record Turns (s : Feeding Run) (text xs ls xs' ls' before after : List ℕ) (at : ℕ) (t : Turn)
+    : Type 0 where
+  pub next : feedingOf (t .feed) xs' ls' ≡ s
+  pub wrote : Wrote answerMost before after at (t .at) text
+  pub lent : Lent (t .feed .stage) xs' ls'
+  pub site : length xs' ≡ length xs
+  pub links : length ls' ≡ length ls
+
+-- as much of a piece as the buffer has room for was fed
+pub record Feeds (f : Feed) (piece xs ls xs' ls' before after : List ℕ) (g : Fed) : Type 0 where
+  pub took : g .took ≡ min (length piece) (length before / answerMost)
+  pub next : feedingOf (g .feed) xs' ls'
+      ≡ feedNext lineNext (feedingOf f xs ls) (take (g .took) piece)
+  pub bytes : after
+      ≡ sets before 0 (feedText lineNext lineText (feedingOf f xs ls) (take (g .took) piece))
+  pub end : g .at
+      ≡ length (feedText lineNext lineText (feedingOf f xs ls) (take (g .took) piece))
+  pub fits : g .at ≤ length after
+  pub lent : Lent (g .feed .stage) xs' ls'
+  pub site : length xs' ≡ length xs
+  pub links : length ls' ≡ length ls

@@ -1,0 +1,35 @@
+// The state of a feeding between two pieces, and what the feeding gives back.
+
+// No line yet, lines on a site, or the end of the run.
+pub enum Stage {
+    First,
+    Going,
+    Ended,
+}
+
+// k is the next line's number where the run goes on. The first len bytes of line are those of the
+// line that has begun, or its first 65.
+pub struct Feed {
+    pub stage: Stage,
+    pub k: u64,
+    pub len: usize,
+    pub line: [u8; 65],
+}
+
+pub struct Held {
+    pub line: [u8; 65],
+    pub len: usize,
+}
+
+// The state after a line, and the place past its answer.
+pub struct Turn {
+    pub feed: Feed,
+    pub at: usize,
+}
+
+// The state after a piece, how many bytes of it were taken, and the place past the answers.
+pub struct Fed {
+    pub feed: Feed,
+    pub took: usize,
+    pub at: usize,
+}

@@ -1,0 +1,131 @@
+-- How long an image is: a sum over what it holds; and the starred fresh images.
+use mathlib.Core.Path.{_≡_, refl, ap, _∙_}
+use mathlib.Core.Bool.{true}
+use Prim.Native.Nat.{ℕ, _+_, _-_, _*_, _≤_, _<_}
+use native.Mathlib.Omega.{arith}
+use mathlib.Core.List.{List, [], _∷_, _++_}
+use lib.ListN.{length, take, getD, length-append}
+use lib.Seq.{length-take-le}
+use Rattle.rules.specs.Sizes.{mostBoxes}
+use Rattle.rules.specs.Box.{Box, Letter}
+use Rattle.rules.specs.Site.{Site, freshBox, freshHead, fresh}
+use Rattle.rules.specs.Form.{form}
+use Rattle.laws.proofs.Logic.{In}
+use Rattle.laws.proofs.FormLaws.{form-says}
+use Rattle.cells.specs.Cells.{chain, cells, All, Each}
+use Rattle.cells.proofs.ChainLaws.{length-cells, each-made}
+use Rattle.image.specs.Image.{numbersFrom, boxesOf, bySender, linksOf, boxBody, letterBytes}
+use Rattle.image.specs.Image.{linkBytes}
+use Rattle.image.specs.Image.{tableOf, imageOf}
+use Rattle.image.specs.Parts.{listed, bodiesIn, listedBytes}
+use Rattle.image.proofs.OrderLaws.{length-boxes, boxes-at}
+use Rattle.image.proofs.TableLaws.{length-table, bodies-count, image-in}
+
+-- the sum of a length over a list
+pub total {ℓ} : {A : Type ℓ} → (A → ℕ) → List A → ℕ
+total f [] = 0
+total f (x ∷ xs) = f x + total f xs
+
+-- Where every thing has its length, all one after another have the sum.
+pub length-total {ℓ} : {A : Type ℓ} (enc : A → List ℕ) (f : A → ℕ) (l : List A)
+    → All (λ x. length (enc x) ≡ f x) l → length (chain enc l) ≡ total f l
+unfolding chain Each total
+length-total enc f [] h = refl
+length-total enc f (x ∷ l) h =
+    length-append (enc x) (chain enc l) ∙ omega (arith, h .0, length-total enc f l (h .1))
+
+all-always {ℓ} : {A : Type ℓ} {P : A → Type 0} → ((x : A) → P x) → (l : List A) → All P l
+unfolding Each
+all-always f [] = tt
+all-always f (x ∷ l) = (f x, all-always f l)
+
+-- ---- the parts
+
+abbrev pub letterLength : Letter → ℕ
+letterLength y = 20 + 8 * length (y .records)
+
+abbrev pub linkLength : List Letter → ℕ
+linkLength ys = 4 + total letterLength ys
+
+abbrev pub boxLength : ℕ → Box → ℕ
+boxLength n x = 72 + 4 * n + 8 * length (x .records)
+
+pub length-letter : (y : Letter) → length (letterBytes y) ≡ letterLength y
+unfolding letterBytes
+length-letter y = simp (length-append, length-cells) (omega arith)
+
+-- The letters of a link together.
+pub length-letters : (ys : List Letter) → length (chain letterBytes ys) ≡ total letterLength ys
+length-letters ys = length-total letterBytes letterLength ys (all-always length-letter ys)
+
+pub length-link : (ys : List Letter) → length (linkBytes ys) ≡ linkLength ys
+unfolding linkBytes
+length-link ys = simp (length-append, length-cells, length-letters) (omega arith)
+
+pub length-links : (ls : List (List Letter)) → length (chain linkBytes ls) ≡ total linkLength ls
+length-links ls = length-total linkBytes linkLength ls (all-always length-link ls)
+
+pub length-box : (n : ℕ) (x : Box) → n ≤ mostBoxes → length (x .head .peers) ≡ mostBoxes
+    → length (boxBody n x) ≡ boxLength n x
+unfolding boxBody
+length-box n x h l =
+    simp (length-append, length-cells, length-take-le n (x .head .peers) (omega arith))
+    (omega arith)
+
+-- ---- the image
+
+-- Table of contents, general body, boxes and mail.
+pub imageLength : Site → ℕ
+imageLength s =
+    4 + 8 * (s .n + 2)
+    + (20 + (total (boxLength (s .n)) (boxesOf s) + total linkLength (linksOf s)))
+
+module _ (s : Site) (few : s .n ≤ mostBoxes)
+    (peers : (b : ℕ) → In b (s .n) → length (s .box b .head .peers) ≡ mostBoxes) where
+  abbrev Long : Box → Type 0
+  Long x = length (boxBody (s .n) x) ≡ boxLength (s .n) x
+
+  length-bodies : length (listedBytes (listed s))
+      ≡ 20 + (total (boxLength (s .n)) (boxesOf s) + total linkLength (linksOf s))
+  unfolding listed listedBytes
+  length-bodies =
+      let boxes = length-total (boxBody (s .n)) (boxLength (s .n)) (boxesOf s) all in
+      let links = length-links (linksOf s) in
+      simp (length-append, length-cells) (omega arith)
+    where
+      at : (i : ℕ) → i < length (boxesOf s) → Long (getD (boxesOf s) i freshBox)
+      at i h =
+          let k : i < s .n = omega (arith, length-boxes s) in
+          rw (boxes-at s i freshBox k)
+          (length-box (s .n) (s .box (i + 1)) few (peers (i + 1) (omega arith, omega arith)))
+
+      all : All Long (boxesOf s)
+      all = each-made (λ i. Long) (boxesOf s) freshBox at
+
+  pub image-length : length (imageOf s) ≡ imageLength s
+  unfolding imageLength listed
+  image-length =
+      let table = length-table (bodiesIn (listed s)) in
+      let count = bodies-count (listed s) (length-boxes s) in
+      ap length (image-in s)
+      ∙ length-append (tableOf (bodiesIn (listed s))) (listedBytes (listed s))
+      ∙ omega (arith, length-bodies)
+
+-- Of a site by form.
+pub form-length : (s : Site) → form s ≡ true → length (imageOf s) ≡ imageLength s
+form-length s e = let f = form-says e in
+    image-length s (f .sizes .few-boxes) (λ b h. f .boxes b h .places)
+
+-- ★ "Fresh image: n=3, 340 bytes; n=1, 124", whatever J and L are
+fresh-length : (n J L : ℕ) → n ≤ mostBoxes
+    → length (imageOf (fresh n J L)) ≡ imageLength (fresh n J L)
+unfolding fresh freshHead
+fresh-length n J L h = image-length (fresh n J L) h (λ b k. refl)
+
+pub fresh-three : (J L : ℕ) → length (imageOf (fresh 3 J L)) ≡ 340
+unfolding imageLength total fresh boxesOf linksOf bySender numbersFrom chain
+fresh-three J L = fresh-length 3 J L (omega arith)
+
+pub fresh-one : (J L : ℕ) → length (imageOf (fresh 1 J L)) ≡ 124
+unfolding imageLength total fresh boxesOf linksOf bySender numbersFrom chain
+fresh-one J L = fresh-length 1 J L (omega arith)

@@ -1,0 +1,9 @@
+-- Theorems about the image: one site, one image, and how long it is.
+pub mod OrderLaws
+pub mod LetterLaws
+pub mod BoxLaws
+pub mod ListedLaws
+pub mod TableLaws
+pub mod OneImage
+pub mod Lengths
+pub mod MemoryImage

@@ -1,0 +1,111 @@
+-- "The site image": the bytes of a site, in the paper's order and words. There is no parser: bytes
+-- are by form where they are the image of a site by form.
+use Prim.Native.Nat.{ℕ, zero, suc, _+_, _-_, _*_}
+use mathlib.Core.List.{List, [], _∷_, _++_, map}
+use lib.ListN.{length, take}
+use Rattle.rules.specs.Numbers.{stateNumber, phaseNumber, kindNumber}
+use Rattle.rules.specs.Box.{Box, Letter}
+use Rattle.rules.specs.Site.{Site}
+use Rattle.row.specs.Row.{flagNumber}
+use Rattle.cells.specs.Cells.{chain, cells}
+
+-- ---- boxes and links in their order
+
+-- k numbers from a on
+unfoldable pub numbersFrom : ℕ → ℕ → List ℕ
+numbersFrom a zero = []
+numbersFrom a (suc k) = a ∷ numbersFrom (suc a) k
+
+-- boxes 1 to n
+unfoldable pub boxesOf : Site → List Box
+boxesOf s = map (s .box) (numbersFrom 1 (s .n))
+
+-- boxes 1 to n but a
+abbrev pub others : ℕ → ℕ → List ℕ
+others n a = numbersFrom 1 (a - 1) ++ numbersFrom (a + 1) (n - a)
+
+-- "by sender then receiver": one thing for each ordered pair of different boxes
+unfoldable pub bySender {ℓ} : {A : Type ℓ} → ℕ → (ℕ → ℕ → A) → List A
+bySender n f = chain (λ a. map (f a) (others n a)) (numbersFrom 1 n)
+
+unfoldable pub linksOf : Site → List (List Letter)
+linksOf s = bySender (s .n) (s .link)
+
+-- ---- the bodies: "Little-endian, 32 bits, records 64."
+
+-- "general (n, J, L, epoch, present set with box k as value 2^(k−1))"
+unfoldable pub generalBody : Site → List ℕ
+generalBody s =
+    cells 4
+    (s .n
+    ∷ s .J
+    ∷ s .L
+    ∷ s .epoch
+    ∷ s .present
+    ∷ [])
+
+-- "Box: flag, state, phase, pn, last, stored pn, stored number, best pn, best number, replies,
+-- accept set; then three records (best, waiting, being agreed); n peers' lasts (unknown
+-- 4,294,967,295); count of records held, and these."
+unfoldable pub boxBody : ℕ → Box → List ℕ
+boxBody n x =
+    cells 4
+    (flagNumber (x .head .leads)
+    ∷ stateNumber (x .head .state)
+    ∷ phaseNumber (x .head .phase)
+    ∷ x .head .kept .pn
+    ∷ x .head .kept .last
+    ∷ x .head .kept .stored .pn
+    ∷ x .head .kept .stored .number
+    ∷ x .head .best .pn
+    ∷ x .head .best .number
+    ∷ x .head .replies
+    ∷ x .head .accepts
+    ∷ [])
+    ++ (cells 8
+    (x .head .best .value
+    ∷ x .head .waiting
+    ∷ x .head .agreeing
+    ∷ [])
+    ++ (cells 4 (take n (x .head .peers))
+    ++ (cells 4 (length (x .records) ∷ [])
+    ++ cells 8 (x .records))))
+
+-- "its mails: kind .., pn (0 in Lease), last, unagreed pn, record count, records"
+unfoldable pub letterBytes : Letter → List ℕ
+letterBytes y =
+    cells 4
+    (kindNumber (y .head .kind)
+    ∷ y .head .pn
+    ∷ y .head .last
+    ∷ y .head .unagreed
+    ∷ length (y .records)
+    ∷ [])
+    ++ cells 8 (y .records)
+
+-- "each a count and its mails"
+unfoldable pub linkBytes : List Letter → List ℕ
+linkBytes ys = cells 4 (length ys ∷ []) ++ chain letterBytes ys
+
+-- "Mail: links by sender then receiver"
+unfoldable pub mailBody : Site → List ℕ
+mailBody s = chain linkBytes (linksOf s)
+
+-- ---- the image
+
+-- "Bodies follow in order ..: general ..; each box; mail."
+unfoldable pub bodies : Site → List (List ℕ)
+bodies s = generalBody s ∷ (map (boxBody (s .n)) (boxesOf s) ++ (mailBody s ∷ []))
+
+-- "byte offset from the image's start and length of each": the first begins at `at`, and each where
+-- the one before it ends, "without gaps"
+unfoldable pub contents : ℕ → List (List ℕ) → List ℕ
+contents at [] = []
+contents at (b ∷ bs) = at ∷ length b ∷ contents (at + length b) bs
+
+-- "A table of contents first: number of bodies (n+2), then .." : one number, and two for each body
+unfoldable pub tableOf : List (List ℕ) → List ℕ
+tableOf bs = cells 4 (length bs ∷ contents (4 + 8 * length bs) bs)
+
+unfoldable pub imageOf : Site → List ℕ
+imageOf s = tableOf (bodies s) ++ chain (λ b. b) (bodies s)

@@ -1,0 +1,4 @@
+-- Laws of the reading of a line.
+pub mod ReadLaws
+pub mod NumberLaws
+pub mod Exact

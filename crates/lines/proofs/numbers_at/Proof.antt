@@ -1,0 +1,63 @@
+use Prim.Native.Nat.{_+_, _-_}
+use mathlib.Core.Path.{_≡_, sym, _∙_, ap}
+use lib.ListN.{length, drop}
+use Rattle.rules.proofs.Tests.{tests}
+use Rattle.lines.specs.Read.{bytesRead, finished, noNumbers}
+use Rattle.lines.proofs.ReadLaws.{read-on, read-end}
+use Rattle.lines.proofs.numbers_at.Statement.{statement}
+use Rattle.lines.proofs.numbers_at.Tie as tie
+
+abbrev Inv-loop : tie.InvT-loop
+Inv-loop s at n₀ i₀ n i = bytesRead n (drop i s) ≡ bytesRead noNumbers (drop at s)
+
+abbrev μ-loop : tie.MeasureT-loop
+μ-loop s at n₀ i₀ n i = length s - i
+
+none-requires : tie.Need-none-requires Inv-loop μ-loop
+none-requires c κs = search tests
+
+loop-holds : tie.Need-loop-holds Inv-loop μ-loop
+loop-holds c = ap (λ n. bytesRead n (drop (c .before .before .args .at) (c .before .before .args .s
+    .now))) (c .none .ensures)
+
+shared-slice-read-next : tie.Need-shared-slice-read-next Inv-loop μ-loop
+shared-slice-read-next c = search tests
+
+next-requires : tie.Need-next-requires Inv-loop μ-loop
+next-requires c κs = search tests
+
+add-i : tie.Need-add-i Inv-loop μ-loop
+add-i c = search tests
+
+loop-less : tie.Need-loop-less Inv-loop μ-loop
+loop-less c = search tests
+
+loop-again : tie.Need-loop-again Inv-loop μ-loop
+loop-again c =
+    ap (λ n. bytesRead n (drop (c .before .before .before .loop .i + 1) (c .before .before .before
+    .before .before .before .args .s .now))) (c .next .ensures)
+    ∙ (sym (read-on _ _ _ (c .before .before .loop-test .taken)) ∙ c .before .before .before .loop
+    .inv)
+
+finish-requires : tie.Need-finish-requires Inv-loop μ-loop
+finish-requires c κs = search tests
+
+returns : tie.Need-returns Inv-loop μ-loop
+returns c = c .finish .ensures ∙ ap finished (sym (read-end _ _ _ (c .before .loop-test .left)) ∙ c
+    .before .before .loop .inv)
+
+pub numbers-at-spec : {M : Type 1} → statement M
+numbers-at-spec =
+    tie.close
+    (tie.spec
+    Inv-loop
+    μ-loop
+    none-requires
+    loop-holds
+    shared-slice-read-next
+    next-requires
+    add-i
+    loop-less
+    loop-again
+    finish-requires
+    returns)

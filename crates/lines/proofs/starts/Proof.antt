@@ -1,0 +1,62 @@
+use Prim.Native.Nat.{_-_}
+use mathlib.Core.Path.{_≡_, sym, _∙_, refl}
+use lib.ListN.{length, drop}
+use Rattle.rules.proofs.Tests.{tests}
+use Rattle.lines.specs.Table.{starts}
+use Rattle.lines.proofs.ReadLaws.{starts-on, starts-short, starts-differ, starts-end}
+use Rattle.lines.proofs.starts.Statement.{statement}
+use Rattle.lines.proofs.starts.Tie as tie
+
+abbrev Inv-loop : tie.InvT-loop
+Inv-loop w s i₀ i = starts (drop i w) (drop i s) ≡ starts w s
+
+abbrev μ-loop : tie.MeasureT-loop
+μ-loop w s i₀ i = length w - i
+
+loop-holds : tie.Need-loop-holds Inv-loop μ-loop
+loop-holds c = refl
+
+returns : tie.Need-returns Inv-loop μ-loop
+returns c = sym (starts-short _ _ _ (c .before .loop-test .taken) (c .if1 .taken)) ∙ c .before
+    .before .loop .inv
+
+shared-slice-read-if2 : tie.Need-shared-slice-read-if2 Inv-loop μ-loop
+shared-slice-read-if2 c = search tests
+
+shared-slice-read-if2-2 : tie.Need-shared-slice-read-if2-2 Inv-loop μ-loop
+shared-slice-read-if2-2 c = search tests
+
+returns-2 : tie.Need-returns-2 Inv-loop μ-loop
+returns-2 c = sym (starts-differ _ _ _ (c .before .before .before .before .loop-test .taken) (c
+    .before .before .before .if1 .left) (c .if2 .taken)) ∙ c .before .before .before .before
+    .before .loop .inv
+
+add-i : tie.Need-add-i Inv-loop μ-loop
+add-i c = search tests
+
+loop-less : tie.Need-loop-less Inv-loop μ-loop
+loop-less c = search tests
+
+loop-again : tie.Need-loop-again Inv-loop μ-loop
+loop-again c = sym (starts-on _ _ _ (c .before .before .before .before .loop-test .taken) (c
+    .before .before .before .if1 .left) (c .if2 .left)) ∙ c .before .before .before .before .before
+    .loop .inv
+
+returns-3 : tie.Need-returns-3 Inv-loop μ-loop
+returns-3 c = sym (starts-end _ _ _ (c .loop-test .left)) ∙ c .before .loop .inv
+
+pub starts-spec : {M : Type 1} → statement M
+starts-spec =
+    tie.close
+    (tie.spec
+    Inv-loop
+    μ-loop
+    loop-holds
+    returns
+    shared-slice-read-if2
+    shared-slice-read-if2-2
+    returns-2
+    add-i
+    loop-less
+    loop-again
+    returns-3)

@@ -1,0 +1,3 @@
+-- Laws of decimals and of writing text, for every crate that prints.
+pub mod DecimalLaws
+pub mod WriteLaws

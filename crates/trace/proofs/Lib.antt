@@ -1,0 +1,4 @@
+-- Theorems of the replay.
+pub mod Pieces
+pub mod Example
+pub mod FirstRefused

@@ -1,0 +1,1 @@
+// The replay of a trace: definitions in specs/, theorems in proofs/.

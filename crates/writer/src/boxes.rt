@@ -1,0 +1,101 @@
+// The boxes' bodies, and their entries in the table of contents.
+use words::size;
+use words::word;
+ghost use mathlib.Core.Path.{_≡_};
+ghost use mathlib.Core.List.{map};
+ghost use Prim.Native.Nat.{_+_, _≤_};
+ghost use lib.ListN.{length};
+ghost use Rattle.row.specs.Row.{boxOf};
+ghost use Rattle.cells.specs.Cells.{chain, cells, Room, Wrote};
+ghost use Rattle.image.specs.Image.{boxBody, contents};
+ghost use Rattle.writer.specs.Fits.{BoxFits, BoxesFit, boxesIn};
+
+fn box_length(row: &[u64], n: usize, j: usize) -> usize
+    requires { ⌜ BoxFits n j (now row) ⌝ }
+    ensures { λ r. ⌜ (r ≡ length (boxBody n (boxOf n (now (row .entry))))) × (r ≤ 32860) ⌝ }
+{
+    72 + 4 * n + 8 * size(row[19])
+}
+
+// How long the bodies of boxes 1 to n are together.
+pub fn boxes_length(site: &[u64], n: usize, j: usize) -> usize
+    requires { ⌜ BoxesFit n j (now site) ⌝ }
+    ensures { λ r.
+        ⌜ (r ≡ length (chain (boxBody n) (boxesIn n j (now (site .entry))))) × (r ≤ 164300) ⌝ }
+{
+    let w = 20 + j;
+    let mut total = 0;
+    let mut i = 0;
+    while i < n {
+        let a = 5 + words::row_at(i, w, n);
+        total += box_length(&site[a..a + w], n, j);
+        i += 1;
+    }
+    total
+}
+
+// Their offsets and lengths, the first body at `start`.
+pub fn write_contents(
+    out: &mut [u8],
+    at: usize,
+    start: usize,
+    site: &[u64],
+    n: usize,
+    j: usize,
+) -> usize
+    requires { ⌜ BoxesFit n j (now site) ⌝ }
+    requires { ⌜ start ≤ 80 ⌝ }
+    requires { ⌜ Room (cells 4 (contents start (map (boxBody n) (boxesIn n j (now site)))))
+        (now out) at ⌝ }
+    ensures { λ r.
+        ⌜ Wrote (cells 4 (contents start (map (boxBody n) (boxesIn n j (now (site .entry))))))
+        (now (out .entry)) at (now (out .exit)) r ⌝ }
+{
+    let w = 20 + j;
+    let mut p = at;
+    let mut o = start;
+    let mut i = 0;
+    while i < n {
+        let a = 5 + words::row_at(i, w, n);
+        let length = box_length(&site[a..a + w], n, j);
+        let entry = [word(o), word(length)];
+        p = cells::put_words(out, p, 4, &entry);
+        o += length;
+        i += 1;
+    }
+    p
+}
+
+fn write_box(out: &mut [u8], at: usize, row: &[u64], n: usize, j: usize) -> usize
+    requires { ⌜ BoxFits n j (now row) ⌝ }
+    requires { ⌜ Room (boxBody n (boxOf n (now row))) (now out) at ⌝ }
+    ensures { λ r.
+        ⌜ Wrote (boxBody n (boxOf n (now (row .entry))))
+        (now (out .entry)) at (now (out .exit)) r ⌝ }
+{
+    let held = size(row[19]);
+    let a = cells::put_words(out, at, 4, &row[0..11]);
+    let b = cells::put_words(out, a, 8, &row[11..14]);
+    let c = cells::put_words(out, b, 4, &row[14..14 + n]);
+    let d = cells::put_words(out, c, 4, &row[19..20]);
+    cells::put_words(out, d, 8, &row[20..20 + held])
+}
+
+// The bodies of boxes 1 to n.
+pub fn write_boxes(out: &mut [u8], at: usize, site: &[u64], n: usize, j: usize) -> usize
+    requires { ⌜ BoxesFit n j (now site) ⌝ }
+    requires { ⌜ Room (chain (boxBody n) (boxesIn n j (now site))) (now out) at ⌝ }
+    ensures { λ r.
+        ⌜ Wrote (chain (boxBody n) (boxesIn n j (now (site .entry))))
+        (now (out .entry)) at (now (out .exit)) r ⌝ }
+{
+    let w = 20 + j;
+    let mut p = at;
+    let mut i = 0;
+    while i < n {
+        let a = 5 + words::row_at(i, w, n);
+        p = write_box(out, p, &site[a..a + w], n, j);
+        i += 1;
+    }
+    p
+}

@@ -1,0 +1,114 @@
+// The writer of the site image: its length first, then every byte straight into the lent buffer.
+use rules::model::Refusal;
+use words::size;
+use words::word;
+ghost use mathlib.Core.Path.{_≡_};
+ghost use mathlib.Core.Bool.{true};
+ghost use Prim.Native.Nat.{_+_, _-_, _*_, _≤_};
+ghost use lib.ListN.{length};
+ghost use Rattle.memory.specs.Memory.{memoryForm};
+ghost use Rattle.cells.specs.Cells.{chain, Room, Wrote};
+ghost use Rattle.image.specs.Image.{boxBody};
+ghost use Rattle.writer.specs.Fits.{BoxesFit, LinksFit, boxesIn, tableIn, bodiesOf};
+ghost use Rattle.writer.specs.Writer.{image, WriteIs};
+
+pub mod boxes;
+pub mod mail;
+
+pub enum Written {
+    Length(usize),
+    Refused(Refusal),
+}
+
+// How many ordered pairs of different boxes there are.
+fn pairs(n: usize) -> usize
+    requires { ⌜ (1 ≤ n) × (n ≤ 5) ⌝ }
+    ensures { λ r. ⌜ (r ≡ n * (n - 1)) × (r ≤ 20) ⌝ }
+{
+    n * (n - 1)
+}
+
+// How long the table of contents of n boxes, the general body and the mail is.
+fn table_length(n: usize) -> usize
+    requires { ⌜ n ≤ 5 ⌝ }
+    ensures { λ r. ⌜ (r ≡ 4 + 8 * (n + 2)) × (r ≤ 60) ⌝ }
+{
+    4 + 8 * (n + 2)
+}
+
+// How many bytes the image of a site by form has.
+pub fn image_length(site: &[u64], links: &[u64]) -> usize
+    requires { ⌜ memoryForm (now site) (now links) ≡ true ⌝ }
+    ensures { λ r. ⌜ r ≡ length (image (now (site .entry)) (now (links .entry))) ⌝ }
+{
+    let n = size(site[0]);
+    let j = size(site[1]);
+    let l = size(site[2]);
+    let m = pairs(n);
+    let boxes = boxes::boxes_length(site, n, j);
+    let mail = mail::links_length(links, m, j, l);
+    table_length(n) + 20 + boxes + mail
+}
+
+// The table of contents: the count, and the entries of the general body, the boxes and the mail.
+fn write_table(out: &mut [u8], site: &[u64], n: usize, j: usize, boxes: usize, mail: usize) -> usize
+    requires { ⌜ BoxesFit n j (now site) ⌝ }
+    requires { ⌜ boxes ≡ length (chain (boxBody n) (boxesIn n j (now site))) ⌝ }
+    requires { ⌜ boxes ≤ 164300 ⌝ }
+    requires { ⌜ Room (tableIn n j (now site) mail) (now out) 0 ⌝ }
+    ensures { λ r.
+        ⌜ Wrote (tableIn n j (now (site .entry)) mail) (now (out .entry)) 0 (now (out .exit)) r ⌝ }
+{
+    let start = table_length(n);
+    let first = start + 20;
+    let last = first + boxes;
+    let head = [word(n + 2), word(start), 20];
+    let a = cells::put_words(out, 0, 4, &head);
+    let b = boxes::write_contents(out, a, first, site, n, j);
+    let entry = [word(last), word(mail)];
+    cells::put_words(out, b, 4, &entry)
+}
+
+// The general body, the boxes and the mail.
+fn write_bodies(
+    out: &mut [u8],
+    at: usize,
+    site: &[u64],
+    links: &[u64],
+    n: usize,
+    j: usize,
+    l: usize,
+    m: usize,
+) -> usize
+    requires { ⌜ BoxesFit n j (now site) × LinksFit m j l (now links) ⌝ }
+    requires { ⌜ Room (bodiesOf n j l m (now site) (now links)) (now out) at ⌝ }
+    ensures { λ r.
+        ⌜ Wrote (bodiesOf n j l m (now (site .entry)) (now (links .entry)))
+        (now (out .entry)) at (now (out .exit)) r ⌝ }
+{
+    let a = cells::put_words(out, at, 4, &site[0..5]);
+    let b = boxes::write_boxes(out, a, site, n, j);
+    mail::write_links(out, b, links, m, j, l)
+}
+
+// The image of a site by form goes to the front of `out`; too short a buffer stays as it is.
+pub fn write_formed(site: &[u64], links: &[u64], out: &mut [u8]) -> Written
+    requires { ⌜ memoryForm (now site) (now links) ≡ true ⌝ }
+    ensures { λ r.
+        ⌜ WriteIs (now (site .entry)) (now (links .entry))
+        (now (out .entry)) r (now (out .exit)) ⌝ }
+{
+    let n = size(site[0]);
+    let j = size(site[1]);
+    let l = size(site[2]);
+    let m = pairs(n);
+    let boxes = boxes::boxes_length(site, n, j);
+    let mail = mail::links_length(links, m, j, l);
+    let total = table_length(n) + 20 + boxes + mail;
+    if out.len() < total {
+        return Written::Refused(Refusal::Buffer);
+    }
+    let at = write_table(out, site, n, j, boxes, mail);
+    let end = write_bodies(out, at, site, links, n, j, l, m);
+    Written::Length(end)
+}
