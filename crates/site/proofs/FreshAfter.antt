@@ -16,14 +16,16 @@ use Rattle.rules.specs.declared.model.Answer.{Answer}
 use Rattle.rules.specs.declared.model.Refusal.{Refusal}
 use Rattle.rules.specs.declared.model.Setting.{Setting}
 use Rattle.laws.proofs.Logic.{true≠false}
+use Rattle.rules.specs.Form.{form}
+use Rattle.laws.proofs.FormKept.{fresh-form}
 use Rattle.laws.proofs.FormLaws.{sizes-says}
 use Rattle.laws.proofs.SetLaws.{set-small, set-up, set-full}
-use Rattle.memory.specs.Memory.{siteWords, linksWords, boxIn, linkIn, siteOf, readable}
+use Rattle.memory.specs.Memory.{siteWords, linksWords, boxIn, linkIn, siteOf, readable, memoryForm}
 use Rattle.memory.specs.After.{settingAt, boxesOf, linksOf, RowsLent, LinksLent, RowsPut, LinksPut}
 use Rattle.memory.proofs.FormLaws.{words-say}
-use Rattle.memory.proofs.LentLaws.{setting-same, readable-made}
+use Rattle.memory.proofs.LentLaws.{setting-same, readable-made, form-both}
 use Rattle.site.specs.General.{settingPut}
-use Rattle.site.specs.Entries.{After, freshOn}
+use Rattle.site.specs.Entries.{After, FreshMade, freshOn}
 use Rattle.site.proofs.GeneralLaws.{setting-length, setting-put}
 use Rattle.site.proofs.AfterLaws.{no-needs, need-met, need-not, refused-after}
 
@@ -39,18 +41,23 @@ full-more n set e = rw e (ap fullSet more)
 
 module _ (xs ls : List ℕ) (n J L : ℕ) where
   pub fresh-sizes : sizesForm n J L ≡ false
-      → After (freshOn xs ls n J L) xs ls xs ls (Answer.Refused Refusal.Sizes)
+      → FreshMade n J L xs ls xs ls (Answer.Refused Refusal.Sizes)
   unfolding freshOn
-  fresh-sizes h = refused-after xs ls Refusal.Sizes _ (need-not _ _ _ _ _ h)
+  fresh-sizes h = record {
+    after = refused-after xs ls Refusal.Sizes _ (need-not _ _ _ _ _ h);
+    form = λ t. absurd (true≠false t);
+  }
 
   abbrev enough : Bool
   enough = leb (siteWords n J) (length xs) && leb (linksWords n J L) (length ls)
 
   pub fresh-short : sizesForm n J L ≡ true → enough ≡ false
-      → After (freshOn xs ls n J L) xs ls xs ls (Answer.Refused Refusal.Buffer)
+      → FreshMade n J L xs ls xs ls (Answer.Refused Refusal.Buffer)
   unfolding freshOn
-  fresh-short h e = refused-after xs ls Refusal.Buffer _
-      (need-met _ _ _ _ _ h ∙ need-not _ _ _ _ _ e)
+  fresh-short h e = record {
+    after = refused-after xs ls Refusal.Buffer _ (need-met _ _ _ _ _ h ∙ need-not _ _ _ _ _ e);
+    form = λ t. absurd (true≠false t);
+  }
 
   -- what a box of the fresh site knows
   abbrev knows : Setting
@@ -80,6 +87,11 @@ module _ (xs ls : List ℕ) (n J L : ℕ) where
         box = boxes t;
         link = letters t;
       }
+
+      by-form : sizesForm n J L ≡ true → memoryForm xs' ls' ≡ true
+      by-form h =
+          form-both xs' ls' (readable-made xs' ls' 0 (rw known (rows .lent)) (rw known (links .lent)))
+          (ap form fresh-site ∙ fresh-form n J L h)
 
       pub fresh-done : sizesForm n J L ≡ true → enough ≡ true → length xs0 ≡ length xs
           → After (freshOn xs ls n J L) xs ls xs' ls' Answer.Done
@@ -119,12 +131,14 @@ module _ (xs ls : List ℕ) (n J L : ℕ) where
       → enough ≡ true
       → (xs0 : List ℕ) → xs0 ≡ settingPut (knowing w) xs
       → RowsPut (knowing w) (λ b. freshBox) xs0 xs'
-      → LinksPut (knowing w) (λ a b. []) ls ls'
-      → After (freshOn xs ls n J L) xs ls xs' ls' Answer.Done
+      → LinksPut (knowing w) (λ a b. []) ls ls' → FreshMade n J L xs ls xs' ls' Answer.Done
   fresh-made w e xs' ls' h g xs0 put rows links =
-      fresh-done xs0 xs' ls'
-      (ap (λ (ys : List ℕ). settingAt ys 0) put ∙ setting-put (knowing w) xs (five-room g) ∙ ap
-      knowing e)
-      (subst (λ v. RowsPut (knowing v) (λ b. freshBox) xs0 xs') e rows)
-      (subst (λ v. LinksPut (knowing v) (λ a b. []) ls ls') e links) h g
-      (ap length put ∙ setting-length (knowing w) xs)
+      let known = ap (λ (ys : List ℕ). settingAt ys 0) put ∙ setting-put (knowing w) xs
+      (five-room g) ∙ ap knowing e in
+      let rows' = subst (λ v. RowsPut (knowing v) (λ b. freshBox) xs0 xs') e rows in
+      let links' = subst (λ v. LinksPut (knowing v) (λ a b. []) ls ls') e links in
+      record {
+        after = fresh-done xs0 xs' ls' known rows' links' h g
+            (ap length put ∙ setting-length (knowing w) xs);
+        form = λ t. by-form xs0 xs' ls' known rows' links' h;
+      }

@@ -59,3 +59,8 @@ holdsOn xs ls c k left right =
 pub record FormedStep (d : Call) (xs ls xs' ls' : List ℕ) (a : Answer) : Type 0 where
   pub after : After (step (siteOf xs ls) d) xs ls xs' ls' a
   pub form : memoryForm xs' ls' ≡ true
+
+-- a fresh site, by form where it is done
+pub record FreshMade (n J L : ℕ) (xs ls xs' ls' : List ℕ) (a : Answer) : Type 0 where
+  pub after : After (freshOn xs ls n J L) xs ls xs' ls' a
+  pub form : isRefusal a ≡ false → memoryForm xs' ls' ≡ true

@@ -5,7 +5,7 @@ ghost use lib.ListN.{length};
 ghost use Rattle.rules.specs.Sizes.{mostBoxes};
 ghost use Rattle.rules.specs.Sets.{fullSet};
 ghost use Rattle.site.specs.General.{settingPut};
-ghost use Rattle.site.specs.Entries.{After, freshOn};
+ghost use Rattle.site.specs.Entries.{FreshMade};
 use rules::model::Answer;
 use rules::model::Refusal;
 use rules::model::Setting;
@@ -39,8 +39,7 @@ fn put_setting(site: &mut [u64], s: Setting)
 // A fresh site of n boxes in any words.
 pub fn fresh(site: &mut [u64], links: &mut [u64], n: u32, j: u32, l: u32) -> Answer
     ensures { λ r.
-        ⌜ After (freshOn (now (site .entry)) (now (links .entry)) n j l) (now (site .entry))
-        (now (links .entry)) (now (site .exit)) (now (links .exit)) r ⌝ }
+        ⌜ FreshMade n j l (now (site .entry)) (now (links .entry)) (now (site .exit)) (now (links .exit)) r ⌝ }
 {
     if !memory::are_sizes(n as u64, j as u64, l as u64) {
         return Answer::Refused(Refusal::Sizes);
