@@ -1,0 +1,2 @@
+-- Words that the engine's entries made, and what holds of them.
+pub mod Served

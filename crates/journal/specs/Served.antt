@@ -1,0 +1,29 @@
+-- Words that `fresh` made and any calls of `step` since: nothing is asked of their order, number or
+-- kind, and a refused call counts too.
+use Prim.Native.Nat.{ℕ}
+use mathlib.Core.Path.{_≡_}
+use mathlib.Core.List.{List, [], _∷_}
+use Rattle.rules.specs.declared.model.Answer.{Answer}
+use Rattle.rules.specs.declared.model.Call.{Call}
+use Rattle.laws.proofs.FormKept.{CallFits}
+use Rattle.site.specs.Entries.{After, FreshMade, stepOn, holdsOn}
+
+-- the calls since (the latest first), and the words that they left. By the contracts of `fresh` and
+-- `step` a program that calls them has just this. Frame numbers are numbers of 32 bits.
+pub data Served (n J L : ℕ) : List Call → List ℕ → List ℕ → Type 0 where
+  made : {xs ls xs' ls' : List ℕ} → FreshMade n J L xs ls xs' ls' Answer.Done
+      → Served n J L [] xs' ls'
+  called : {calls : List Call} {xs ls xs' ls' : List ℕ} {a : Answer} (d : Call) → CallFits d
+      → Served n J L calls xs ls → After (stepOn xs ls d) xs ls xs' ls' a
+      → Served n J L (d ∷ calls) xs' ls'
+
+pub record Journal : Type 0 where
+  -- Two holds lines that are true of one load number name the same frames.
+  pub one-pair : {n J L : ℕ} {calls : List Call} {xs ls : List ℕ} → Served n J L calls xs ls
+      → (b d k left right left' right' : ℕ) → holdsOn xs ls b k left right ≡ Answer.Done
+      → holdsOn xs ls d k left' right' ≡ Answer.Done → (left ≡ left') × (right ≡ right')
+  -- A holds line that is true stays true at every call.
+  pub kept : {n J L : ℕ} {calls : List Call} {xs ls xs' ls' : List ℕ} {a : Answer} (d : Call)
+      → CallFits d → Served n J L calls xs ls → After (stepOn xs ls d) xs ls xs' ls' a
+      → (b k left right : ℕ) → holdsOn xs ls b k left right ≡ Answer.Done
+      → holdsOn xs' ls' b k left right ≡ Answer.Done
