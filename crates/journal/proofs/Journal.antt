@@ -15,6 +15,7 @@ use Rattle.rules.specs.declared.model.Call.{Call}
 use Rattle.laws.proofs.Logic.{Or, left, right, decide, true≠false, and-yes, and-both, eqb-yes}
 use Rattle.laws.proofs.FormLaws.{sizes-says, is-box}
 use Rattle.laws.proofs.FormKept.{CallFits}
+use Rattle.laws.proofs.LeftAlone.{other-box}
 use Rattle.memory.specs.Memory.{siteWords, linksWords, siteOf, readable, memoryForm}
 use Rattle.memory.proofs.LentLaws.{form-readable}
 use Rattle.site.specs.Entries.{isRefusal, After, FreshMade, FormedStep, freshOn, stepOn, holdsOn}
@@ -189,4 +190,10 @@ journal = record {
         left-is = ap leftOf (g .1) ∙ t .left-is;
         right-is = ap rightOf (g .1) ∙ t .right-is;
       }));
+  stopped = λ c b served after.
+      let i = inner (Call.Stop c) (holds-run served .form) after in
+      ap (λ (s : Site). s .box b) (i .site) ∙ other-box _ b (Call.Stop c) tt;
+  returned = λ c b served after.
+      let i = inner (Call.Return c) (holds-run served .form) after in
+      ap (λ (s : Site). s .box b) (i .site) ∙ other-box _ b (Call.Return c) tt;
 }

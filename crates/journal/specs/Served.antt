@@ -6,6 +6,7 @@ use mathlib.Core.List.{List, [], _∷_}
 use Rattle.rules.specs.declared.model.Answer.{Answer}
 use Rattle.rules.specs.declared.model.Call.{Call}
 use Rattle.laws.proofs.FormKept.{CallFits}
+use Rattle.memory.specs.Memory.{siteOf}
 use Rattle.site.specs.Entries.{After, FreshMade, stepOn, holdsOn}
 
 -- the calls since (the latest first), and the words that they left. By the contracts of `fresh` and
@@ -27,3 +28,10 @@ pub record Journal : Type 0 where
       → CallFits d → Served n J L calls xs ls → After (stepOn xs ls d) xs ls xs' ls' a
       → (b k left right : ℕ) → holdsOn xs ls b k left right ≡ Answer.Done
       → holdsOn xs' ls' b k left right ≡ Answer.Done
+  -- A box that stops and a box that returns keep all that they store.
+  pub stopped : {n J L : ℕ} {calls : List Call} {xs ls xs' ls' : List ℕ} {a : Answer} (c b : ℕ)
+      → Served n J L calls xs ls → After (stepOn xs ls (Call.Stop c)) xs ls xs' ls' a
+      → siteOf xs' ls' .box b ≡ siteOf xs ls .box b
+  pub returned : {n J L : ℕ} {calls : List Call} {xs ls xs' ls' : List ℕ} {a : Answer} (c b : ℕ)
+      → Served n J L calls xs ls → After (stepOn xs ls (Call.Return c)) xs ls xs' ls' a
+      → siteOf xs' ls' .box b ≡ siteOf xs ls .box b
