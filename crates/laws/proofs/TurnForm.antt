@@ -18,7 +18,7 @@ use Rattle.rules.specs.Mails.{onMail}
 use Rattle.rules.specs.Steps.{recover, collect, started, leased, hasPrevious, ready, offer}
 use Rattle.rules.specs.Steps.{canPropose, propose, canAgree, agree, finish, acted}
 use Rattle.rules.specs.Box.{Box, Letter, Event, own, mail, heldAt, mine, written, enclosed}
-use Rattle.rules.specs.Box.{letterOf, turnOf, turned, brought}
+use Rattle.rules.specs.Box.{BookFits, letterOf, turnOf, turned, brought}
 use Rattle.laws.proofs.Types.{Act, Answer, Book, BoxState, Held, Kind, Out, Refusal, Setting}
 use Rattle.laws.proofs.Types.{Turn, Verdict}
 use Rattle.laws.proofs.Logic.{Or, left, right, In, All, nil, cons, All-at, All-take, and-yes}
@@ -35,12 +35,6 @@ use Rattle.laws.proofs.StoreForm.{PeersForm, unknown-form, noted-form, 
 use Rattle.laws.proofs.StoreForm.{peers-part, box-of}
 
 -- ---- a turn that fits
-
--- the change of the book fits the box's records rs and the mail's ms
-abbrev pub BookFits : ℕ → List ℕ → List ℕ → Book → Type 0
-BookFits J rs ms Book.Keep = Unit {0}
-BookFits J rs ms (Book.Put l r) = (l ≤ length rs) × (l < J)
-BookFits J rs ms (Book.Take a l) = (a ≤ length rs) × (a < l) × (l ≤ length ms) × (l ≤ J)
 
 -- what is sent, with its records of rs, goes to boxes of the site and is by form
 abbrev pub OutFits : ℕ → ℕ → List ℕ → Out → Type 0

@@ -12,7 +12,7 @@ use Rattle.words.proofs.PartLaws.{length-part}
 use Rattle.rules.specs.Sizes.{mostBoxes, sizesForm, unknown}
 use Rattle.rules.specs.Parts.{allUnknown}
 use Rattle.rules.specs.Steps.{elected}
-use Rattle.rules.specs.Box.{Box, turned}
+use Rattle.rules.specs.Box.{Box, turned, BookFits}
 use Rattle.rules.specs.Form.{formBox}
 use Rattle.rules.specs.Site.{freshHead, freshBox, isBox}
 use Rattle.rules.specs.declared.model.BoxState.{BoxState}
@@ -22,7 +22,7 @@ use Rattle.laws.proofs.Logic.{left, right, passed, _&_, none, made}
 use Rattle.laws.proofs.FormLaws.{Peer, sizes-says, box-says}
 use Rattle.place.specs.Place.{letterAt}
 use Rattle.row.specs.Row.{headOf, boxOf, rowFits, rowForm, wordsOf}
-use Rattle.row.specs.Lent.{RowSized, RowByForm, BookFits, Plays, Played}
+use Rattle.row.specs.Lent.{RowSized, RowByForm, Plays, Played}
 use Rattle.row.proofs.PeerLaws.{peers-at, peer-above}
 use Rattle.row.proofs.StoreLaws.{box-stored, fits-stored}
 use Rattle.row.proofs.TurnLaws.{row-formed}

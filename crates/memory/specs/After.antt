@@ -10,7 +10,7 @@ use Rattle.rules.specs.Sizes.{sizesForm}
 use Rattle.rules.specs.Every.{every}
 use Rattle.rules.specs.Sets.{has, setForm}
 use Rattle.rules.specs.Steps.{elected}
-use Rattle.rules.specs.Box.{Box, Letter, letterOf, turned}
+use Rattle.rules.specs.Box.{Box, Letter, BookFits, letterOf, turned}
 use Rattle.rules.specs.Site.{isBox, isLink}
 use Rattle.rules.specs.Form.{formBox, formLetter}
 use Rattle.rules.specs.declared.model.Mail.{Mail}
@@ -18,7 +18,6 @@ use Rattle.rules.specs.declared.model.Setting.{Setting}
 use Rattle.rules.specs.declared.model.Turn.{Turn}
 use Rattle.place.specs.Place.{letterAt, placeForm}
 use Rattle.row.specs.Row.{boxOf, rowFits}
-use Rattle.row.specs.Lent.{BookFits}
 use Rattle.link.specs.Link.{placeWidth, linkWidth, linkOf, linkFits}
 use Rattle.memory.specs.Memory.{siteWords, linksWords, rowAt, linkAt, boxIn, linkIn}
 

@@ -17,16 +17,7 @@ ghost use Rattle.memory.specs.Parts.{
 use crate::general;
 use crate::places;
 use rules::model::Setting;
-
-// The sizes are in range, whatever the words are.
-pub fn are_sizes(n: u64, j: u64, l: u64) -> bool
-    ensures { λ r. ⌜ r ≡ sizesForm n j l ⌝ }
-{
-    let boxes = (1 <= n) & (n <= 5);
-    let loads = (1 <= j) & (j <= 4096);
-    let mails = (1 <= l) & (l <= 16);
-    boxes & loads & mails
-}
+use rules::ranges;
 
 // The sizes, the epoch and the present set are by form, whatever the words are.
 fn is_general(site: &[u64]) -> bool
@@ -35,7 +26,7 @@ fn is_general(site: &[u64]) -> bool
     if site.len() < 5 {
         return false;
     }
-    if !are_sizes(site[0], site[1], site[2]) {
+    if !ranges::are_sizes(site[0], site[1], site[2]) {
         return false;
     }
     let present = row::is_set(place::number(site[0]), site[4]);

@@ -1,26 +1,11 @@
-// Numbers of boxes, sets of them, and what a box knows of its site.
+// Sets of boxes, and what a box knows of its site.
 ghost use mathlib.Core.Path.{_≡_};
 ghost use Prim.Native.Nat.{_≤_};
 ghost use Rattle.rules.specs.Sizes.{mostBoxes};
 ghost use Rattle.rules.specs.Sets.{has};
-ghost use Rattle.rules.specs.Site.{isBox, isLink};
 ghost use Rattle.memory.specs.After.{settingAt, GeneralLent};
 use rules::model::Setting;
 use rules::sets;
-
-pub fn is_box(n: u32, c: u32) -> bool
-    ensures { λ r. ⌜ r ≡ isBox n c ⌝ }
-{
-    (1 <= c) & (c <= n)
-}
-
-pub fn is_link(n: u32, a: u32, b: u32) -> bool
-    ensures { λ r. ⌜ r ≡ isLink n a b ⌝ }
-{
-    let from = is_box(n, a);
-    let to = is_box(n, b);
-    from & to & (a != b)
-}
 
 // Box k is in the set w.
 pub fn has(w: u32, k: u32) -> bool

@@ -11,7 +11,8 @@ use Rattle.rules.specs.Own.{OwnOutcome, unmoved, ownTurn, ownStep}
 use Rattle.laws.proofs.Types.{Answer, Refusal, Setting, Turn}
 use Rattle.laws.proofs.Logic.{both-no}
 use Rattle.laws.proofs.StepLaws.{by-needs}
-use Rattle.own.specs.Entry.{ownBox, isRefusal, isAccepted, buffered, ownOn, lettersIn, Owned}
+use Rattle.rules.specs.Answers.{isRefusal, isAccepted}
+use Rattle.own.specs.Entry.{ownBox, buffered, ownOn, lettersIn, Owned}
 
 -- a row, a place, an answer and a set that show the same
 pub record Alike (s : Setting) (r out : List ℕ) (a : Answer) (to : ℕ)

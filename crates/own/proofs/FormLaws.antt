@@ -8,7 +8,7 @@ use lib.ListN.{length, getD}
 use lib.Seq.{length-take-le}
 use borrow.Author.Tests.{leb-true, le-leb, lt-leb}
 use Rattle.rules.specs.Every.{all}
-use Rattle.rules.specs.Sizes.{mostBoxes, mostLoads, mostMails, mostEpoch, within, sizesForm}
+use Rattle.rules.specs.Sizes.{mostBoxes, mostEpoch, within, sizesForm}
 use Rattle.rules.specs.Sets.{setForm}
 use Rattle.rules.specs.Box.{own, mail}
 use Rattle.rules.specs.Form.{formBox, formLetter}
@@ -88,11 +88,6 @@ module _ (s : Setting) where
       record { words = length-take-le (5 + s .j) p h; most = sizes-says sizes .few-loads }
 
 -- ---- the tests together
-
-pub sizes-tested : (n J L : ℕ)
-    → (within 1 mostBoxes n && within 1 mostLoads J && within 1 mostMails L) ≡ sizesForm n J L
-unfolding sizesForm all
-sizes-tested n J L = simp (and-assoc, and-true)
 
 module _ (s : Setting) (r : List ℕ) where
   -- what is by form before a step of its own ..

@@ -1,7 +1,6 @@
 -- The laws of `specs/`, and how firm its statement is.
 pub mod OrderLaws
 pub mod FormLaws
-pub mod TakeLaws
 pub mod TurnLaws
 pub mod PostLaws
 pub mod OwnedLaws

@@ -14,7 +14,8 @@ use Rattle.laws.proofs.Types.{Answer, Refusal, Setting, Turn}
 use Rattle.laws.proofs.Logic.{both-no, and-both}
 use Rattle.place.specs.Place.{letterAt}
 use Rattle.own.specs.Entry.{rowOf, placeOf, ownBox, rowReads, placeReads}
-use Rattle.own.specs.Entry.{isRefusal, isAccepted, buffered, Owned}
+use Rattle.rules.specs.Answers.{isRefusal, isAccepted}
+use Rattle.own.specs.Entry.{buffered, Owned}
 use Rattle.own.specs.Lent.{Carries, Carried, Concludes, concluded, StillReads}
 
 -- Nothing has changed, and nothing is sent.

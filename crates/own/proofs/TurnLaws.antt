@@ -12,18 +12,16 @@ use borrow.Author.Tests.{ltb-true, ltb-false}
 use Rattle.rules.specs.Sizes.{mostBoxes, unknown, sizesForm}
 use Rattle.rules.specs.Sets.{setForm}
 use Rattle.rules.specs.Box.{Box, Event, enclosed, turnOf, brought}
-use Rattle.laws.proofs.Types.{Book, Kind, Out, Setting}
+use Rattle.laws.proofs.Types.{Kind, Out, Setting}
 use Rattle.laws.proofs.Logic.{Or, left, right, In, All, All-head, decide}
 use Rattle.laws.proofs.FormLaws.{Proper, proper-some, Peer, FormedBox, FormedKind}
 use Rattle.laws.proofs.FormLaws.{sizes-says}
-use Rattle.laws.proofs.TurnForm.{BookFits, OutFits, Fits, EventFits, turn-fits}
+use Rattle.laws.proofs.TurnForm.{OutFits, Fits, EventFits, turn-fits}
 use Rattle.place.specs.Place.{letterAt}
 use Rattle.place.specs.Lent.{enclosedFrom, enclosedCount}
-use Rattle.row.specs.Lent as row
 use Rattle.own.specs.Entry.{ownBox}
 use Rattle.own.specs.Lent.{Posts, Concludes}
 use Rattle.own.proofs.FormLaws.{OwnRow}
-use Rattle.own.proofs.TakeLaws.{Takes, turn-takes}
 
 -- ---- the row
 
@@ -35,12 +33,6 @@ peers-above {n} {J} {b} {x} f k h m = go (f .peers k (omega arith, m))
     go : Peer n J b k (getD (x .head .peers) (k - 1) 0) → getD (x .head .peers) (k - 1) 0 ≡ unknown
     go (left e) = e
     go (right p) = absurd (omega (arith, p .0))
-
-book-fits : (J : ℕ) (rs ms : List ℕ) (b : Book) → BookFits J rs ms b → Takes b
-    → row.BookFits J rs ms b
-book-fits J rs ms Book.Keep h g = tt
-book-fits J rs ms (Book.Put l r) h g = h
-book-fits J rs ms (Book.Take a l) h g = (h .0, g, h .2, h .3)
 
 -- ---- the place
 
@@ -98,7 +90,7 @@ concludes s r p e sizes own me present fits same =
           words = length-take-le (20 + s .j) r (own .long);
           loads = z .few-loads;
           count = own .count;
-          book = book-fits (s .j) _ _ (t .book) (f .book) (turn-takes s x e);
+          book = f .book;
         };
         five = f .box .places;
         above = peers-above (f .box);

@@ -2,11 +2,12 @@
 -- receivers out.
 use Prim.Native.Nat.{ℕ, _+_}
 use mathlib.Core.Path.{_≡_}
-use mathlib.Core.Bool.{Bool, true, false, not, _&&_, _||_, cond}
+use mathlib.Core.Bool.{Bool, true, not, _&&_, _||_, cond}
 use mathlib.Core.List.{List, [], _∷_}
 use lib.Dec.{eqb, leb, ltb}
 use lib.ListN.{length, take}
 use Rattle.rules.specs.Sizes.{sizesForm}
+use Rattle.rules.specs.Answers.{isRefusal, isAccepted}
 use Rattle.rules.specs.Box.{Box, Letter, Event, own, mail}
 use Rattle.rules.specs.Own.{OwnOutcome, unmoved, ownStep}
 use Rattle.rules.specs.declared.model.Act.{Act}
@@ -36,18 +37,6 @@ rowReads J r = leb (20 + J) (length r) && rowFits J (rowOf J r)
 
 unfoldable pub placeReads : ℕ → List ℕ → Bool
 placeReads J p = leb (5 + J) (length p) && placeFits J (placeOf J p)
-
-abbrev pub isRefusal : Answer → Bool
-isRefusal Answer.Done = false
-isRefusal Answer.Taken = false
-isRefusal (Answer.Discarded why) = false
-isRefusal (Answer.Refused why) = true
-
-abbrev pub isAccepted : Answer → Bool
-isAccepted Answer.Done = true
-isAccepted Answer.Taken = true
-isAccepted (Answer.Discarded why) = false
-isAccepted (Answer.Refused why) = false
 
 -- refusal 12 where the lent place for the letter is too short for any letter of the site
 unfoldable pub buffered : Setting → Box → List ℕ → OwnOutcome → OwnOutcome

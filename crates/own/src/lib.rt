@@ -4,15 +4,14 @@ ghost use mathlib.Core.Bool.{true, _&&_, cond};
 ghost use Prim.Native.Nat.{_+_};
 ghost use lib.Dec.{ltb};
 ghost use Rattle.rules.specs.Sizes.{mostEpoch, within, sizesForm};
+ghost use Rattle.rules.specs.Answers.{isAccepted};
 ghost use Rattle.rules.specs.Sets.{setForm};
-ghost use Rattle.rules.specs.Site.{isBox, isLink};
 ghost use Rattle.rules.specs.Form.{formBox, formLetter};
 ghost use Rattle.own.specs.Entry.{
   ownBox,
   ownLetter,
   rowReads,
   placeReads,
-  isAccepted,
   actOn,
   mailOn,
   Owned,
@@ -26,6 +25,7 @@ ghost use Rattle.own.specs.Lent.{
   concluded,
   StillReads,
 };
+use rules::answers;
 use rules::model::Act;
 use rules::model::Answer;
 use rules::model::Mail;
@@ -33,6 +33,7 @@ use rules::model::Out;
 use rules::model::Refusal;
 use rules::model::Setting;
 use rules::model::Turn;
+use rules::ranges;
 
 // The answer, and the set of boxes that the letter goes to; the set is empty where there is none.
 pub struct Sent {
@@ -47,15 +48,6 @@ fn refused(why: Refusal) -> Sent
         answer: Answer::Refused(why),
         to: 0,
     }
-}
-
-fn is_sizes(s: Setting) -> bool
-    ensures { λ r. ⌜ r ≡ sizesForm (s .n) (s .j) (s .l) ⌝ }
-{
-    let boxes = (1 <= s.n) & (s.n <= 5);
-    let loads = (1 <= s.j) & (s.j <= 4096);
-    let mails = (1 <= s.l) & (s.l <= 16);
-    boxes & loads & mails
 }
 
 // The epoch and the present set.
@@ -94,38 +86,13 @@ fn is_letter(letter: &[u64], s: Setting) -> bool
     place::is_by_form(&letter[0..end], s.j)
 }
 
-fn is_box(n: u32, c: u32) -> bool
-    ensures { λ r. ⌜ r ≡ isBox n c ⌝ }
-{
-    (1 <= c) & (c <= n)
-}
-
-fn is_link(n: u32, a: u32, b: u32) -> bool
-    ensures { λ r. ⌜ r ≡ isLink n a b ⌝ }
-{
-    let sender = is_box(n, a);
-    let receiver = is_box(n, b);
-    sender & receiver & (a != b)
-}
-
-fn is_accepted(a: Answer) -> bool
-    ensures { λ r. ⌜ r ≡ isAccepted a ⌝ }
-{
-    match a {
-        Answer::Done => true,
-        Answer::Taken => true,
-        Answer::Discarded(_) => false,
-        Answer::Refused(_) => false,
-    }
-}
-
 // 12 where the turn goes on and the place for its letter has too few words.
 fn answer_in(a: Answer, place: usize, j: u32) -> Answer
     ensures { λ r.
         ⌜ r ≡ cond (isAccepted a && ltb place (5 + j)) (Answer.Refused Refusal.Buffer) a ⌝ }
 {
     let room = 5 + j as usize;
-    let accepted = is_accepted(a);
+    let accepted = answers::is_accepted(a);
     if accepted & (place < room) {
         return Answer::Refused(Refusal::Buffer);
     }
@@ -178,7 +145,7 @@ fn conclude(row: &mut [u64], letter: &[u64], out: &mut [u64], s: Setting, t: Tur
 {
     let turned = t.answer;
     let answer = answer_in(turned, out.len(), s.j);
-    if !is_accepted(answer) {
+    if !answers::is_accepted(answer) {
         return Sent {
             answer: answer,
             to: 0,
@@ -201,7 +168,7 @@ pub fn act(row: &mut [u64], out: &mut [u64], s: Setting, a: Act) -> Sent
         (r .answer) (r .to) ⌝ }
     ensures { λ r. ⌜ StillReads s (now (row .entry)) (now (row .exit)) (now (out .exit)) (r .to) ⌝ }
 {
-    if !is_sizes(s) {
+    if !ranges::are_sizes(s.n as u64, s.j as u64, s.l as u64) {
         return refused(Refusal::Sizes);
     }
     let setting = is_setting(s);
@@ -209,7 +176,7 @@ pub fn act(row: &mut [u64], out: &mut [u64], s: Setting, a: Act) -> Sent
     if !(setting & own) {
         return refused(Refusal::Form);
     }
-    if !is_box(s.n, s.me) {
+    if !ranges::is_box(s.n, s.me) {
         return refused(Refusal::Box);
     }
     let end = 20 + s.j as usize;
@@ -226,7 +193,7 @@ pub fn mail(row: &mut [u64], letter: &[u64], out: &mut [u64], s: Setting, sender
         (r .answer) (r .to) ⌝ }
     ensures { λ r. ⌜ StillReads s (now (row .entry)) (now (row .exit)) (now (out .exit)) (r .to) ⌝ }
 {
-    if !is_sizes(s) {
+    if !ranges::are_sizes(s.n as u64, s.j as u64, s.l as u64) {
         return refused(Refusal::Sizes);
     }
     let setting = is_setting(s);
@@ -235,7 +202,7 @@ pub fn mail(row: &mut [u64], letter: &[u64], out: &mut [u64], s: Setting, sender
     if !(setting & own & read) {
         return refused(Refusal::Form);
     }
-    if !is_link(s.n, sender, s.me) {
+    if !ranges::is_link(s.n, sender, s.me) {
         return refused(Refusal::Box);
     }
     let row_end = 20 + s.j as usize;

@@ -9,7 +9,7 @@ use Rattle.words.specs.Rows.{part}
 use Rattle.rules.specs.Every.{all}
 use Rattle.rules.specs.Sizes.{mostBoxes, mostLoads, mostPn, unknown, recordForm}
 use Rattle.rules.specs.Sets.{setForm}
-use Rattle.rules.specs.Box.{written, turned}
+use Rattle.rules.specs.Box.{BookFits, written, turned}
 use Rattle.rules.specs.declared.model.Book.{Book}
 use Rattle.rules.specs.declared.model.Setting.{Setting}
 use Rattle.rules.specs.declared.model.Turn.{Turn}
@@ -79,13 +79,6 @@ abbrev pub countAfter : Book → ℕ → ℕ
 countAfter Book.Keep count = count
 countAfter (Book.Put l r) count = l + 1
 countAfter (Book.Take a l) count = l
-
--- the records that a turn keeps and takes are there, of the box's rs and the mail's ms;
--- there is room for J
-abbrev pub BookFits : ℕ → List ℕ → List ℕ → Book → Type 0
-BookFits J rs ms Book.Keep = Unit
-BookFits J rs ms (Book.Put l r) = (l ≤ length rs) × (l < J)
-BookFits J rs ms (Book.Take a l) = (a ≤ length rs) × (a < l) × (l ≤ length ms) × (l ≤ J)
 
 -- the row r has room for what the book b makes of its records and those of the mail's place p
 pub record Writes (r p : List ℕ) (b : Book) : Type 0 where

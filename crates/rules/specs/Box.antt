@@ -1,6 +1,6 @@
 -- A box and a letter with their records; "A box runs the same rules for its own part": an event in,
 -- a turn out.
-use Prim.Native.Nat.{ℕ}
+use Prim.Native.Nat.{ℕ, _≤_, _<_}
 use mathlib.Core.List.{List, [], _∷_, _++_}
 use lib.Dec.{ltb}
 use lib.ListN.{length, take, drop, getD}
@@ -32,6 +32,13 @@ unfoldable pub written : Book → List ℕ → List ℕ → List ℕ
 written Book.Keep rs ms = rs
 written (Book.Put l r) rs ms = take l rs ++ (r ∷ [])
 written (Book.Take a l) rs ms = take a rs ++ drop a (take l ms)
+
+-- what a turn makes of the book fits the box's records rs and the mail's ms: what it keeps and takes
+-- is there, and there is room for J
+abbrev pub BookFits : ℕ → List ℕ → List ℕ → Book → Type 0
+BookFits J rs ms Book.Keep = Unit {0}
+BookFits J rs ms (Book.Put l r) = (l ≤ length rs) × (l < J)
+BookFits J rs ms (Book.Take a l) = (a ≤ length rs) × (a < l) × (l ≤ length ms) × (l ≤ J)
 
 -- the records that go with a mail: of Last all that are held, of Begin the one at last+1, of Commit
 -- 1 to last

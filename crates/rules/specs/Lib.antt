@@ -4,6 +4,7 @@ pub mod Pick
 pub mod Every
 pub mod Sizes
 pub mod Numbers
+pub mod Answers
 pub mod Sets
 pub mod NewPn
 pub mod Fields

@@ -13,7 +13,7 @@ use Rattle.rules.specs.Box.{Box, Letter, own, mail, turnOf}
 use Rattle.rules.specs.Site.{Site, Outcome, isBox, isLink, setting, room, played, popped}
 use Rattle.rules.specs.Form.{form}
 use Rattle.rules.specs.Needs.{Need, need, ruled}
-use Rattle.rules.specs.Types.{Act, Answer, Call, Refusal, Turn}
+use Rattle.rules.specs.Types.{Act, Answer, Call, Refusal, Setting, Turn}
 
 -- "A refusal returns its number and nothing else; site, links and lent buffers stay."
 abbrev pub refused : Site → Refusal → Outcome
@@ -88,16 +88,40 @@ presented s w = record {
   link = s .link;
 }
 
+-- what the calls need beside form and a box or a link, in the table's order; s is what box c knows
+abbrev pub electNeeds : Setting → List Need
+electNeeds s =
+    need Refusal.Condition (not (even (s .epoch)))
+    ∷ need Refusal.Condition (has (s .present) (s .me))
+    ∷ need Refusal.Majority (leb (majorityOf (s .n)) (ones (s .present)))
+    ∷ []
+
+abbrev pub stopNeeds : Setting → List Need
+stopNeeds s =
+    need Refusal.Condition (has (s .present) (s .me))
+    ∷ need Refusal.Epoch (ltb (s .epoch) mostEpoch)
+    ∷ []
+
+abbrev pub returnNeeds : Setting → List Need
+returnNeeds s =
+    need Refusal.Condition (not (has (s .present) (s .me)))
+    ∷ need Refusal.Epoch (ltb (s .epoch) mostEpoch)
+    ∷ []
+
+abbrev pub timeoutNeeds : Setting → List Need
+timeoutNeeds s =
+    need Refusal.Condition (has (s .present) (s .me))
+    ∷ need Refusal.Condition (even (s .epoch))
+    ∷ need Refusal.Epoch (ltb (s .epoch) mostEpoch)
+    ∷ []
+
+abbrev pub loseNeeds : List Letter → List Need
+loseNeeds link = need Refusal.Condition (not (eqb (length link) 0)) ∷ []
+
 -- the thirteen calls
 unfoldable pub step : Site → Call → Outcome
 step s (Call.Elect c) =
-    ruled (refused s)
-    (atBox s c
-    (need Refusal.Condition (not (even (s .epoch)))
-    ∷ need Refusal.Condition (has (s .present) c)
-    ∷ need Refusal.Majority (leb (majorityOf (s .n)) (ones (s .present)))
-    ∷ []))
-    (did (elect s c))
+    ruled (refused s) (atBox s c (electNeeds (setting s c))) (did (elect s c))
 step s (Call.Recover c) = acting s c Act.Recover
 step s (Call.Collect c) = acting s c Act.Collect
 step s (Call.Ready c) = acting s c Act.Ready
@@ -106,33 +130,16 @@ step s (Call.Propose c) = acting s c Act.Propose
 step s (Call.Agree c) = acting s c Act.Agree
 step s (Call.Finish c) = acting s c Act.Finish
 step s (Call.Stop c) =
-    ruled (refused s)
-    (atBox s c
-    (need Refusal.Condition (has (s .present) c)
-    ∷ need Refusal.Epoch (ltb (s .epoch) mostEpoch)
-    ∷ []))
+    ruled (refused s) (atBox s c (stopNeeds (setting s c)))
     (did (presented s (without (s .present) c)))
 step s (Call.Return c) =
-    ruled (refused s)
-    (atBox s c
-    (need Refusal.Condition (not (has (s .present) c))
-    ∷ need Refusal.Epoch (ltb (s .epoch) mostEpoch)
-    ∷ []))
+    ruled (refused s) (atBox s c (returnNeeds (setting s c)))
     (did (presented s (joined (s .present) c)))
 step s (Call.Timeout c) =
-    ruled (refused s)
-    (atBox s c
-    (need Refusal.Condition (has (s .present) c)
-    ∷ need Refusal.Condition (even (s .epoch))
-    ∷ need Refusal.Epoch (ltb (s .epoch) mostEpoch)
-    ∷ []))
+    ruled (refused s) (atBox s c (timeoutNeeds (setting s c)))
     (did (presented s (s .present)))
 step s (Call.Lose a b) =
-    ruled (refused s)
-    (atLink s a b
-    (need Refusal.Condition (not (eqb (length (s .link a b)) 0))
-    ∷ []))
-    (did (popped s a b))
+    ruled (refused s) (atLink s a b (loseNeeds (s .link a b))) (did (popped s a b))
 step s (Call.Deliver a b) =
     ruled (refused s) (atLink s a b []) (delivered s a b (s .link a b))
 

@@ -25,7 +25,8 @@ use Rattle.laws.proofs.StepLaws.{changed}
 use Rattle.memory.specs.Memory.{boxIn, linkIn, siteOf, readable, memoryForm}
 use Rattle.memory.specs.After.{settingAt, boxesOf, linksOf, RowsLent, LinksLent, RowsPut, LinksPut}
 use Rattle.memory.proofs.LentLaws.{general-same, setting-same, readable-rows, readable-made}
-use Rattle.site.specs.Entries.{isRefusal, Accepted, After}
+use Rattle.rules.specs.Answers.{isRefusal, isAccepted}
+use Rattle.site.specs.Entries.{After}
 
 -- ---- needs
 
@@ -113,12 +114,12 @@ module _ (xs ls : List ℕ) (c : ℕ) (link : ℕ → ℕ → List Letter) (t : 
   turn-discarded why e = rw e refl
 
   -- the turn goes on, and there is no room for its mails
-  pub turn-full : Accepted (t .answer) ≡ true → room base c (t .out) ≡ false
+  pub turn-full : isAccepted (t .answer) ≡ true → room base c (t .out) ≡ false
       → outcome ≡ refused (siteOf xs ls) Refusal.Link
   unfolding byAnswer
   turn-full h r = go (t .answer) h
     where
-      go : (a : Answer) → Accepted a ≡ true
+      go : (a : Answer) → isAccepted a ≡ true
           → byAnswer a (siteOf xs ls) base c t ms ≡ refused (siteOf xs ls) Refusal.Link
       go Answer.Done h = need-not _ _ _ _ _ r
       go Answer.Taken h = need-not _ _ _ _ _ r
@@ -126,12 +127,12 @@ module _ (xs ls : List ℕ) (c : ℕ) (link : ℕ → ℕ → List Letter) (t : 
       go (Answer.Refused why) h = absurd (true≠false (sym h))
 
   -- the turn goes on, and is played
-  pub turn-played : Accepted (t .answer) ≡ true → room base c (t .out) ≡ true
+  pub turn-played : isAccepted (t .answer) ≡ true → room base c (t .out) ≡ true
       → outcome ≡ record { answer = t .answer; next = played base c t ms }
   unfolding byAnswer
   turn-played h r = go (t .answer) h
     where
-      go : (a : Answer) → Accepted a ≡ true
+      go : (a : Answer) → isAccepted a ≡ true
           → byAnswer a (siteOf xs ls) base c t ms ≡ record { answer = a; next = played base c t ms }
       go Answer.Done h = need-met _ _ _ _ _ r ∙ no-needs _ _
       go Answer.Taken h = need-met _ _ _ _ _ r ∙ no-needs _ _

@@ -24,7 +24,8 @@ use Rattle.memory.proofs.LentLaws.{form-readable, setting-same, readable-rows, 
 use Rattle.site.specs.General.{generalPut, withGeneral}
 use Rattle.site.proofs.GeneralLaws.{general-length, general-put, general-readable}
 use Rattle.site.specs.Entries.{After}
-use Rattle.site.specs.Verdicts.{verdictOf, electNeeds, loseNeeds}
+use Rattle.site.specs.Verdicts.{verdictOf}
+use Rattle.rules.specs.Step.{loseNeeds}
 use Rattle.site.proofs.AfterLaws.{refused-after, changed-after, rows-same, site-changed}
 use Rattle.site.proofs.CallLaws.{verdict-go, verdict-refuse, lose-needs}
 

@@ -19,7 +19,8 @@ use Rattle.rules.specs.declared.model.Verdict.{Verdict}
 use Rattle.memory.specs.Memory.{siteOf, memoryForm}
 use Rattle.memory.specs.After.{settingAt, boxesOf}
 use Rattle.memory.proofs.LentLaws.{form-site}
-use Rattle.site.specs.Verdicts.{verdictOf, electNeeds, stopNeeds, returnNeeds, timeoutNeeds, loseNeeds}
+use Rattle.site.specs.Verdicts.{verdictOf}
+use Rattle.rules.specs.Step.{electNeeds, stopNeeds, returnNeeds, timeoutNeeds, loseNeeds}
 use Rattle.site.proofs.AfterLaws.{no-needs, need-met, need-not}
 
 -- ---- needs as a verdict

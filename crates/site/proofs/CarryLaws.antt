@@ -8,7 +8,6 @@ use Rattle.rules.specs.Every.{every}
 use Rattle.rules.specs.Sets.{has}
 use Rattle.rules.specs.Box.{Box, Letter, turned}
 use Rattle.rules.specs.Site.{isBox, upd, posted}
-use Rattle.rules.specs.declared.model.Book.{Book}
 use Rattle.rules.specs.declared.model.Mail.{Mail}
 use Rattle.rules.specs.declared.model.Out.{Out}
 use Rattle.rules.specs.declared.model.Setting.{Setting}
@@ -16,8 +15,7 @@ use Rattle.rules.specs.declared.model.Turn.{Turn}
 use Rattle.laws.proofs.FormLaws.{box-made, letter-made}
 use Rattle.laws.proofs.FrameLaws.{upd-same}
 use Rattle.laws.proofs.Receivers.{NotTo}
-use Rattle.laws.proofs.TurnForm.{BookFits, OutFits, Fits}
-use Rattle.row.specs.Lent as row
+use Rattle.laws.proofs.TurnForm.{OutFits, Fits}
 use Rattle.memory.specs.After.{boxesOf, linksOf, roomFor, RowsLent, LinksLent, BoxLent, RowsPut, LinksPut, Sends, Playable}
 use Rattle.site.specs.Carry.{roomOut, Posts, Carries, Carried}
 
@@ -64,18 +62,12 @@ posts s ls (Out.To set m) rs fits apart room lent me = record {
   letter = letter-made (fits .1);
 }
 
--- the two crates say the same of a book
-book-fits : (J : ℕ) (rs ms : List ℕ) (b : Book) → BookFits J rs ms b → row.BookFits J rs ms b
-book-fits J rs ms Book.Keep h = tt
-book-fits J rs ms (Book.Put l r) h = h
-book-fits J rs ms (Book.Take a l) h = h
-
 module _ {s : Setting} {xs ls ms : List ℕ} {t : Turn} (can : Carries s xs ls ms t) where
   pub playable : Playable s xs ms t
   playable = record {
     lent = can .box;
     form = box-made (can .fits .box);
-    book = book-fits (s .j) _ ms (t .book) (can .fits .book);
+    book = can .fits .book;
   }
 
   -- the box after its turn

@@ -21,7 +21,8 @@ use Rattle.row.specs.Row.{boxOf}
 use Rattle.memory.specs.Memory.{rowAt, rowStart, rowWidth, siteOf, memoryForm}
 use Rattle.memory.specs.After.{settingAt, boxesOf, BoxesLent, RowsPut, LinksPut, electedBoxes}
 use Rattle.site.specs.Entries.{After}
-use Rattle.site.specs.Verdicts.{verdictOf, electNeeds}
+use Rattle.site.specs.Verdicts.{verdictOf}
+use Rattle.rules.specs.Step.{electNeeds}
 use Rattle.site.specs.General.{generalPut}
 use Rattle.site.specs.Carry.{Knows, ElectIs}
 use Rattle.site.specs.Records.{AgreedLie}

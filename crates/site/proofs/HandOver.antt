@@ -20,7 +20,8 @@ use Rattle.place.specs.Place.{letterAt, placeForm}
 use Rattle.link.specs.Link.{placeWidth}
 use Rattle.memory.specs.Memory.{siteOf, memoryForm}
 use Rattle.memory.specs.After.{settingAt, boxesOf, linksOf, BoxLent, LinksPut, HeadStands}
-use Rattle.site.specs.Entries.{isRefusal, Accepted, After}
+use Rattle.rules.specs.Answers.{isRefusal, isAccepted}
+use Rattle.site.specs.Entries.{After}
 use Rattle.site.specs.Carry.{roomOut, lessHead, TakesMail, Knows, Carried}
 use Rattle.site.proofs.TurnAfter.{deliver-refused, deliver-full, deliver-discarded, deliver-played}
 use Rattle.site.proofs.TurnKnown.{box-lent, me-is, turn-is, apart, room-told, carries, carried-known}
@@ -76,14 +77,14 @@ module _ {s : Setting} {xs ls : List ℕ} (know : Knows s xs ls) (a : ℕ)
               d
 
       pub over-discarded : {ls' : List ℕ} → isRefusal (t .answer) ≡ false
-          → Accepted (t .answer) ≡ false
+          → isAccepted (t .answer) ≡ false
           → LinksPut s (lessHead s a ls) ls ls' → After outcome xs ls xs ls' (t .answer)
       over-discarded {ls'} r k put = go (t .answer) r k refl
         where
           put' : LinksPut (settingAt xs (s .me)) (lessHead (settingAt xs (s .me)) a ls) ls ls'
           put' = subst (λ (z : Setting). LinksPut z (lessHead z a ls) ls ls') e put
 
-          go : (b : Answer) → isRefusal b ≡ false → Accepted b ≡ false → t .answer ≡ b
+          go : (b : Answer) → isRefusal b ≡ false → isAccepted b ≡ false → t .answer ≡ b
               → After outcome xs ls xs ls' b
           go Answer.Done r k d = absurd (both-no refl k)
           go Answer.Taken r k d = absurd (both-no refl k)
@@ -102,7 +103,7 @@ module _ {s : Setting} {xs ls : List ℕ} (know : Knows s xs ls) (a : ℕ)
           ∙ sym (room-told xs ls f (s .me) is-me s e (mail a y) t q (roomOut s ls (t .out)) refl)
           ∙ r
 
-      pub over-full : Accepted (t .answer) ≡ true → roomOut s ls (t .out) ≡ false
+      pub over-full : isAccepted (t .answer) ≡ true → roomOut s ls (t .out) ≡ false
           → After outcome xs ls xs ls (Answer.Refused Refusal.Link)
       over-full k r = deliver-full xs ls f a (s .me) is y _ head t is-turn k (room-known false r)
 
@@ -115,7 +116,7 @@ module _ {s : Setting} {xs ls : List ℕ} (know : Knows s xs ls) (a : ℕ)
             (event-foreign xs ls f a (s .me) is s e p h) r;
       }
 
-      pub over-played : {xs' ls' : List ℕ} → Accepted (t .answer) ≡ true
+      pub over-played : {xs' ls' : List ℕ} → isAccepted (t .answer) ≡ true
           → roomOut s ls (t .out) ≡ true
           → Carried s (turned (boxesOf s xs (s .me)) t (y .records))
           (posted (lessHead s a ls) (s .me) (t .out)

@@ -1,3 +1,4 @@
+-- Laws of the engine, from one word to the whole call.
 pub mod AfterLaws
 pub mod CallLaws
 pub mod TurnAfter

@@ -12,7 +12,8 @@ use Rattle.rules.specs.declared.model.Refusal.{Refusal}
 use Rattle.laws.proofs.FormKept.{CallFits, step-keeps-form}
 use Rattle.memory.specs.Memory.{siteOf, readable, memoryForm}
 use Rattle.memory.proofs.LentLaws.{form-readable, form-site, form-both}
-use Rattle.site.specs.Entries.{isRefusal, After, FormedStep, stepOn, holdsOn}
+use Rattle.rules.specs.Answers.{isRefusal}
+use Rattle.site.specs.Entries.{After, FormedStep, stepOn, holdsOn}
 
 -- two results of one call have the same answer and the same site, and where it was refused the same words
 pub record Same (xs ls ys ms : List ℕ) (a b : Answer) : Type 0 where

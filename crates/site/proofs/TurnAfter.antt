@@ -23,11 +23,12 @@ use Rattle.laws.proofs.StepLaws.{changed}
 use Rattle.memory.specs.Memory.{siteOf, readable, memoryForm}
 use Rattle.memory.specs.After.{settingAt, boxesOf, linksOf, RowsPut, LinksPut}
 use Rattle.memory.proofs.LentLaws.{form-readable, setting-same, readable-rows, readable-links, readable-made}
-use Rattle.site.specs.Entries.{isRefusal, Accepted, After}
+use Rattle.rules.specs.Answers.{isRefusal, isAccepted}
+use Rattle.site.specs.Entries.{After}
 use Rattle.site.proofs.AfterLaws.{refused-after, same-after, turn-refused, turn-discarded, turn-full, turn-played, changed-after, rows-same}
 use Rattle.site.proofs.CallLaws.{acting-no-box, acting-turn, deliver-no-link, deliver-head, delivered-turn}
 
-accepted-no-refusal : (a : Answer) → Accepted a ≡ true → isRefusal a ≡ false
+accepted-no-refusal : (a : Answer) → isAccepted a ≡ true → isRefusal a ≡ false
 accepted-no-refusal Answer.Done e = refl
 accepted-no-refusal Answer.Taken e = refl
 accepted-no-refusal (Answer.Discarded why) e = absurd (true≠false (sym e))
@@ -60,10 +61,10 @@ module _ (xs ls : List ℕ) (f : memoryForm xs ls ≡ true) where
             ∙ ap (λ (u : Turn). byTurn s s c u []) (sym e)
 
         -- it changes nothing
-        pub acting-stays : Accepted (t .answer) ≡ false → After (acting s c a) xs ls xs ls (t .answer)
+        pub acting-stays : isAccepted (t .answer) ≡ false → After (acting s c a) xs ls xs ls (t .answer)
         acting-stays h = go (t .answer) h refl
           where
-            go : (r : Answer) → Accepted r ≡ false → t .answer ≡ r
+            go : (r : Answer) → isAccepted r ≡ false → t .answer ≡ r
                 → After (acting s c a) xs ls xs ls r
             go Answer.Done h e = absurd (both-no refl h)
             go Answer.Taken h e = absurd (both-no refl h)
@@ -73,13 +74,13 @@ module _ (xs ls : List ℕ) (f : memoryForm xs ls ≡ true) where
                 refused-after xs ls why _ (is-turn ∙ turn-refused xs ls c (s .link) t [] why e)
 
         -- a link is full
-        pub acting-full : Accepted (t .answer) ≡ true → room s c (t .out) ≡ false
+        pub acting-full : isAccepted (t .answer) ≡ true → room s c (t .out) ≡ false
             → After (acting s c a) xs ls xs ls (Answer.Refused Refusal.Link)
         acting-full h r = refused-after xs ls Refusal.Link _
             (is-turn ∙ turn-full xs ls c (s .link) t [] h r)
 
         -- it is played
-        pub acting-played : (xs' ls' : List ℕ) → Accepted (t .answer) ≡ true
+        pub acting-played : (xs' ls' : List ℕ) → isAccepted (t .answer) ≡ true
             → room s c (t .out) ≡ true
             → RowsPut (at c) (upd (boxesOf (at c) xs) c (turned (box c) t [])) xs xs'
             → LinksPut (at c) (posted (linksOf (at c) ls) c (t .out) (turned (box c) t [] .records))
@@ -136,7 +137,7 @@ module _ (xs ls : List ℕ) (f : memoryForm xs ls ≡ true) where
             refused-after xs ls why _ (mail-turn ∙ turn-refused xs ls b (base .link) t (y .records)
             why d)
 
-        pub deliver-full : Accepted (t .answer) ≡ true → room base b (t .out) ≡ false
+        pub deliver-full : isAccepted (t .answer) ≡ true → room base b (t .out) ≡ false
             → After (step s (Call.Deliver a b)) xs ls xs ls (Answer.Refused Refusal.Link)
         deliver-full h r =
             refused-after xs ls Refusal.Link _
@@ -152,7 +153,7 @@ module _ (xs ls : List ℕ) (f : memoryForm xs ls ≡ true) where
             (mail-turn ∙ turn-discarded xs ls b (base .link) t (y .records) why d)
             refl (rows-same xs ls b (form-readable xs ls f)) links
 
-        pub deliver-played : (xs' ls' : List ℕ) → Accepted (t .answer) ≡ true
+        pub deliver-played : (xs' ls' : List ℕ) → isAccepted (t .answer) ≡ true
             → room base b (t .out) ≡ true
             → RowsPut (at b) (upd (boxesOf (at b) xs) b (turned (box b) t (y .records))) xs xs'
             → LinksPut (at b) (posted less b (t .out) (turned (box b) t (y .records) .records)) ls

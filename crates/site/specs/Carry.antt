@@ -18,9 +18,9 @@ use Rattle.words.specs.Rows.{part}
 use Rattle.place.specs.Place.{letterAt}
 use Rattle.link.specs.Link.{placeWidth}
 use Rattle.memory.specs.Memory.{memoryForm}
-use Rattle.memory.specs.After.{settingAt, HeadStands, electedBoxes}
 use Rattle.site.specs.General.{generalPut}
-use Rattle.memory.specs.After.{boxesOf, linksOf, roomFor, LinksLent, BoxLent, RowsPut, LinksPut, Sends}
+use Rattle.memory.specs.After.{settingAt, boxesOf, linksOf, roomFor, electedBoxes, HeadStands}
+use Rattle.memory.specs.After.{LinksLent, BoxLent, RowsPut, LinksPut, Sends}
 
 -- every link that is sent on has room
 abbrev pub roomOut : Setting → List ℕ → Out → Bool

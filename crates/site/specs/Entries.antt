@@ -1,11 +1,12 @@
 -- What the entries promise: the paper's rules on the site that the lent words hold.
 use Prim.Native.Nat.{ℕ}
 use mathlib.Core.Path.{_≡_}
-use mathlib.Core.Bool.{Bool, true, false, _&&_, cond}
+use mathlib.Core.Bool.{true, false, _&&_, cond}
 use mathlib.Core.List.{List, [], _∷_}
 use lib.Dec.{leb}
 use lib.ListN.{length}
 use Rattle.rules.specs.Sizes.{sizesForm}
+use Rattle.rules.specs.Answers.{isRefusal}
 use Rattle.rules.specs.Site.{Site, Outcome, fresh}
 use Rattle.rules.specs.Needs.{need, ruled}
 use Rattle.rules.specs.Step.{refused, did, step, holds}
@@ -13,19 +14,6 @@ use Rattle.rules.specs.declared.model.Answer.{Answer}
 use Rattle.rules.specs.declared.model.Call.{Call}
 use Rattle.rules.specs.declared.model.Refusal.{Refusal}
 use Rattle.memory.specs.Memory.{siteWords, linksWords, siteOf, readable, memoryForm}
-
-abbrev pub isRefusal : Answer → Bool
-isRefusal Answer.Done = false
-isRefusal Answer.Taken = false
-isRefusal (Answer.Discarded why) = false
-isRefusal (Answer.Refused why) = true
-
--- a turn that is done or taken
-abbrev pub Accepted : Answer → Bool
-Accepted Answer.Done = true
-Accepted Answer.Taken = true
-Accepted (Answer.Discarded why) = false
-Accepted (Answer.Refused why) = false
 
 -- the outcome o of a call on the words xs and ls: they have become xs' and ls', and a was answered
 pub record After (o : Outcome) (xs ls xs' ls' : List ℕ) (a : Answer) : Type 0 where

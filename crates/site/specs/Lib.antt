@@ -1,3 +1,4 @@
+-- What the contracts of `site` cite.
 pub mod Entries
 pub mod Verdicts
 pub mod Records

@@ -1,10 +1,11 @@
-// What a caller calls. No entry but the inner step requires anything: what is not by form is refused.
+// What a caller calls: `step` and `holds` take any words. The formed ones are for loops that have looked at
+// the form once, and require it.
 ghost use mathlib.Core.Path.{_≡_};
 ghost use mathlib.Core.Bool.{true};
 ghost use Rattle.rules.specs.Step.{holds};
 ghost use Rattle.memory.specs.Memory.{siteOf, memoryForm};
 ghost use Rattle.site.specs.Entries.{After, FormedStep, stepOn, holdsOn};
-use crate::calls;
+use crate::elections;
 use crate::mail;
 use crate::presence;
 use crate::records;
@@ -13,6 +14,7 @@ use rules::model::Act;
 use rules::model::Answer;
 use rules::model::Call;
 use rules::model::Refusal;
+use rules::ranges;
 
 // Any call on words by form; they stay by form. For loops that have seen to it once.
 pub fn step_formed(site: &mut [u64], links: &mut [u64], call: Call) -> Answer
@@ -21,7 +23,7 @@ pub fn step_formed(site: &mut [u64], links: &mut [u64], call: Call) -> Answer
         ⌜ FormedStep call (now (site .entry)) (now (links .entry)) (now (site .exit)) (now (links .exit)) r ⌝ }
 {
     match call {
-        Call::Elect(c) => calls::elect(site, links, c),
+        Call::Elect(c) => elections::elect(site, links, c),
         Call::Recover(c) => turns::acting(site, links, c, Act::Recover),
         Call::Collect(c) => turns::acting(site, links, c, Act::Collect),
         Call::Ready(c) => turns::acting(site, links, c, Act::Ready),
@@ -44,7 +46,7 @@ pub fn holds_formed(site: &[u64], links: &[u64], c: u32, k: u32, left: u32, righ
         ⌜ r ≡ holds (siteOf (now (site .entry)) (now (links .entry))) c k left right ⌝ }
 {
     let s = memory::setting_of(site, c);
-    if !memory::is_box(s.n, c) {
+    if !ranges::is_box(s.n, c) {
         return Answer::Refused(Refusal::Box);
     }
     let row = memory::row_of(site, s, c);

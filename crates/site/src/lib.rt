@@ -1,6 +1,5 @@
 // The engine: a fresh site, any call, and a holds line, on two slices of words that the caller lends.
-mod answers;
-mod calls;
+mod elections;
 mod entries;
 mod mail;
 mod presence;

@@ -14,12 +14,13 @@ ghost use Rattle.memory.specs.Memory.{siteOf, memoryForm};
 ghost use Rattle.memory.specs.After.{boxesOf, linksOf};
 ghost use Rattle.site.specs.Entries.{After};
 ghost use Rattle.site.specs.Carry.{lessHead, TakesMail, Knows, Carried};
-use crate::answers;
 use crate::turns;
+use rules::answers;
 use rules::model::Answer;
 use rules::model::Refusal;
 use rules::model::Setting;
 use rules::model::Turn;
+use rules::ranges;
 
 // The turn of box me by the mail that stands at p, the head of the link from a.
 fn carry_mail(site: &mut [u64], links: &mut [u64], s: Setting, a: u32, p: usize, t: Turn)
@@ -74,7 +75,7 @@ pub(crate) fn deliver(site: &mut [u64], links: &mut [u64], a: u32, b: u32) -> An
         (now (site .entry)) (now (links .entry)) (now (site .exit)) (now (links .exit)) r ⌝ }
 {
     let s = memory::setting_of(site, b);
-    if !memory::is_link(s.n, a, b) {
+    if !ranges::is_link(s.n, a, b) {
         return Answer::Refused(Refusal::Box);
     }
     if memory::count(links, s, a, b) == 0 {
@@ -90,7 +91,7 @@ pub(crate) fn lose(site: &[u64], links: &mut [u64], a: u32, b: u32) -> Answer
         (now (site .entry)) (now (links .entry)) (now (site .entry)) (now (links .exit)) r ⌝ }
 {
     let s = memory::setting_of(site, b);
-    if !memory::is_link(s.n, a, b) {
+    if !ranges::is_link(s.n, a, b) {
         return Answer::Refused(Refusal::Box);
     }
     if memory::count(links, s, a, b) == 0 {

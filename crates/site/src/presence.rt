@@ -14,6 +14,7 @@ use rules::model::Answer;
 use rules::model::Refusal;
 use rules::model::Setting;
 use rules::model::Verdict;
+use rules::ranges;
 use rules::sets;
 
 // The epoch and the present set are written.
@@ -60,7 +61,7 @@ pub(crate) fn stop(site: &mut [u64], links: &[u64], c: u32) -> Answer
         (now (site .entry)) (now (links .entry)) (now (site .exit)) (now (links .entry)) r ⌝ }
 {
     let s = memory::setting_of(site, c);
-    if !memory::is_box(s.n, c) {
+    if !ranges::is_box(s.n, c) {
         return Answer::Refused(Refusal::Box);
     }
     let here = memory::has(s.present, c);
@@ -75,7 +76,7 @@ pub(crate) fn come_back(site: &mut [u64], links: &[u64], c: u32) -> Answer
         (now (site .entry)) (now (links .entry)) (now (site .exit)) (now (links .entry)) r ⌝ }
 {
     let s = memory::setting_of(site, c);
-    if !memory::is_box(s.n, c) {
+    if !ranges::is_box(s.n, c) {
         return Answer::Refused(Refusal::Box);
     }
     let here = memory::has(s.present, c);
@@ -90,7 +91,7 @@ pub(crate) fn time_out(site: &mut [u64], links: &[u64], c: u32) -> Answer
         (now (site .entry)) (now (links .entry)) (now (site .exit)) (now (links .entry)) r ⌝ }
 {
     let s = memory::setting_of(site, c);
-    if !memory::is_box(s.n, c) {
+    if !ranges::is_box(s.n, c) {
         return Answer::Refused(Refusal::Box);
     }
     let here = memory::has(s.present, c);

@@ -9,6 +9,7 @@ ghost use Rattle.site.specs.Entries.{FreshMade};
 use rules::model::Answer;
 use rules::model::Refusal;
 use rules::model::Setting;
+use rules::ranges;
 
 // Every box of n.
 fn full_set(n: u32) -> u32
@@ -41,7 +42,7 @@ pub fn fresh(site: &mut [u64], links: &mut [u64], n: u32, j: u32, l: u32) -> Ans
     ensures { λ r.
         ⌜ FreshMade n j l (now (site .entry)) (now (links .entry)) (now (site .exit)) (now (links .exit)) r ⌝ }
 {
-    if !memory::are_sizes(n as u64, j as u64, l as u64) {
+    if !ranges::are_sizes(n as u64, j as u64, l as u64) {
         return Answer::Refused(Refusal::Sizes);
     }
     let s = Setting {

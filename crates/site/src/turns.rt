@@ -11,13 +11,14 @@ ghost use Rattle.rules.specs.Step.{acting};
 ghost use Rattle.laws.proofs.TurnForm.{ActFits};
 ghost use Rattle.memory.specs.Memory.{siteOf, memoryForm};
 ghost use Rattle.site.specs.Entries.{After};
-use crate::answers;
+use rules::answers;
 use rules::model::Act;
 use rules::model::Answer;
 use rules::model::Out;
 use rules::model::Refusal;
 use rules::model::Setting;
 use rules::model::Turn;
+use rules::ranges;
 
 // Every link that is sent on has room.
 pub(crate) fn has_room(links: &[u64], s: Setting, out: Out) -> bool
@@ -72,7 +73,7 @@ pub(crate) fn acting(site: &mut [u64], links: &mut [u64], c: u32, a: Act) -> Ans
         (now (site .entry)) (now (links .entry)) (now (site .exit)) (now (links .exit)) r ⌝ }
 {
     let s = memory::setting_of(site, c);
-    if !memory::is_box(s.n, c) {
+    if !ranges::is_box(s.n, c) {
         return Answer::Refused(Refusal::Box);
     }
     let t = memory::act_turn(site, s, a);

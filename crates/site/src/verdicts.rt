@@ -5,13 +5,8 @@ ghost use Prim.Native.Nat.{_≤_};
 ghost use Rattle.rules.specs.Sets.{has};
 ghost use Rattle.rules.specs.Sizes.{mostBoxes};
 ghost use Rattle.rules.specs.declared.model.Verdict.{Verdict};
-ghost use Rattle.site.specs.Verdicts.{
-  verdictOf,
-  electNeeds,
-  stopNeeds,
-  returnNeeds,
-  timeoutNeeds,
-};
+ghost use Rattle.rules.specs.Step.{electNeeds, stopNeeds, returnNeeds, timeoutNeeds};
+ghost use Rattle.site.specs.Verdicts.{verdictOf};
 use rules::model::Refusal;
 use rules::model::Setting;
 use rules::model::Verdict;

@@ -1,3 +1,4 @@
+-- `feed::feed_end` meets its contract.
 use mathlib.Core.Path.{_≡_}
 use lib.ListN.{length}
 use borrow.Author.Needs.{needs}

@@ -1,3 +1,4 @@
+-- `lines::line_of` meets its contract.
 use Prim.Native.Nat.{ℕ}
 use mathlib.Core.Path.{sym, _∙_, ap}
 use mathlib.Core.Bool.{_||_, not}

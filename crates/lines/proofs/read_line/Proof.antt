@@ -1,3 +1,4 @@
+-- `lines::read_line` meets its contract.
 use mathlib.Core.Path.{sym}
 use borrow.Author.Tests.{le-ltb}
 use borrow.Author.Needs.{needs}

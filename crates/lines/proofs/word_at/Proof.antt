@@ -1,3 +1,4 @@
+-- `lines::word_at` meets its contract.
 use mathlib.Core.Path.{_∙_, ap}
 use borrow.Author.Needs.{needs}
 use Rattle.rules.specs.Pick.{pick}

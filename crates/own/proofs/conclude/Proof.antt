@@ -4,7 +4,7 @@ use mathlib.Core.Bool.{true}
 use native.Mathlib.Nat.{sub-zero}
 use borrow.Author.Needs.{needs}
 use borrow.Author.Tests.{not-true, not-false}
-use Rattle.own.specs.Entry.{isAccepted}
+use Rattle.rules.specs.Answers.{isAccepted}
 use Rattle.own.proofs.OwnedLaws.{still-there, stopped, has-room, can-carry, carried-out}
 use Rattle.own.proofs.OwnedLaws.{reads-again}
 use Rattle.own.proofs.conclude.Statement.{statement}

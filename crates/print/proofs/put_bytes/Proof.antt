@@ -1,3 +1,4 @@
+-- `print::put_bytes` meets its contract.
 use Prim.Native.Nat.{_≤_, _-_, _+_}
 use native.Mathlib.Omega.{arith}
 use lib.ListN.{length, take}

@@ -1,3 +1,4 @@
+-- `lines::Numbers::digit` meets its contract.
 use mathlib.Core.Path.{sym, _∙_, ap}
 use borrow.Author.Needs.{needs}
 use Rattle.lines.specs.Read.{withGrown}

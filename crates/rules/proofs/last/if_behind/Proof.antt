@@ -1,3 +1,4 @@
+-- `rules::last::if_behind` meets its contract.
 use Rattle.rules.specs.Last.{behind}
 use Rattle.rules.proofs.last.if_behind.Statement.{statement}
 use Rattle.rules.proofs.last.if_behind.Tie as tie

@@ -1,3 +1,4 @@
+-- `rules::last::laggards` meets its contract.
 use Rattle.rules.specs.Last.{lagging}
 use borrow.Author.Needs.{needs}
 use Rattle.rules.proofs.last.laggards.Statement.{statement}

@@ -1,3 +1,4 @@
+-- `rules::last::note` meets its contract.
 use Rattle.rules.proofs.Tests.{tests}
 use Rattle.rules.specs.Last.{noted}
 use borrow.Author.Needs.{needs}

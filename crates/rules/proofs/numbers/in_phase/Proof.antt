@@ -1,3 +1,4 @@
+-- `rules::numbers::in_phase` meets its contract.
 use Rattle.rules.specs.Numbers.{inPhase}
 use Rattle.rules.proofs.numbers.in_phase.Statement.{statement}
 use Rattle.rules.proofs.numbers.in_phase.Tie as tie

@@ -1,3 +1,4 @@
+-- `rules::numbers::in_state` meets its contract.
 use Rattle.rules.specs.Numbers.{inState}
 use Rattle.rules.proofs.numbers.in_state.Statement.{statement}
 use Rattle.rules.proofs.numbers.in_state.Tie as tie

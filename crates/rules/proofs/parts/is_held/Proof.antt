@@ -1,3 +1,4 @@
+-- `rules::parts::is_held` meets its contract.
 use Rattle.rules.specs.Parts.{isHeld}
 use borrow.Author.Needs.{needs}
 use Rattle.rules.proofs.parts.is_held.Statement.{statement}

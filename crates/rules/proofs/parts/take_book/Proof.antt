@@ -1,3 +1,4 @@
+-- `rules::parts::take_book` meets its contract.
 use Rattle.rules.proofs.Tests.{tests}
 use Rattle.rules.specs.Parts.{tookBook}
 use Rattle.rules.proofs.parts.take_book.Statement.{statement}

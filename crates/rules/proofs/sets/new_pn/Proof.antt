@@ -1,3 +1,4 @@
+-- `rules::sets::new_pn` meets its contract.
 use mathlib.Core.Path.{refl}
 use Rattle.rules.specs.NewPn.{newPn}
 use borrow.Author.Needs.{needs}

@@ -1,3 +1,4 @@
+-- `rules::turns::first_cause` meets its contract.
 use Rattle.rules.proofs.Tests.{tests}
 use Rattle.rules.specs.Turns.{firstCause}
 use Rattle.rules.proofs.turns.first_cause.Statement.{statement}

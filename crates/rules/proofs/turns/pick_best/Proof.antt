@@ -1,3 +1,4 @@
+-- `rules::turns::pick_best` meets its contract.
 use Rattle.rules.proofs.Tests.{tests}
 use Rattle.rules.proofs.turns.pick_best.Statement.{statement}
 use Rattle.rules.proofs.turns.pick_best.Tie as tie

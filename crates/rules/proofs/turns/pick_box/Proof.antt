@@ -1,3 +1,4 @@
+-- `rules::turns::pick_box` meets its contract.
 use Rattle.rules.proofs.Tests.{tests}
 use Rattle.rules.proofs.turns.pick_box.Statement.{statement}
 use Rattle.rules.proofs.turns.pick_box.Tie as tie

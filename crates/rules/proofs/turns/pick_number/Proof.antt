@@ -1,3 +1,4 @@
+-- `rules::turns::pick_number` meets its contract.
 use Rattle.rules.proofs.Tests.{tests}
 use Rattle.rules.proofs.turns.pick_number.Statement.{statement}
 use Rattle.rules.proofs.turns.pick_number.Tie as tie

@@ -1,3 +1,4 @@
+-- `rules::turns::pick_state` meets its contract.
 use Rattle.rules.proofs.Tests.{tests}
 use Rattle.rules.proofs.turns.pick_state.Statement.{statement}
 use Rattle.rules.proofs.turns.pick_state.Tie as tie

@@ -1,3 +1,4 @@
+-- `rules::turns::pick_turn` meets its contract.
 use Rattle.rules.proofs.Tests.{tests}
 use Rattle.rules.proofs.turns.pick_turn.Statement.{statement}
 use Rattle.rules.proofs.turns.pick_turn.Tie as tie

@@ -1,3 +1,4 @@
+-- `rules::turns::unless` meets its contract.
 use Rattle.rules.proofs.Tests.{tests}
 use Rattle.rules.specs.Turns.{unless}
 use Rattle.rules.proofs.turns.unless.Statement.{statement}

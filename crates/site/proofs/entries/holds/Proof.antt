@@ -1,3 +1,4 @@
+-- `site::entries::holds` meets its contract.
 use mathlib.Core.Path.{_≡_, sym, _∙_}
 use borrow.Author.Needs.{needs}
 use Rattle.site.proofs.Once.{held-formed}

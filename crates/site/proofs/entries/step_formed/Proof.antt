@@ -1,3 +1,4 @@
+-- `site::entries::step_formed` meets its contract.
 use mathlib.Core.List.{tail}
 use native.Mathlib.Omega.{arith}
 use borrow.Author.Needs.{needs}

@@ -1,8 +1,9 @@
+-- `site::presence::come_back` meets its contract.
 use mathlib.Core.Path.{refl}
 use borrow.Author.Needs.{needs}
 use Rattle.rules.specs.Sets.{joined}
 use Rattle.memory.specs.Memory.{siteOf}
-use Rattle.site.specs.Verdicts.{returnNeeds}
+use Rattle.rules.specs.Step.{returnNeeds}
 use Rattle.site.proofs.AfterLaws.{refused-after}
 use Rattle.site.proofs.CallLaws.{return-no-box, return-needs}
 use Rattle.site.proofs.KnownLaws.{general-lent, five-words, box-yes, box-not, box-few}

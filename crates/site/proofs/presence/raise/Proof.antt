@@ -1,3 +1,4 @@
+-- `site::presence::raise` meets its contract.
 use mathlib.Core.Path.{refl}
 use borrow.Author.Needs.{needs}
 use Rattle.site.proofs.presence.raise.Statement.{statement}

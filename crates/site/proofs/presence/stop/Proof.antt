@@ -1,8 +1,9 @@
+-- `site::presence::stop` meets its contract.
 use mathlib.Core.Path.{refl}
 use borrow.Author.Needs.{needs}
 use Rattle.rules.specs.Sets.{without}
 use Rattle.memory.specs.Memory.{siteOf}
-use Rattle.site.specs.Verdicts.{stopNeeds}
+use Rattle.rules.specs.Step.{stopNeeds}
 use Rattle.site.proofs.AfterLaws.{refused-after}
 use Rattle.site.proofs.CallLaws.{stop-no-box, stop-needs}
 use Rattle.site.proofs.KnownLaws.{general-lent, five-words, box-yes, box-not, box-few}

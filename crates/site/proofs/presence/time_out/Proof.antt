@@ -1,7 +1,8 @@
+-- `site::presence::time_out` meets its contract.
 use mathlib.Core.Path.{refl}
 use borrow.Author.Needs.{needs}
 use Rattle.memory.specs.Memory.{siteOf}
-use Rattle.site.specs.Verdicts.{timeoutNeeds}
+use Rattle.rules.specs.Step.{timeoutNeeds}
 use Rattle.site.proofs.AfterLaws.{refused-after}
 use Rattle.site.proofs.CallLaws.{timeout-no-box, timeout-needs}
 use Rattle.site.proofs.KnownLaws.{general-lent, five-words, box-yes, box-not, box-few}

@@ -1,3 +1,4 @@
+-- `site::turns::carry_out` meets its contract.
 use native.Mathlib.Omega.{arith}
 use borrow.Author.Needs.{needs}
 use Rattle.site.proofs.CarryLaws.{playable, posts-after, sent-after}

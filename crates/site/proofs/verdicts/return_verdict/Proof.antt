@@ -1,3 +1,4 @@
+-- `site::verdicts::return_verdict` meets its contract.
 use Rattle.site.specs.Verdicts.{verdictOf}
 use borrow.Author.Needs.{needs}
 use Rattle.site.proofs.verdicts.return_verdict.Statement.{statement}

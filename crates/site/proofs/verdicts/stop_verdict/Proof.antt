@@ -1,3 +1,4 @@
+-- `site::verdicts::stop_verdict` meets its contract.
 use Rattle.site.specs.Verdicts.{verdictOf}
 use borrow.Author.Needs.{needs}
 use Rattle.site.proofs.verdicts.stop_verdict.Statement.{statement}

@@ -1,3 +1,4 @@
+-- `rules::model::Best::better` meets its contract.
 use Rattle.rules.specs.Last.{bettered}
 use borrow.Author.Needs.{needs}
 use Rattle.rules.proofs.model.Best.better.Statement.{statement}

@@ -1,3 +1,4 @@
+-- `rules::model::Best::clear` meets its contract.
 use Rattle.rules.specs.Parts.{cleared}
 use Rattle.rules.proofs.model.Best.clear.Statement.{statement}
 use Rattle.rules.proofs.model.Best.clear.Tie as tie

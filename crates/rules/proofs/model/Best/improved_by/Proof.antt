@@ -1,3 +1,4 @@
+-- `rules::model::Best::improved_by` meets its contract.
 use mathlib.Core.Path.{refl}
 use Rattle.rules.specs.Last.{improves}
 use borrow.Author.Needs.{needs}

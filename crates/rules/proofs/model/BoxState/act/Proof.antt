@@ -1,3 +1,4 @@
+-- `rules::model::BoxState::act` meets its contract.
 use Rattle.rules.specs.Steps.{acted}
 use borrow.Author.Needs.{needs}
 use Rattle.rules.proofs.model.BoxState.act.Statement.{statement}

@@ -1,3 +1,4 @@
+-- `rules::model::BoxState::agree` meets its contract.
 use Rattle.rules.specs.Steps.{agree}
 use borrow.Author.Needs.{needs}
 use Rattle.rules.proofs.model.BoxState.agree.Statement.{statement}

@@ -1,3 +1,4 @@
+-- `rules::model::BoxState::answer` meets its contract.
 use Rattle.rules.specs.Last.{answered}
 use borrow.Author.Needs.{needs}
 use Rattle.rules.proofs.model.BoxState.answer.Statement.{statement}

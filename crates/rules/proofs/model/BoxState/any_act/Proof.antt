@@ -1,3 +1,4 @@
+-- `rules::model::BoxState::any_act` meets its contract.
 use mathlib.Core.Path.{sym, _∙_}
 use Rattle.rules.proofs.BoundLaws.{bounded-box, guard-go, guard-stop}
 use Rattle.rules.specs.Bounds.{anyAct}

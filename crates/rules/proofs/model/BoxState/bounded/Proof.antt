@@ -1,3 +1,4 @@
+-- `rules::model::BoxState::bounded` meets its contract.
 use mathlib.Core.Path.{refl}
 use Rattle.rules.specs.Bounds.{boundedBox}
 use Rattle.rules.proofs.model.BoxState.bounded.Statement.{statement}

@@ -1,3 +1,4 @@
+-- `rules::model::BoxState::can_agree` meets its contract.
 use Rattle.rules.specs.Steps.{canAgree}
 use Rattle.rules.proofs.model.BoxState.can_agree.Statement.{statement}
 use Rattle.rules.proofs.model.BoxState.can_agree.Tie as tie

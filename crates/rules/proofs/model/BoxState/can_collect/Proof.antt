@@ -1,3 +1,4 @@
+-- `rules::model::BoxState::can_collect` meets its contract.
 use Rattle.rules.specs.Steps.{canCollect}
 use Rattle.rules.proofs.model.BoxState.can_collect.Statement.{statement}
 use Rattle.rules.proofs.model.BoxState.can_collect.Tie as tie

@@ -1,3 +1,4 @@
+-- `rules::model::BoxState::can_finish` meets its contract.
 use Rattle.rules.specs.Steps.{canFinish}
 use Rattle.rules.proofs.model.BoxState.can_finish.Statement.{statement}
 use Rattle.rules.proofs.model.BoxState.can_finish.Tie as tie

@@ -1,3 +1,4 @@
+-- `rules::model::BoxState::can_offer` meets its contract.
 use Rattle.rules.specs.Steps.{canOffer}
 use Rattle.rules.proofs.model.BoxState.can_offer.Statement.{statement}
 use Rattle.rules.proofs.model.BoxState.can_offer.Tie as tie

@@ -1,3 +1,4 @@
+-- `rules::model::BoxState::can_propose` meets its contract.
 use Rattle.rules.specs.Steps.{canPropose}
 use Rattle.rules.proofs.model.BoxState.can_propose.Statement.{statement}
 use Rattle.rules.proofs.model.BoxState.can_propose.Tie as tie

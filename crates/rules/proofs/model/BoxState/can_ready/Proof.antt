@@ -1,3 +1,4 @@
+-- `rules::model::BoxState::can_ready` meets its contract.
 use Rattle.rules.specs.Steps.{canReady}
 use Rattle.rules.proofs.model.BoxState.can_ready.Statement.{statement}
 use Rattle.rules.proofs.model.BoxState.can_ready.Tie as tie

@@ -1,3 +1,4 @@
+-- `rules::model::BoxState::can_recover` meets its contract.
 use Rattle.rules.specs.Steps.{canRecover}
 use Rattle.rules.proofs.model.BoxState.can_recover.Statement.{statement}
 use Rattle.rules.proofs.model.BoxState.can_recover.Tie as tie

@@ -1,3 +1,4 @@
+-- `rules::model::BoxState::collect` meets its contract.
 use Rattle.rules.specs.Steps.{collect}
 use borrow.Author.Needs.{needs}
 use Rattle.rules.proofs.model.BoxState.collect.Statement.{statement}

@@ -1,3 +1,4 @@
+-- `rules::model::BoxState::count` meets its contract.
 use Rattle.rules.specs.Last.{counted}
 use borrow.Author.Needs.{needs}
 use Rattle.rules.proofs.model.BoxState.count.Statement.{statement}

@@ -1,3 +1,4 @@
+-- `rules::model::BoxState::elected` meets its contract.
 use Rattle.rules.specs.Steps.{elected}
 use Rattle.rules.proofs.model.BoxState.elected.Statement.{statement}
 use Rattle.rules.proofs.model.BoxState.elected.Tie as tie

@@ -1,3 +1,4 @@
+-- `rules::model::BoxState::finish` meets its contract.
 use Rattle.rules.specs.Steps.{finish}
 use Rattle.rules.proofs.model.BoxState.finish.Statement.{statement}
 use Rattle.rules.proofs.model.BoxState.finish.Tie as tie

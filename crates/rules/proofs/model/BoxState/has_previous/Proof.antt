@@ -1,3 +1,4 @@
+-- `rules::model::BoxState::has_previous` meets its contract.
 use mathlib.Core.Path.{refl}
 use Rattle.rules.specs.Steps.{hasPrevious}
 use borrow.Author.Needs.{needs}

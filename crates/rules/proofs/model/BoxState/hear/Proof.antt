@@ -1,3 +1,4 @@
+-- `rules::model::BoxState::hear` meets its contract.
 use mathlib.Core.Path.{refl}
 use Rattle.rules.specs.Last.{heard}
 use Rattle.rules.proofs.model.BoxState.hear.Statement.{statement}

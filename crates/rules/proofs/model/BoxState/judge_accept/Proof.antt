@@ -1,3 +1,4 @@
+-- `rules::model::BoxState::judge_accept` meets its contract.
 use Rattle.rules.specs.Mails.{acceptVerdict}
 use Rattle.rules.proofs.model.BoxState.judge_accept.Statement.{statement}
 use Rattle.rules.proofs.model.BoxState.judge_accept.Tie as tie

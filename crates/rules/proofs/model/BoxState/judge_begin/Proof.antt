@@ -1,3 +1,4 @@
+-- `rules::model::BoxState::judge_begin` meets its contract.
 use Rattle.rules.specs.Mails.{beginVerdict}
 use Rattle.rules.proofs.model.BoxState.judge_begin.Statement.{statement}
 use Rattle.rules.proofs.model.BoxState.judge_begin.Tie as tie

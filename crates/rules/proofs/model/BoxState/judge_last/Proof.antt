@@ -1,3 +1,4 @@
+-- `rules::model::BoxState::judge_last` meets its contract.
 use Rattle.rules.specs.Last.{lastVerdict}
 use borrow.Author.Needs.{needs}
 use Rattle.rules.proofs.model.BoxState.judge_last.Statement.{statement}

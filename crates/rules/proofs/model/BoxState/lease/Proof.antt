@@ -1,3 +1,4 @@
+-- `rules::model::BoxState::lease` meets its contract.
 use Rattle.rules.specs.Steps.{leased}
 use Rattle.rules.proofs.model.BoxState.lease.Statement.{statement}
 use Rattle.rules.proofs.model.BoxState.lease.Tie as tie

@@ -1,3 +1,4 @@
+-- `rules::model::BoxState::of_kind` meets its contract.
 use Rattle.rules.specs.Mails.{ofKind}
 use borrow.Author.Needs.{needs}
 use Rattle.rules.proofs.model.BoxState.of_kind.Statement.{statement}

@@ -1,3 +1,4 @@
+-- `rules::model::BoxState::offer` meets its contract.
 use Rattle.rules.specs.Steps.{offer}
 use borrow.Author.Needs.{needs}
 use Rattle.rules.proofs.model.BoxState.offer.Statement.{statement}

@@ -1,3 +1,4 @@
+-- `rules::model::BoxState::on_accept` meets its contract.
 use Rattle.rules.specs.Mails.{onAccept}
 use Rattle.rules.proofs.model.BoxState.on_accept.Statement.{statement}
 use Rattle.rules.proofs.model.BoxState.on_accept.Tie as tie

@@ -1,3 +1,4 @@
+-- `rules::model::BoxState::on_begin` meets its contract.
 use Rattle.rules.specs.Mails.{onBegin}
 use borrow.Author.Needs.{needs}
 use Rattle.rules.proofs.model.BoxState.on_begin.Statement.{statement}

@@ -1,3 +1,4 @@
+-- `rules::model::BoxState::on_collect` meets its contract.
 use Rattle.rules.specs.Mails.{onCollect}
 use borrow.Author.Needs.{needs}
 use Rattle.rules.proofs.model.BoxState.on_collect.Statement.{statement}

@@ -1,3 +1,4 @@
+-- `rules::model::BoxState::on_commit` meets its contract.
 use Rattle.rules.specs.Mails.{onCommit}
 use Rattle.rules.proofs.model.BoxState.on_commit.Statement.{statement}
 use Rattle.rules.proofs.model.BoxState.on_commit.Tie as tie

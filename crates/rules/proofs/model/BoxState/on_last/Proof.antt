@@ -1,3 +1,4 @@
+-- `rules::model::BoxState::on_last` meets its contract.
 use Rattle.rules.specs.Last.{onLast}
 use borrow.Author.Needs.{needs}
 use Rattle.rules.proofs.model.BoxState.on_last.Statement.{statement}

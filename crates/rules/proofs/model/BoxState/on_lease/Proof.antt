@@ -1,3 +1,4 @@
+-- `rules::model::BoxState::on_lease` meets its contract.
 use Rattle.rules.specs.Mails.{onLease}
 use Rattle.rules.proofs.model.BoxState.on_lease.Statement.{statement}
 use Rattle.rules.proofs.model.BoxState.on_lease.Tie as tie

@@ -1,3 +1,4 @@
+-- `rules::model::BoxState::on_mail` meets its contract.
 use Rattle.rules.specs.Mails.{onMail}
 use borrow.Author.Needs.{needs}
 use Rattle.rules.proofs.model.BoxState.on_mail.Statement.{statement}

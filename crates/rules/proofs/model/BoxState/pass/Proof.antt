@@ -1,3 +1,4 @@
+-- `rules::model::BoxState::pass` meets its contract.
 use Rattle.rules.specs.Last.{uncounted}
 use Rattle.rules.proofs.model.BoxState.pass.Statement.{statement}
 use Rattle.rules.proofs.model.BoxState.pass.Tie as tie

@@ -1,3 +1,4 @@
+-- `rules::model::BoxState::propose` meets its contract.
 use Rattle.rules.specs.Steps.{propose}
 use borrow.Author.Needs.{needs}
 use Rattle.rules.proofs.model.BoxState.propose.Statement.{statement}

@@ -1,3 +1,4 @@
+-- `rules::model::BoxState::raise` meets its contract.
 use Rattle.rules.specs.Last.{raised}
 use borrow.Author.Needs.{needs}
 use Rattle.rules.proofs.model.BoxState.raise.Statement.{statement}

@@ -1,3 +1,4 @@
+-- `rules::model::BoxState::ready` meets its contract.
 use Rattle.rules.specs.Steps.{ready}
 use borrow.Author.Needs.{needs}
 use Rattle.rules.proofs.model.BoxState.ready.Statement.{statement}

@@ -1,3 +1,4 @@
+-- `rules::model::BoxState::recover` meets its contract.
 use Rattle.rules.specs.Steps.{recover}
 use borrow.Author.Needs.{needs}
 use Rattle.rules.proofs.model.BoxState.recover.Statement.{statement}

@@ -1,3 +1,4 @@
+-- `rules::model::BoxState::settle` meets its contract.
 use Rattle.rules.specs.Turns.{settled}
 use borrow.Author.Needs.{needs}
 use Rattle.rules.proofs.model.BoxState.settle.Statement.{statement}

@@ -1,3 +1,4 @@
+-- `rules::model::BoxState::start` meets its contract.
 use Rattle.rules.specs.Steps.{started}
 use borrow.Author.Needs.{needs}
 use Rattle.rules.proofs.model.BoxState.start.Statement.{statement}

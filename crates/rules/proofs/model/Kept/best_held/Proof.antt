@@ -1,3 +1,4 @@
+-- `rules::model::Kept::best_held` meets its contract.
 use Rattle.rules.specs.Steps.{bestHeld}
 use borrow.Author.Needs.{needs}
 use Rattle.rules.proofs.model.Kept.best_held.Statement.{statement}

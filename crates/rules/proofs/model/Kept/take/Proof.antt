@@ -1,3 +1,4 @@
+-- `rules::model::Kept::take` meets its contract.
 use Rattle.rules.specs.Parts.{tookKept}
 use Rattle.rules.proofs.model.Kept.take.Statement.{statement}
 use Rattle.rules.proofs.model.Kept.take.Tie as tie

@@ -1,3 +1,4 @@
+-- `rules::model::Kept::unagreed` meets its contract.
 use Rattle.rules.specs.Mails.{unagreedOf}
 use borrow.Author.Needs.{needs}
 use Rattle.rules.proofs.model.Kept.unagreed.Statement.{statement}

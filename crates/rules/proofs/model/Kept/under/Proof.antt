@@ -1,3 +1,4 @@
+-- `rules::model::Kept::under` meets its contract.
 use Rattle.rules.specs.Parts.{underOf}
 use borrow.Author.Needs.{needs}
 use Rattle.rules.proofs.model.Kept.under.Statement.{statement}

@@ -1,3 +1,4 @@
+-- `rules::model::Mail::bounded` meets its contract.
 use mathlib.Core.Path.{refl}
 use Rattle.rules.specs.Bounds.{boundedMail}
 use Rattle.rules.proofs.model.Mail.bounded.Statement.{statement}

@@ -1,3 +1,4 @@
+-- `rules::model::Setting::others` meets its contract.
 use Rattle.rules.specs.Parts.{others}
 use Rattle.rules.proofs.model.Setting.others.Statement.{statement}
 use Rattle.rules.proofs.model.Setting.others.Tie as tie

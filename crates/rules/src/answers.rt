@@ -1,11 +1,10 @@
 // The cases of an answer.
 ghost use mathlib.Core.Path.{_≡_};
-ghost use Rattle.site.specs.Entries.{Accepted, isRefusal};
-use rules::model::Answer;
+ghost use Rattle.rules.specs.Answers.{isRefusal, isAccepted};
+use crate::model::Answer;
 
-// Done or taken.
-pub(crate) fn is_accepted(a: Answer) -> bool
-    ensures { λ r. ⌜ r ≡ Accepted a ⌝ }
+pub fn is_accepted(a: Answer) -> bool
+    ensures { λ r. ⌜ r ≡ isAccepted a ⌝ }
 {
     match a {
         Answer::Done => true,
@@ -15,7 +14,7 @@ pub(crate) fn is_accepted(a: Answer) -> bool
     }
 }
 
-pub(crate) fn is_refusal(a: Answer) -> bool
+pub fn is_refusal(a: Answer) -> bool
     ensures { λ r. ⌜ r ≡ isRefusal a ⌝ }
 {
     match a {

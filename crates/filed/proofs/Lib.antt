@@ -1,2 +1,2 @@
 -- Demand 3 of the words that the engine's entries made.
-pub mod Journal
+pub mod Filed

@@ -18,7 +18,7 @@ pub data Served (n J L : ℕ) : List Call → List ℕ → List ℕ → Type 0 w
       → Served n J L calls xs ls → After (stepOn xs ls d) xs ls xs' ls' a
       → Served n J L (d ∷ calls) xs' ls'
 
-pub record Journal : Type 0 where
+pub record Filed : Type 0 where
   -- Two holds lines that are true of one load number name the same frames.
   pub one-pair : {n J L : ℕ} {calls : List Call} {xs ls : List ℕ} → Served n J L calls xs ls
       → (b d k left right left' right' : ℕ) → holdsOn xs ls b k left right ≡ Answer.Done

@@ -12,6 +12,7 @@ use rules::model::Answer;
 use rules::model::Refusal;
 use rules::model::Setting;
 use rules::model::Verdict;
+use rules::ranges;
 
 // Where the verdict says Go, me is elected.
 fn elect_by(site: &mut [u64], links: &mut [u64], s: Setting, v: Verdict) -> Answer
@@ -39,7 +40,7 @@ pub(crate) fn elect(site: &mut [u64], links: &mut [u64], c: u32) -> Answer
         (now (site .entry)) (now (links .entry)) (now (site .exit)) (now (links .exit)) r ⌝ }
 {
     let s = memory::setting_of(site, c);
-    if !memory::is_box(s.n, c) {
+    if !ranges::is_box(s.n, c) {
         return Answer::Refused(Refusal::Box);
     }
     let here = memory::has(s.present, c);

@@ -1,11 +1,12 @@
+-- `site::elections::elect` meets its contract.
 use borrow.Author.Needs.{needs}
 use Rattle.memory.specs.Memory.{siteOf}
 use Rattle.site.proofs.AfterLaws.{refused-after}
 use Rattle.site.proofs.CallLaws.{elect-no-box}
 use Rattle.site.proofs.KnownLaws.{general-lent, box-yes, box-not, box-few, boxes-most, here-told}
 use Rattle.site.proofs.ElectLaws.{knows-of, elect-known}
-use Rattle.site.proofs.calls.elect.Statement.{statement}
-use Rattle.site.proofs.calls.elect.Tie as tie
+use Rattle.site.proofs.elections.elect.Statement.{statement}
+use Rattle.site.proofs.elections.elect.Tie as tie
 
 setting-of-requires : tie.Need-setting-of-requires
 setting-of-requires c κs = general-lent _ _ (c .before .before .before .pre)

@@ -1,10 +1,11 @@
+-- `site::elections::elect_by` meets its contract.
 use mathlib.Core.Path.{refl}
 use native.Mathlib.Omega.{arith}
 use borrow.Author.Needs.{needs}
 use Rattle.site.proofs.KnownLaws.{five-words, epoch-most, links-lent}
 use Rattle.site.proofs.ElectLaws.{boxes-lent, elect-go}
-use Rattle.site.proofs.calls.elect_by.Statement.{statement}
-use Rattle.site.proofs.calls.elect_by.Tie as tie
+use Rattle.site.proofs.elections.elect_by.Statement.{statement}
+use Rattle.site.proofs.elections.elect_by.Tie as tie
 
 add-epoch : tie.Need-add-epoch
 add-epoch c = let k = c .before .before .before .pre in omega

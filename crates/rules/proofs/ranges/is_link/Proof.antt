@@ -1,7 +1,7 @@
--- `memory::general::is_link` meets its contract.
+-- `rules::ranges::is_link` meets its contract.
 use borrow.Author.Needs.{needs}
-use Rattle.memory.proofs.general.is_link.Statement.{statement}
-use Rattle.memory.proofs.general.is_link.Tie as tie
+use Rattle.rules.proofs.ranges.is_link.Statement.{statement}
+use Rattle.rules.proofs.ranges.is_link.Tie as tie
 
 returns : tie.Need-returns
 returns c = simp (c .is-box2 .ensures, c .before .is-box .ensures)

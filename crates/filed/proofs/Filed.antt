@@ -18,7 +18,8 @@ use Rattle.laws.proofs.FormKept.{CallFits}
 use Rattle.laws.proofs.LeftAlone.{other-box}
 use Rattle.memory.specs.Memory.{siteWords, linksWords, siteOf, readable, memoryForm}
 use Rattle.memory.proofs.LentLaws.{form-readable}
-use Rattle.site.specs.Entries.{isRefusal, After, FreshMade, FormedStep, freshOn, stepOn, holdsOn}
+use Rattle.rules.specs.Answers.{isRefusal}
+use Rattle.site.specs.Entries.{After, FreshMade, FormedStep, freshOn, stepOn, holdsOn}
 use Rattle.site.proofs.AfterLaws.{need-met, no-needs}
 use Rattle.site.proofs.FreshAfter.{fresh-sizes, fresh-short}
 use Rattle.site.proofs.CallLaws.{holds-no-box, holds-true, holds-untrue}
@@ -26,7 +27,7 @@ use Rattle.site.proofs.Once.{form-kept, held-formed}
 use Rattle.safety.specs.Demand3.{In, Agreed, recordAt, start, AfterRun, Demand3}
 use Rattle.safety.proofs.Safe.{same-n}
 use Rattle.safety.proofs.Demand.{demand-3}
-use Rattle.journal.specs.Served.{Served, made, called, Journal}
+use Rattle.filed.specs.Served.{Served, made, called, Filed}
 
 not-refused : {a : Answer} → a ≡ Answer.Done → isRefusal a ≡ true → ⊥
 not-refused e r = true≠false (sym r ∙ ap isRefusal e)
@@ -171,9 +172,9 @@ module _ {n J L : ℕ} {calls : List Call} {xs ls : List ℕ} (h : Holds n J L c
       ∙ sym (ap (λ (x : Box). recordAt x k) (at d)) in
       (sym (t .left-is) ∙ ap leftOf e ∙ u .left-is, sym (t .right-is) ∙ ap rightOf e ∙ u .right-is)
 
-pub journal : Journal
+pub filed : Filed
 unfolding run
-journal = record {
+filed = record {
   one-pair = λ served b d k l r l' r'. same-pair (holds-run served) b d k l r l' r';
   kept = λ d fits served after b k l r yes.
       let h = holds-run served in
