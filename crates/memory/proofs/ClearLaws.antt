@@ -11,7 +11,7 @@ use Rattle.rules.specs.declared.model.Setting.{Setting}
 use Rattle.laws.proofs.Logic.{Or, left, right, same?}
 use Rattle.link.specs.Link.{linkOf, linkFits}
 use Rattle.memory.specs.Memory.{linksWords, linkIndex}
-use Rattle.memory.specs.After.{linkRow, LinkSet, LinksPut}
+use Rattle.memory.specs.After.{linkRow, pastLinks, LinkSet, LinksPut}
 use Rattle.memory.proofs.SizeLaws.{index-below}
 
 -- the first k links are empty
@@ -19,6 +19,7 @@ pub record Cleared (s : Setting) (ls₀ : List ℕ) (k : ℕ) (ls : List ℕ) : 
   pub few : k ≤ s .n * (s .n - 1)
   pub letters : (i : ℕ) → i < k → linkOf (s .j) (s .l) (linkRow s ls i) ≡ []
   pub fits : (i : ℕ) → i < k → linkFits (s .j) (s .l) (linkRow s ls i) ≡ true
+  pub past : pastLinks s ls ≡ pastLinks s ls₀
   pub words : length ls ≡ length ls₀
 
 module _ (s : Setting) (ls₀ : List ℕ) where
@@ -27,6 +28,7 @@ module _ (s : Setting) (ls₀ : List ℕ) where
     few = omega arith;
     letters = λ i h. absurd (omega arith);
     fits = λ i h. absurd (omega arith);
+    past = refl;
     words = refl;
   }
 
@@ -36,6 +38,7 @@ module _ (s : Setting) (ls₀ : List ℕ) where
     few = omega arith;
     letters = λ i g. letters i g (same? i k);
     fits = λ i g. fits i g (same? i k);
+    past = e .past ∙ was .past;
     words = e .words ∙ was .words;
   }
     where
@@ -56,6 +59,7 @@ module _ (s : Setting) (ls₀ : List ℕ) where
       → LinksPut s (λ a b. []) ls₀ ls
   cleared-all {k} {ls} was h sizes long = record {
     links = λ t. λ a b. empty a b (isLink (s .n) a b) refl t;
+    past = was .past;
     words = was .words;
     lent = record {
       sizes = sizes;

@@ -13,7 +13,7 @@ use Rattle.laws.proofs.Logic.{Or, left, right, In, same?}
 use Rattle.laws.proofs.FormLaws.{is-box, box-is}
 use Rattle.row.specs.Row.{boxOf, rowFits}
 use Rattle.memory.specs.Memory.{siteWords, rowAt}
-use Rattle.memory.specs.After.{RowSet, RowsPut}
+use Rattle.memory.specs.After.{pastRows, RowSet, RowsPut}
 
 -- the rows up to b hold what f says, the later ones are as they were
 pub record UpTo (s : Setting) (f : ℕ → Box) (xs₀ : List ℕ) (b : ℕ) (xs : List ℕ) : Type 0 where
@@ -22,6 +22,7 @@ pub record UpTo (s : Setting) (f : ℕ → Box) (xs₀ : List ℕ) (b : ℕ) (xs
   pub fits : (c : ℕ) → In c b → rowFits (s .j) (rowAt (s .j) xs c) ≡ true
   pub later : (c : ℕ) → isBox (s .n) c ≡ true → b < c → rowAt (s .j) xs c ≡ rowAt (s .j) xs₀ c
   pub general : take 5 xs ≡ take 5 xs₀
+  pub past : pastRows s xs ≡ pastRows s xs₀
   pub words : length xs ≡ length xs₀
 
 module _ (s : Setting) (f : ℕ → Box) (xs₀ : List ℕ) where
@@ -32,6 +33,7 @@ module _ (s : Setting) (f : ℕ → Box) (xs₀ : List ℕ) where
     fits = λ c h. absurd (omega (arith, h .0, h .1));
     later = λ c h l. refl;
     general = refl;
+    past = refl;
     words = refl;
   }
 
@@ -43,6 +45,7 @@ module _ (s : Setting) (f : ℕ → Box) (xs₀ : List ℕ) where
     fits = λ c g. fits c g (same? c (b + 1));
     later = λ c g l. e .others c g (omega arith) ∙ was .later c g (omega arith);
     general = e .general ∙ was .general;
+    past = e .past ∙ was .past;
     words = e .words ∙ was .words;
   }
     where
@@ -68,6 +71,7 @@ module _ (s : Setting) (f : ℕ → Box) (xs₀ : List ℕ) where
   up-all {b} {xs} was h sizes long outside = record {
     boxes = λ t. λ c. box c (isBox (s .n) c) refl t;
     general = was .general;
+    past = was .past;
     words = was .words;
     lent = record {
       sizes = sizes;

@@ -147,6 +147,7 @@ pub send-none : (s : Setting) (set b : ℕ) (ls : List ℕ) → LinksLent s ls �
 send-none s set b ls lent out y = record {
   links = λ t. λ x c.
       not-sent (linksOf s ls) (s .me) (λ k. has set k && eqb k b) y x c (off c (eqb c b) refl) t;
+  past = refl;
   words = refl;
   lent = lent;
 }

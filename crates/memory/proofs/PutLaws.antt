@@ -8,7 +8,8 @@ use lib.Dec.{eqb}
 use lib.ListN.{length, take, drop, length-drop}
 use borrow.Author.Tests.{eq-eqb}
 use Rattle.words.specs.Rows.{part, splice}
-use Rattle.words.proofs.PartLaws.{take-splice, drop-splice, length-splice, part-splice, part-drop}
+use Rattle.words.proofs.PartLaws.{take-splice, drop-splice, rest-splice, length-splice, part-splice}
+use Rattle.words.proofs.PartLaws.{part-drop}
 use Rattle.words.proofs.RowLaws.{row-end, part-other}
 use Rattle.rules.specs.Box.{Box, Letter}
 use Rattle.rules.specs.Site.{freshBox, isBox, isLink, upd}
@@ -75,6 +76,8 @@ module _ (s : Setting) (b : ℕ) (xs ys : List ℕ) (h : isBox (s .n) b ≡ true
         fits = ap (rowFits (s .j)) here ∙ f;
         others = row-other;
         general = take-splice 5 ((b - 1) * w) w xs ys (omega (arith, row-inside));
+        past = rest-splice (siteWords (s .n) (s .j)) (rowStart (s .j) b) w xs ys
+            (omega (arith, row-inside)) e (row-within (s .j) (s .n) b h);
         words = length-splice (rowStart (s .j) b) w xs ys row-inside e;
       }
 
@@ -84,6 +87,7 @@ pub rows-set : (s : Setting) (b : ℕ) (x : Box) (xs xs' : List ℕ) → RowsLen
 rows-set s b x xs xs' lent h e = record {
   boxes = λ t. λ c. box c (eqb c b) refl t;
   general = e .general;
+  past = e .past;
   words = e .words;
   lent = record {
     sizes = lent .sizes;
@@ -120,6 +124,8 @@ link-set s k ls ys zs h long e =
       letters = ap (linkOf (s .j) (s .l)) here ∙ e .letters;
       fits = ap (linkFits (s .j) (s .l)) here ∙ e .fits;
       others = λ i g ne. part-other w (s .n * (s .n - 1)) k i ls ys h g ne long (e .width);
+      past = rest-splice (linksWords (s .n) (s .j) (s .l)) (k * w) w ls ys (omega (arith, inside))
+          (e .width) (row-end w h);
       words = length-splice (k * w) w ls ys inside (e .width);
     }
 
@@ -156,6 +162,7 @@ module _ (s : Setting) (a b : ℕ) (ys : List Letter) (ls ls' : List ℕ) (lent 
       → ((x y : ℕ) → cond (eqb x a && eqb y b) ys (linksOf s ls x y) ≡ f x y) → LinksPut s f ls ls'
   links-set f same = record {
     links = λ t. λ x y. (one-link x y (eqb x a && eqb y b) refl ∙ same x y) t;
+    past = e .past;
     words = e .words;
     lent = record {
       sizes = lent .sizes;

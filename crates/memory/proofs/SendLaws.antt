@@ -105,6 +105,7 @@ module _ (s : Setting) (set : ℕ) (y : Letter) (ls₀ : List ℕ) where
     put = record {
       links = λ t. λ x c.
           not-sent (linksOf s ls₀) (s .me) (λ k. has set k && leb k 0) y x c (low c) t;
+      past = refl;
       words = refl;
       lent = lent;
     };
@@ -136,6 +137,7 @@ module _ (s : Setting) (set : ℕ) (y : Letter) (ls₀ : List ℕ) where
         links = put .links ∙ (λ t. λ x c.
             ((λ i. sent (upTo .put .links i) (s .me) (λ k. has set k && eqb k (b + 1)) y x c)
             ∙ next x c) t);
+        past = put .past ∙ upTo .put .past;
         words = put .words ∙ upTo .put .words;
         lent = put .lent;
       };
@@ -161,6 +163,7 @@ module _ (s : Setting) (set : ℕ) (y : Letter) (ls₀ : List ℕ) where
     links = upTo .put .links ∙ (λ t. λ x c.
         cond (eqb x (s .me) && all c (has set c) refl t) (linksOf s ls₀ x c ++ (y ∷ []))
         (linksOf s ls₀ x c));
+    past = upTo .put .past;
     words = upTo .put .words;
     lent = upTo .put .lent;
   }

@@ -6,7 +6,7 @@ use Prim.Native.Nat.{ℕ, _+_, _≤_}
 use native.Mathlib.Omega.{arith}
 use lib.Dec.{ltb}
 use lib.ListN.{length, take, drop, take-append-drop}
-use lib.Seq.{length-take-le, length-front, take-at}
+use lib.Seq.{length-take-le, length-front, take-at, drop-at}
 use borrow.Author.Tests.{ltb-false, le-leb}
 use Rattle.rules.specs.Box.{Box, turned}
 use Rattle.rules.specs.Own.{OwnOutcome, unmoved, receivers, lettersOf, ownTurn}
@@ -28,6 +28,8 @@ nothing-done s r out o a e = record {
   letter = ap (λ (u : OwnOutcome). u .letters) (sym e);
   kept = λ h. refl;
   quiet = λ h. refl;
+  past-row = refl;
+  past-out = refl;
   row-words = refl;
   out-words = refl;
 }
@@ -91,6 +93,10 @@ went-on (Answer.Refused why) true h = sym h
 front-is : (w : ℕ) (xs ys : List ℕ) → w ≤ length xs → length ys ≡ length (take w xs)
     → take w (ys ++ drop w xs) ≡ ys
 front-is w xs ys h e = take-at ys (drop w xs) w (e ∙ length-take-le w xs h)
+
+front-past : (w : ℕ) (xs ys : List ℕ) → w ≤ length xs → length ys ≡ length (take w xs)
+    → drop w (ys ++ drop w xs) ≡ drop w xs
+front-past w xs ys h e = drop-at ys (drop w xs) w (e ∙ length-take-le w xs h)
 
 front-back : (w : ℕ) (xs ys : List ℕ) → ys ≡ take w xs → ys ++ drop w xs ≡ xs
 front-back w xs ys e = rw e (take-append-drop w xs)
@@ -160,6 +166,8 @@ module _ (s : Setting) (r p out : List ℕ) (t : Turn) (a : Answer)
               letter = rw place-is (done .posted .letter);
               kept = λ f. absurd (both-no f (accepted-kept a h));
               quiet = λ z. rw er (front-back (5 + s .j) out w (done .posted .quiet z));
+              past-row = rw ee (front-past (20 + s .j) r q (ok .words) (done .played .words));
+              past-out = rw er (front-past (5 + s .j) out w long (done .posted .words));
               row-words = row-words;
               out-words = place-words;
             })

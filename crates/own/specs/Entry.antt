@@ -5,7 +5,7 @@ use mathlib.Core.Path.{_≡_}
 use mathlib.Core.Bool.{Bool, true, not, _&&_, _||_, cond}
 use mathlib.Core.List.{List, [], _∷_}
 use lib.Dec.{eqb, leb, ltb}
-use lib.ListN.{length, take}
+use lib.ListN.{length, take, drop}
 use Rattle.rules.specs.Sizes.{sizesForm}
 use Rattle.rules.specs.Answers.{isRefusal, isAccepted}
 use Rattle.rules.specs.Box.{Box, Letter, Event, own, mail}
@@ -76,5 +76,7 @@ pub record Owned (s : Setting) (o : OwnOutcome) (r out r' out' : List ℕ) (a : 
   pub letter : lettersIn s to out' ≡ o .letters
   pub kept : isRefusal a ≡ true → r' ≡ r
   pub quiet : to ≡ 0 → out' ≡ out
+  pub past-row : drop (20 + s .j) r' ≡ drop (20 + s .j) r
+  pub past-out : drop (5 + s .j) out' ≡ drop (5 + s .j) out
   pub row-words : length r' ≡ length r
   pub out-words : length out' ≡ length out

@@ -50,6 +50,12 @@ fn refused(why: Refusal) -> Sent
     }
 }
 
+fn are_sizes(s: Setting) -> bool
+    ensures { λ r. ⌜ r ≡ sizesForm (s .n) (s .j) (s .l) ⌝ }
+{
+    ranges::are_sizes(s.n as u64, s.j as u64, s.l as u64)
+}
+
 // The epoch and the present set.
 fn is_setting(s: Setting) -> bool
     ensures { λ r. ⌜ r ≡ (within 1 mostEpoch (s .epoch) && setForm (s .n) (s .present)) ⌝ }
@@ -168,7 +174,7 @@ pub fn act(row: &mut [u64], out: &mut [u64], s: Setting, a: Act) -> Sent
         (r .answer) (r .to) ⌝ }
     ensures { λ r. ⌜ StillReads s (now (row .entry)) (now (row .exit)) (now (out .exit)) (r .to) ⌝ }
 {
-    if !ranges::are_sizes(s.n as u64, s.j as u64, s.l as u64) {
+    if !are_sizes(s) {
         return refused(Refusal::Sizes);
     }
     let setting = is_setting(s);
@@ -193,7 +199,7 @@ pub fn mail(row: &mut [u64], letter: &[u64], out: &mut [u64], s: Setting, sender
         (r .answer) (r .to) ⌝ }
     ensures { λ r. ⌜ StillReads s (now (row .entry)) (now (row .exit)) (now (out .exit)) (r .to) ⌝ }
 {
-    if !ranges::are_sizes(s.n as u64, s.j as u64, s.l as u64) {
+    if !are_sizes(s) {
         return refused(Refusal::Sizes);
     }
     let setting = is_setting(s);

@@ -26,7 +26,7 @@ use Rattle.memory.specs.Memory.{boxIn, linkIn, siteOf, readable, memoryForm}
 use Rattle.memory.specs.After.{settingAt, boxesOf, linksOf, RowsLent, LinksLent, RowsPut, LinksPut}
 use Rattle.memory.proofs.LentLaws.{general-same, setting-same, readable-rows, readable-made}
 use Rattle.rules.specs.Answers.{isRefusal, isAccepted}
-use Rattle.site.specs.Entries.{After}
+use Rattle.site.specs.Entries.{pastSite, pastLinks, After}
 
 -- ---- needs
 
@@ -57,11 +57,9 @@ site-changed xs ls xs' ls' c f g e p q =
     rw (
       general-same xs xs' e 0 (omega arith),
       general-same xs xs' e 1 (omega arith),
-      general-same
-          xs xs' e 2 (omega arith),
+      general-same xs xs' e 2 (omega arith),
       general-same xs xs' e 3 (omega arith),
-      general-same xs xs' e 4
-          (omega arith),
+      general-same xs xs' e 4 (omega arith),
       p,
       q,
     ) refl
@@ -74,6 +72,8 @@ refused-after xs ls why o e = record {
   answer = ap (λ (r : Outcome). r .answer) (sym e);
   site = ap (λ (r : Outcome). r .next) (sym e);
   kept = λ t. (refl, refl);
+  past-site = refl;
+  past-links = refl;
   site-words = refl;
   links-words = refl;
   readable = λ r. r;
@@ -87,6 +87,8 @@ same-after xs ls o a e = record {
   answer = ap (λ (r : Outcome). r .answer) (sym e);
   site = ap (λ (r : Outcome). r .next) (sym e);
   kept = λ t. (refl, refl);
+  past-site = refl;
+  past-links = refl;
   site-words = refl;
   links-words = refl;
   readable = λ r. r;
@@ -146,11 +148,16 @@ pub changed-after : (xs ls xs' ls' : List ℕ) (c : ℕ) (f : ℕ → Box) (g : 
     → isRefusal a ≡ false
     → RowsPut (settingAt xs c) f xs xs' → LinksPut (settingAt xs c) g ls ls'
     → After o xs ls xs' ls' a
+unfolding siteOf
 changed-after xs ls xs' ls' c f g o a e no-refusal r l = record {
   answer = ap (λ (p : Outcome). p .answer) (sym e);
   site = site-changed xs ls xs' ls' c f g (r .general) (r .boxes) (l .links) ∙ ap
       (λ (p : Outcome). p .next) (sym e);
   kept = λ t. absurd (both-no t no-refusal);
+  past-site = subst (λ (p : Outcome). pastSite (p .next) xs' ≡ pastSite (p .next) xs) (sym e)
+      (r .past);
+  past-links = subst (λ (p : Outcome). pastLinks (p .next) ls' ≡ pastLinks (p .next) ls) (sym e)
+      (l .past);
   site-words = r .words;
   links-words = l .words;
   readable = λ h.
@@ -165,6 +172,7 @@ pub rows-same : (xs ls : List ℕ) (c : ℕ) → readable xs ls ≡ true
 rows-same xs ls c r = record {
   boxes = refl;
   general = refl;
+  past = refl;
   words = refl;
   lent = readable-rows xs ls c r;
 }

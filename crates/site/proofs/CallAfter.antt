@@ -1,6 +1,6 @@
 -- The site's own calls: elections, stops, returns, timeouts and lost mail.
 use Prim.Native.Nat.{ℕ, _+_, _*_, _≤_}
-use mathlib.Core.Path.{_≡_, refl, sym, ap, _∙_}
+use mathlib.Core.Path.{_≡_, refl, sym, ap, _∙_, subst}
 use mathlib.Core.Bool.{Bool, true, false, _&&_, cond}
 use mathlib.Core.List.{List, [], _∷_, tail}
 use native.Mathlib.Omega.{arith}
@@ -18,12 +18,12 @@ use Rattle.rules.specs.declared.model.Setting.{Setting}
 use Rattle.rules.specs.declared.model.Verdict.{Verdict}
 use Rattle.laws.proofs.Logic.{true≠false}
 use Rattle.laws.proofs.StepLaws.{changed}
-use Rattle.memory.specs.Memory.{siteWords, siteOf, readable, memoryForm}
+use Rattle.memory.specs.Memory.{rowWidth, siteWords, siteOf, readable, memoryForm}
 use Rattle.memory.specs.After.{settingAt, linksOf, RowsPut, LinksPut}
 use Rattle.memory.proofs.LentLaws.{form-readable, setting-same, readable-rows, readable-made}
 use Rattle.site.specs.General.{generalPut, withGeneral}
-use Rattle.site.proofs.GeneralLaws.{general-length, general-put, general-readable}
-use Rattle.site.specs.Entries.{After}
+use Rattle.site.proofs.GeneralLaws.{general-length, general-past, general-put, general-readable}
+use Rattle.site.specs.Entries.{pastSite, pastLinks, After}
 use Rattle.site.specs.Verdicts.{verdictOf}
 use Rattle.rules.specs.Step.{loseNeeds}
 use Rattle.site.proofs.AfterLaws.{refused-after, changed-after, rows-same, site-changed}
@@ -56,6 +56,8 @@ module _ (xs ls : List ℕ) (f : memoryForm xs ls ≡ true) where
     answer = ap (λ (r : Outcome). r .answer) (sym e);
     site = general-put xs (risen (s .epoch)) w ls five ∙ ap (λ (r : Outcome). r .next) (sym e);
     kept = λ t. absurd (true≠false (sym t));
+    past-site = general-past xs _ _ (o .next .n * rowWidth (o .next .J));
+    past-links = refl;
     site-words = general-length xs _ _;
     links-words = refl;
     readable = general-readable xs (risen (s .epoch)) w ls;
@@ -75,6 +77,11 @@ module _ (xs ls : List ℕ) (f : memoryForm xs ls ≡ true) where
         (site-changed xs ls xs' ls' c _ _ (rows .general) (rows .boxes) (links .links))
         ∙ ap (λ (r : Outcome). r .next) (sym e);
     kept = λ t. absurd (true≠false (sym t));
+    past-site = general-past xs' _ _ (o .next .n * rowWidth (o .next .J))
+        ∙ subst (λ (p : Outcome). pastSite (p .next) xs' ≡ pastSite (p .next) xs) (sym e)
+        (rows .past);
+    past-links = subst (λ (p : Outcome). pastLinks (p .next) ls' ≡ pastLinks (p .next) ls) (sym e)
+        (links .past);
     site-words = general-length xs' _ _ ∙ rows .words;
     links-words = links .words;
     readable = λ h.

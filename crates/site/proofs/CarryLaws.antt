@@ -46,7 +46,7 @@ module _ (s : Setting) (ls : List ℕ) (out : Out) where
     pub posted-none : out ≡ Out.Nothing → Posts s ls out rs
         → LinksPut s (posted (linksOf s ls) (s .me) out rs) ls ls
     unfolding posted
-    posted-none e h = rw e (record { links = refl; words = refl; lent = rw e at h })
+    posted-none e h = rw e (record { links = refl; past = refl; words = refl; lent = rw e at h })
 
 -- what a turn sends can go onto the links
 posts : (s : Setting) (ls : List ℕ) (out : Out) (rs : List ℕ) → OutFits (s .n) (s .j) rs out

@@ -1,11 +1,11 @@
 -- A fresh site in the words.
-use Prim.Native.Nat.{ℕ, suc, _+_, _<_, _≤_}
+use Prim.Native.Nat.{ℕ, suc, _+_, _*_, _<_, _≤_}
 use mathlib.Core.Path.{_≡_, refl, sym, ap, _∙_, subst}
 use mathlib.Core.Bool.{Bool, true, false, _&&_}
 use mathlib.Core.List.{List, [], _∷_}
 use native.Mathlib.Omega.{arith}
 use lib.Dec.{leb}
-use lib.ListN.{length, take, getD}
+use lib.ListN.{length, take, drop, getD}
 use lib.Seq.{getD-take}
 use Rattle.rules.specs.Sizes.{mostBoxes, sizesForm}
 use Rattle.rules.specs.Sets.{fullSet}
@@ -20,13 +20,14 @@ use Rattle.rules.specs.Form.{form}
 use Rattle.laws.proofs.FormKept.{fresh-form}
 use Rattle.laws.proofs.FormLaws.{sizes-says}
 use Rattle.laws.proofs.SetLaws.{set-small, set-up, set-full}
-use Rattle.memory.specs.Memory.{siteWords, linksWords, boxIn, linkIn, siteOf, readable, memoryForm}
+use Rattle.memory.specs.Memory.{rowWidth, siteWords, linksWords, boxIn, linkIn, siteOf, readable}
+use Rattle.memory.specs.Memory.{memoryForm}
 use Rattle.memory.specs.After.{settingAt, boxesOf, linksOf, RowsLent, LinksLent, RowsPut, LinksPut}
 use Rattle.memory.proofs.FormLaws.{words-say}
 use Rattle.memory.proofs.LentLaws.{setting-same, readable-made, form-both}
 use Rattle.site.specs.General.{settingPut}
-use Rattle.site.specs.Entries.{After, FreshMade, freshOn}
-use Rattle.site.proofs.GeneralLaws.{setting-length, setting-put}
+use Rattle.site.specs.Entries.{pastSite, pastLinks, After, FreshMade, freshOn}
+use Rattle.site.proofs.GeneralLaws.{setting-length, setting-past, setting-put}
 use Rattle.site.proofs.AfterLaws.{no-needs, need-met, need-not, refused-after}
 
 pub full-most : (n : ℕ) → n ≤ mostBoxes → fullSet n ≤ 31
@@ -94,14 +95,19 @@ module _ (xs ls : List ℕ) (n J L : ℕ) where
           (ap form fresh-site ∙ fresh-form n J L h)
 
       pub fresh-done : sizesForm n J L ≡ true → enough ≡ true → length xs0 ≡ length xs
+          → drop (siteWords n J) xs0 ≡ drop (siteWords n J) xs
           → After (freshOn xs ls n J L) xs ls xs' ls' Answer.Done
-      unfolding freshOn
-      fresh-done h e w =
+      unfolding freshOn fresh
+      fresh-done h e w past =
           let is = need-met _ _ _ _ _ h ∙ need-met _ _ _ _ _ e ∙ no-needs _ _ in
           record {
             answer = ap (λ (r : Outcome). r .answer) (sym is);
             site = fresh-site ∙ ap (λ (r : Outcome). r .next) (sym is);
             kept = λ t. absurd (true≠false (sym t));
+            past-site = subst (λ (p : Outcome). pastSite (p .next) xs' ≡ pastSite (p .next) xs)
+                (sym is) (rows .past ∙ past);
+            past-links = subst (λ (p : Outcome). pastLinks (p .next) ls' ≡ pastLinks (p .next) ls)
+                (sym is) (links .past);
             site-words = rows .words ∙ w;
             links-words = links .words;
             readable = λ r. readable-made xs' ls' 0 (rw known (rows .lent)) (rw known (links .lent));
@@ -139,6 +145,7 @@ module _ (xs ls : List ℕ) (n J L : ℕ) where
       let links' = subst (λ v. LinksPut (knowing v) (λ a b. []) ls ls') e links in
       record {
         after = fresh-done xs0 xs' ls' known rows' links' h g
-            (ap length put ∙ setting-length (knowing w) xs);
+            (ap length put ∙ setting-length (knowing w) xs)
+            (ap (drop (siteWords n J)) put ∙ setting-past (knowing w) xs (n * rowWidth J));
         form = λ t. by-form xs0 xs' ls' known rows' links' h;
       }

@@ -21,6 +21,12 @@ module _ (xs : List ℕ) (epoch present : ℕ) where
   pub general-length : length (generalPut epoch present xs) ≡ length xs
   general-length = length-set (set xs 3 epoch) 4 present ∙ length-set xs 3 epoch
 
+  -- what follows them stays
+  pub general-past : (m : ℕ) → drop (5 + m) (generalPut epoch present xs) ≡ drop (5 + m) xs
+  general-past m =
+      drop-set-lt (5 + m) (set xs 3 epoch) 4 present (omega arith)
+      ∙ drop-set-lt (5 + m) xs 3 epoch (omega arith)
+
   sizes : (i : ℕ) → i < 3 → getD (generalPut epoch present xs) i 0 ≡ getD xs i 0
   sizes i h =
       getD-set-other (set xs 3 epoch) 4 i present 0 (omega arith)
@@ -37,9 +43,7 @@ module _ (xs : List ℕ) (epoch present : ℕ) where
   -- the rows stand behind the general words
   same-row : (J b : ℕ) → rowAt J (generalPut epoch present xs) b ≡ rowAt J xs b
   same-row J b =
-      ap (take (rowWidth J))
-      (drop-set-lt (rowStart J b) (set xs 3 epoch) 4 present (omega arith)
-      ∙ drop-set-lt (rowStart J b) xs 3 epoch (omega arith))
+      ap (take (rowWidth J)) (general-past ((b - 1) * rowWidth J))
 
   abbrev n-same : getD (generalPut epoch present xs) 0 0 ≡ getD xs 0 0
   n-same = sizes 0 (omega arith)
@@ -85,8 +89,7 @@ module _ (xs : List ℕ) (epoch present : ℕ) where
       (rw (n-same, J-same, L-same) (record {
         sizes = links .sizes;
         words = links .words;
-        fits
-            = links .fits;
+        fits = links .fits;
       }))
 
 -- ---- a verdict carried out
@@ -106,6 +109,13 @@ module _ (s : Setting) (xs : List ℕ) where
 
   pub setting-length : length (settingPut s xs) ≡ length xs
   setting-length = general-length sized (s .epoch) (s .present) ∙ sized-length
+
+  pub setting-past : (m : ℕ) → drop (5 + m) (settingPut s xs) ≡ drop (5 + m) xs
+  setting-past m =
+      general-past sized (s .epoch) (s .present) m
+      ∙ drop-set-lt (5 + m) (set (set xs 0 (s .n)) 1 (s .j)) 2 (s .l) (omega arith)
+      ∙ drop-set-lt (5 + m) (set xs 0 (s .n)) 1 (s .j) (omega arith)
+      ∙ drop-set-lt (5 + m) xs 0 (s .n) (omega arith)
 
   pub setting-put : 5 ≤ length xs → settingAt (settingPut s xs) (s .me) ≡ s
   setting-put h =

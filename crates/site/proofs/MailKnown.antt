@@ -125,6 +125,7 @@ module _ (s : Setting) (a : ℕ) (ls ls1 : List ℕ) (is : isLink (s .n) a (s .m
       → LinksPut s (posted (lessHead s a ls) (s .me) out rs) ls ls'
   posted-popped out rs ls' h = record {
     links = h .links ∙ (λ k. posted (put .links k) (s .me) out rs);
+    past = h .past ∙ put .past;
     words = h .words ∙ put .words;
     lent = h .lent;
   }

@@ -98,6 +98,22 @@ module _ {ℓ} {A : Type ℓ} where
       let b : length (take a xs) ≡ a = length-take-le a xs (omega arith) in
       rw (drop-at (take a xs), take-at ys)
 
+  -- What follows the part stays.
+  pub rest-splice : (k a w : ℕ) (xs ys : List A) → a ≤ length xs → length ys ≡ w → a + w ≤ k
+      → drop k (splice xs a w ys) ≡ drop k xs
+  rest-splice k a w xs ys h e m =
+      let f = take a xs ++ ys in
+      let l : length f ≡ a + w = simp (length-append, length-take) (omega arith) in
+      let d = k - (a + w) in
+      let z : a + w + d ≡ k = omega arith in
+      let here : drop (a + w) (splice xs a w ys) ≡ drop w (drop a xs) =
+      rw (← append-assoc (take a xs) ys) (drop-at f (drop w (drop a xs)) (a + w) l) in
+      ap (λ (i : ℕ). drop i (splice xs a w ys)) (sym z)
+      ∙ sym (drop-drop d (a + w) (splice xs a w ys))
+      ∙ ap (drop d) (here ∙ drop-drop w a xs)
+      ∙ drop-drop d (a + w) xs
+      ∙ ap (λ (i : ℕ). drop i xs) z
+
   -- The front up to the part's end is the front before it, and the part.
   pub take-splice-end : (a k : ℕ) (xs ys : List A) → a ≤ length xs → length ys ≡ k
       → take (a + k) (splice xs a k ys) ≡ take a xs ++ ys

@@ -15,12 +15,12 @@ use Rattle.own.proofs.mail.Tie as tie
 returns : tie.Need-returns
 returns c =
     let tested = c .before .before in
-    refused-13 _ _ (sym (tested .is-sizes .ensures) ∙ not-true _ (c .before .if1 .taken))
+    refused-13 _ _ (sym (tested .are-sizes .ensures) ∙ not-true _ (c .before .if1 .taken))
     (c .refused .ensures)
 
 sized : (c : tie.Else1) → let s = c .before .before .before .before .before .args .s in
     sizesForm (s .n) (s .j) (s .l) ≡ true
-sized c = sym (c .before .is-sizes .ensures) ∙ not-false _ (c .if1 .left)
+sized c = sym (c .before .are-sizes .ensures) ∙ not-false _ (c .if1 .left)
 
 is-row-requires : tie.Need-is-row-requires
 is-row-requires c κs = sized (c .before .before)
