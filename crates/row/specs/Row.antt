@@ -1,6 +1,7 @@
--- A box in words: twenty words of fields, and then room for J records. They stand in the image's order: flag, state,
--- phase, pn, last, stored pn, stored number, best pn, best number, replies, accept set; the best, the waiting and the
--- record being agreed; five peers' lasts; the count of records held.
+-- A box in words: twenty words of fields, and then room for J records. They stand in the image's
+-- order: flag, state, phase, pn, last, stored pn, stored number, best pn, best number, replies,
+-- accept set; the best, the waiting and the record being agreed; five peers' lasts; the count of
+-- records held.
 use Prim.Native.Nat.{ℕ, zero, suc, _+_}
 use mathlib.Core.Bool.{Bool, true, false, cond}
 use mathlib.Core.List.{List, [], _∷_}
@@ -66,7 +67,8 @@ headOf n r = record {
 abbrev pub boxOf : ℕ → List ℕ → Box
 boxOf n r = record { head = headOf n r; records = part r 20 (getD r 19 0) }
 
--- what the box does not show of its words: flag, state and phase have their numbers, the records have room
+-- what the box does not show of its words: flag, state and phase have their numbers, and the
+-- records have room
 unfoldable pub rowFits : ℕ → List ℕ → Bool
 rowFits J r =
     all (leb (getD r 0 0) 1

@@ -33,8 +33,8 @@ written Book.Keep rs ms = rs
 written (Book.Put l r) rs ms = take l rs ++ (r ∷ [])
 written (Book.Take a l) rs ms = take a rs ++ drop a (take l ms)
 
--- what a turn makes of the book fits the box's records rs and the mail's ms: what it keeps and takes
--- is there, and there is room for J
+-- what a turn makes of the book fits the box's records rs and the mail's ms: what it keeps and what
+-- it takes is there, and there is room for J
 abbrev pub BookFits : ℕ → List ℕ → List ℕ → Book → Type 0
 BookFits J rs ms Book.Keep = Unit {0}
 BookFits J rs ms (Book.Put l r) = (l ≤ length rs) × (l < J)

@@ -8,7 +8,8 @@ use lib.ListN.{length, take, getD}
 use lib.Seq.{getD-take}
 use Rattle.rules.specs.Sizes.{sizesForm}
 use Rattle.rules.specs.Box.{Box, Letter, Event, own, mail, turnOf, turned}
-use Rattle.rules.specs.Site.{Site, Outcome, isBox, isLink, upd, posted, room, played, popped, setting}
+use Rattle.rules.specs.Site.{Site, Outcome, isBox, isLink, upd, posted, room, played, popped}
+use Rattle.rules.specs.Site.{setting}
 use Rattle.rules.specs.Form.{form}
 use Rattle.rules.specs.Needs.{Need, need, ruled}
 use Rattle.rules.specs.Step.{refused, byAnswer, byTurn, acting, delivered, step}

@@ -22,7 +22,8 @@ use Rattle.memory.specs.Memory.{rowWidth, siteWords, siteOf, readable, memoryFo
 use Rattle.memory.specs.After.{settingAt, linksOf, RowsPut, LinksPut}
 use Rattle.memory.proofs.LentLaws.{form-readable, setting-same, readable-rows, readable-made}
 use Rattle.site.specs.General.{generalPut, withGeneral}
-use Rattle.site.proofs.GeneralLaws.{general-length, general-past, general-put, general-readable}
+use Rattle.site.proofs.GeneralLaws.{general-length, general-past, general-put}
+use Rattle.site.proofs.GeneralLaws.{general-readable}
 use Rattle.site.specs.Entries.{pastSite, pastLinks, After}
 use Rattle.site.specs.Verdicts.{verdictOf}
 use Rattle.rules.specs.Step.{loseNeeds}

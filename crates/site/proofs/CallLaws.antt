@@ -8,7 +8,8 @@ use Rattle.rules.specs.Box.{Letter, own, mail, turnOf}
 use Rattle.rules.specs.Site.{Site, Outcome, isBox, isLink, popped}
 use Rattle.rules.specs.Form.{form}
 use Rattle.rules.specs.Needs.{Need, need, ruled}
-use Rattle.rules.specs.Step.{refused, did, byTurn, atBox, atLink, acting, delivered, elect, presented, step, agreedAs, holds}
+use Rattle.rules.specs.Step.{refused, did, byTurn, atBox, atLink, acting, delivered, elect}
+use Rattle.rules.specs.Step.{presented, step, agreedAs, holds}
 use Rattle.rules.specs.Sets.{joined, without}
 use Rattle.rules.specs.declared.model.Act.{Act}
 use Rattle.rules.specs.declared.model.Answer.{Answer}

@@ -16,7 +16,8 @@ use Rattle.laws.proofs.FormLaws.{box-made, letter-made}
 use Rattle.laws.proofs.FrameLaws.{upd-same}
 use Rattle.laws.proofs.Receivers.{NotTo}
 use Rattle.laws.proofs.TurnForm.{OutFits, Fits}
-use Rattle.memory.specs.After.{boxesOf, linksOf, roomFor, RowsLent, LinksLent, BoxLent, RowsPut, LinksPut, Sends, Playable}
+use Rattle.memory.specs.After.{boxesOf, linksOf, roomFor, RowsLent, LinksLent, BoxLent, RowsPut}
+use Rattle.memory.specs.After.{LinksPut, Sends, Playable}
 use Rattle.site.specs.Carry.{roomOut, Posts, Carries, Carried}
 
 -- ---- what is sent, by its case

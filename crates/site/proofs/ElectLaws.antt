@@ -26,7 +26,8 @@ use Rattle.rules.specs.Step.{electNeeds}
 use Rattle.site.specs.General.{generalPut}
 use Rattle.site.specs.Carry.{Knows, ElectIs}
 use Rattle.site.specs.Records.{AgreedLie}
-use Rattle.site.proofs.CallLaws.{verdict-go, verdict-discard, elect-needs, holds-true, holds-untrue}
+use Rattle.site.proofs.CallLaws.{verdict-go, verdict-discard, elect-needs, holds-true}
+use Rattle.site.proofs.CallLaws.{holds-untrue}
 use Rattle.site.proofs.CallAfter.{needs-refused, elected-after}
 use Rattle.site.proofs.KnownLaws.{formed, rows-lent}
 

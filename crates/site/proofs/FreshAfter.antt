@@ -91,7 +91,8 @@ module _ (xs ls : List ℕ) (n J L : ℕ) where
 
       by-form : sizesForm n J L ≡ true → memoryForm xs' ls' ≡ true
       by-form h =
-          form-both xs' ls' (readable-made xs' ls' 0 (rw known (rows .lent)) (rw known (links .lent)))
+          form-both xs' ls' (readable-made xs' ls' 0 (rw known (rows .lent))
+          (rw known (links .lent)))
           (ap form fresh-site ∙ fresh-form n J L h)
 
       pub fresh-done : sizesForm n J L ≡ true → enough ≡ true → length xs0 ≡ length xs
@@ -110,7 +111,8 @@ module _ (xs ls : List ℕ) (n J L : ℕ) where
                 (sym is) (links .past);
             site-words = rows .words ∙ w;
             links-words = links .words;
-            readable = λ r. readable-made xs' ls' 0 (rw known (rows .lent)) (rw known (links .lent));
+            readable = λ r. readable-made xs' ls' 0 (rw known (rows .lent))
+                (rw known (links .lent));
           }
 
   -- what the code has at hand

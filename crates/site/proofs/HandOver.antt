@@ -23,9 +23,12 @@ use Rattle.memory.specs.After.{settingAt, boxesOf, linksOf, BoxLent, LinksPut, 
 use Rattle.rules.specs.Answers.{isRefusal, isAccepted}
 use Rattle.site.specs.Entries.{After}
 use Rattle.site.specs.Carry.{roomOut, lessHead, TakesMail, Knows, Carried}
-use Rattle.site.proofs.TurnAfter.{deliver-refused, deliver-full, deliver-discarded, deliver-played}
-use Rattle.site.proofs.TurnKnown.{box-lent, me-is, turn-is, apart, room-told, carries, carried-known}
-use Rattle.site.proofs.MailKnown.{link-box, head-is, place-formed, event-fits, event-foreign, room-base}
+use Rattle.site.proofs.TurnAfter.{deliver-refused, deliver-full, deliver-discarded}
+use Rattle.site.proofs.TurnAfter.{deliver-played}
+use Rattle.site.proofs.TurnKnown.{box-lent, me-is, turn-is, apart, room-told, carries}
+use Rattle.site.proofs.TurnKnown.{carried-known}
+use Rattle.site.proofs.MailKnown.{link-box, head-is, place-formed, event-fits, event-foreign}
+use Rattle.site.proofs.MailKnown.{room-base}
 
 module _ {s : Setting} {xs ls : List ℕ} (know : Knows s xs ls) (a : ℕ)
     (link : isLink (s .n) a (s .me) ≡ true) where

@@ -1,4 +1,5 @@
--- What the code knows at a call: the words are by form, s is the setting of box c, and how a test of its number came out.
+-- What the code knows at a call: the words are by form, s is the setting of box c, and how a test
+-- of its number came out.
 use Prim.Native.Nat.{ℕ, _+_, _*_, _^_, _≤_, _<_}
 use mathlib.Core.Path.{_≡_, refl, sym, ap, _∙_, subst}
 use mathlib.Core.Bool.{Bool, true, false, not}

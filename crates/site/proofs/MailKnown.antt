@@ -30,7 +30,8 @@ use Rattle.laws.proofs.TurnForm.{EventFits}
 use Rattle.place.specs.Place.{letterAt, placeForm}
 use Rattle.link.specs.Link.{placeWidth}
 use Rattle.memory.specs.Memory.{siteOf, memoryForm}
-use Rattle.memory.specs.After.{settingAt, boxesOf, linksOf, roomFor, LinksLent, RowsPut, LinksPut, HeadStands, Playable}
+use Rattle.memory.specs.After.{settingAt, boxesOf, linksOf, roomFor, LinksLent, RowsPut, LinksPut}
+use Rattle.memory.specs.After.{HeadStands, Playable}
 use Rattle.site.specs.Carry.{roomOut, lessHead, Posts, TakesMail, Knows, Carried}
 use Rattle.site.specs.Entries.{After}
 use Rattle.site.specs.Verdicts.{verdictOf}
@@ -228,7 +229,8 @@ module _ {s : Setting} {a p : ℕ} {xs ls : List ℕ} {t : Turn} (k : TakesMail 
               (room-popped s a ls ls1 (k .link) popped (t .out) ∙ k .carries .room)
 
           pub mail-carried : {ls' : List ℕ}
-              → LinksPut s (posted (linksOf s ls1) (s .me) (t .out) (boxesOf s xs' (s .me) .records))
+              → LinksPut s (posted (linksOf s ls1) (s .me) (t .out)
+              (boxesOf s xs' (s .me) .records))
               ls1 ls'
               → Carried s (turnedBy (placeWidth (s .j)))
               (posted (lessHead s a ls) (s .me) (t .out) (turnedBy (placeWidth (s .j)) .records)) xs

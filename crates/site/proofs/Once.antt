@@ -15,7 +15,8 @@ use Rattle.memory.proofs.LentLaws.{form-readable, form-site, form-both}
 use Rattle.rules.specs.Answers.{isRefusal}
 use Rattle.site.specs.Entries.{After, FormedStep, stepOn, holdsOn}
 
--- two results of one call have the same answer and the same site, and where it was refused the same words
+-- two results of one call have the same answer and the same site, and where it was refused the same
+-- words
 pub record Same (xs ls ys ms : List ℕ) (a b : Answer) : Type 0 where
   pub answer : a ≡ b
   pub site : siteOf xs ls ≡ siteOf ys ms
@@ -32,7 +33,8 @@ once p q = record {
       (k .0 ∙ sym (l .0), k .1 ∙ sym (l .1));
 }
 
--- two memories that hold the same site get the same answer and the same next site, whatever their unused room holds
+-- two memories that hold the same site get the same answer and the same next site, whatever their
+-- unused room holds
 pub room-unread : (xs ls ys ms : List ℕ) (d : Call) → readable xs ls ≡ readable ys ms
     → siteOf xs ls ≡ siteOf ys ms → stepOn xs ls d ≡ stepOn ys ms d
 unfolding stepOn

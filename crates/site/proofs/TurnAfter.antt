@@ -22,11 +22,14 @@ use Rattle.laws.proofs.Logic.{true≠false, both-no}
 use Rattle.laws.proofs.StepLaws.{changed}
 use Rattle.memory.specs.Memory.{siteOf, readable, memoryForm}
 use Rattle.memory.specs.After.{settingAt, boxesOf, linksOf, RowsPut, LinksPut}
-use Rattle.memory.proofs.LentLaws.{form-readable, setting-same, readable-rows, readable-links, readable-made}
+use Rattle.memory.proofs.LentLaws.{form-readable, setting-same, readable-rows, readable-links}
+use Rattle.memory.proofs.LentLaws.{readable-made}
 use Rattle.rules.specs.Answers.{isRefusal, isAccepted}
 use Rattle.site.specs.Entries.{After}
-use Rattle.site.proofs.AfterLaws.{refused-after, same-after, turn-refused, turn-discarded, turn-full, turn-played, changed-after, rows-same}
-use Rattle.site.proofs.CallLaws.{acting-no-box, acting-turn, deliver-no-link, deliver-head, delivered-turn}
+use Rattle.site.proofs.AfterLaws.{refused-after, same-after, turn-refused, turn-discarded}
+use Rattle.site.proofs.AfterLaws.{turn-full, turn-played, changed-after, rows-same}
+use Rattle.site.proofs.CallLaws.{acting-no-box, acting-turn, deliver-no-link, deliver-head}
+use Rattle.site.proofs.CallLaws.{delivered-turn}
 
 accepted-no-refusal : (a : Answer) → isAccepted a ≡ true → isRefusal a ≡ false
 accepted-no-refusal Answer.Done e = refl
@@ -61,7 +64,8 @@ module _ (xs ls : List ℕ) (f : memoryForm xs ls ≡ true) where
             ∙ ap (λ (u : Turn). byTurn s s c u []) (sym e)
 
         -- it changes nothing
-        pub acting-stays : isAccepted (t .answer) ≡ false → After (acting s c a) xs ls xs ls (t .answer)
+        pub acting-stays : isAccepted (t .answer) ≡ false
+            → After (acting s c a) xs ls xs ls (t .answer)
         acting-stays h = go (t .answer) h refl
           where
             go : (r : Answer) → isAccepted r ≡ false → t .answer ≡ r

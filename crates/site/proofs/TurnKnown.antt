@@ -60,16 +60,19 @@ module _ (xs ls : List ℕ) (f : memoryForm xs ls ≡ true) (c : ℕ) (is : isBo
       me-is = rw e is
 
       -- what was carried out by s was carried out by what the words say
-      pub carried-known : (link : Setting → ℕ → ℕ → List Letter) (t : Turn) (ms ls1 xs' ls' : List ℕ)
+      pub carried-known : (link : Setting → ℕ → ℕ → List Letter) (t : Turn)
+          (ms ls1 xs' ls' : List ℕ)
           → Carried s (turned (boxesOf s xs (s .me)) t ms)
-          (posted (link s) (s .me) (t .out) (turned (boxesOf s xs (s .me)) t ms .records)) xs ls1 xs'
+          (posted (link s) (s .me) (t .out) (turned (boxesOf s xs (s .me)) t ms .records))
+          xs ls1 xs'
           ls'
           → Carried at (turned (boxesOf at xs c) t ms)
           (posted (link at) c (t .out) (turned (boxesOf at xs c) t ms .records)) xs ls1 xs' ls'
       carried-known link t ms ls1 xs' ls' h =
           subst
           (λ (k : Setting). Carried k (turned (boxesOf k xs (k .me)) t ms)
-          (posted (link k) (k .me) (t .out) (turned (boxesOf k xs (k .me)) t ms .records)) xs ls1 xs'
+          (posted (link k) (k .me) (t .out) (turned (boxesOf k xs (k .me)) t ms .records))
+          xs ls1 xs'
           ls')
           e h
 

@@ -18,7 +18,8 @@ use rules::ranges;
 fn elect_by(site: &mut [u64], links: &mut [u64], s: Setting, v: Verdict) -> Answer
     requires { ⌜ Knows s (now site) (now links) ⌝ }
     ensures { λ r.
-        ⌜ ElectIs v s (now (site .entry)) (now (links .entry)) (now (site .exit)) (now (links .exit)) r ⌝ }
+        ⌜ ElectIs v s (now (site .entry)) (now (links .entry)) (now (site .exit))
+        (now (links .exit)) r ⌝ }
 {
     let epoch = s.epoch + 1;
     match v {

@@ -1,5 +1,5 @@
-// What a caller calls: `step` and `holds` take any words. The formed ones are for loops that have looked at
-// the form once, and require it.
+// What a caller calls: `step` and `holds` take any words. The formed ones require form, for loops
+// that have looked once.
 ghost use mathlib.Core.Path.{_≡_};
 ghost use mathlib.Core.Bool.{true};
 ghost use Rattle.rules.specs.Step.{holds};
@@ -20,7 +20,8 @@ use rules::ranges;
 pub fn step_formed(site: &mut [u64], links: &mut [u64], call: Call) -> Answer
     requires { ⌜ memoryForm (now site) (now links) ≡ true ⌝ }
     ensures { λ r.
-        ⌜ FormedStep call (now (site .entry)) (now (links .entry)) (now (site .exit)) (now (links .exit)) r ⌝ }
+        ⌜ FormedStep call (now (site .entry)) (now (links .entry)) (now (site .exit))
+        (now (links .exit)) r ⌝ }
 {
     match call {
         Call::Elect(c) => elections::elect(site, links, c),
@@ -59,8 +60,8 @@ pub fn holds_formed(site: &[u64], links: &[u64], c: u32, k: u32, left: u32, righ
 // Any call on any words.
 pub fn step(site: &mut [u64], links: &mut [u64], call: Call) -> Answer
     ensures { λ r.
-        ⌜ After (stepOn (now (site .entry)) (now (links .entry)) call) (now (site .entry)) (now (links .entry))
-        (now (site .exit)) (now (links .exit)) r ⌝ }
+        ⌜ After (stepOn (now (site .entry)) (now (links .entry)) call)
+        (now (site .entry)) (now (links .entry)) (now (site .exit)) (now (links .exit)) r ⌝ }
 {
     if memory::is_by_form(site, links) {
         return step_formed(site, links, call);

@@ -1,4 +1,4 @@
-// The engine: a fresh site, any call, and a holds line, on two slices of words that the caller lends.
+// The engine: a fresh site, any call, a holds line, on two slices of words that the caller lends.
 mod elections;
 mod entries;
 mod mail;

@@ -40,7 +40,8 @@ fn put_setting(site: &mut [u64], s: Setting)
 // A fresh site of n boxes in any words.
 pub fn fresh(site: &mut [u64], links: &mut [u64], n: u32, j: u32, l: u32) -> Answer
     ensures { λ r.
-        ⌜ FreshMade n j l (now (site .entry)) (now (links .entry)) (now (site .exit)) (now (links .exit)) r ⌝ }
+        ⌜ FreshMade n j l (now (site .entry)) (now (links .entry)) (now (site .exit))
+        (now (links .exit)) r ⌝ }
 {
     if !ranges::are_sizes(n as u64, j as u64, l as u64) {
         return Answer::Refused(Refusal::Sizes);

@@ -4,7 +4,9 @@ use Rattle.place.proofs.after_last.Statement.{statement}
 use Rattle.place.proofs.after_last.Tie as tie
 
 returns : tie.Need-returns
-returns c = simp (c .held-at .ensures, c .before .records .ensures, c .before .before .number .ensures)
+returns c =
+    let at-number = c .before .before in
+    simp (c .held-at .ensures, c .before .records .ensures, at-number .number .ensures)
 
 pub after-last-spec : {M : Type 1} → statement M
 after-last-spec =

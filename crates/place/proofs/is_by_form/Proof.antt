@@ -33,12 +33,15 @@ records-requires c κs =
 
 returns : tie.Need-returns
 returns c =
-    let loaded = c .before .before .before .before .before in
+    let at-is-of-kind = c .before .before in
+    let at-number = at-is-of-kind .before in
+    let at-before = at-number .before in
+    let loaded = at-before .before in
     let inside = loaded .before in
     form-go _ _ (inside .before .before .before .pre) _ _ _ _ _ _
     (inside .before .in-ranges .ensures) (inside .if1 .taken)
-    (loaded .load .ensures) (c .before .before .before .number .ensures) (c .before .records .ensures)
-    (c .before .before .is-of-kind .ensures) (c .all-proper .ensures)
+    (loaded .load .ensures) (at-number .number .ensures) (c .before .records .ensures)
+    (at-is-of-kind .is-of-kind .ensures) (c .all-proper .ensures)
 
 returns-2 : tie.Need-returns-2
 returns-2 c = form-stop _ _ _ (c .before .in-ranges .ensures) (c .if1 .left)

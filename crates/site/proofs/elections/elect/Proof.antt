@@ -3,7 +3,8 @@ use borrow.Author.Needs.{needs}
 use Rattle.memory.specs.Memory.{siteOf}
 use Rattle.site.proofs.AfterLaws.{refused-after}
 use Rattle.site.proofs.CallLaws.{elect-no-box}
-use Rattle.site.proofs.KnownLaws.{general-lent, box-yes, box-not, box-few, boxes-most, here-told}
+use Rattle.site.proofs.KnownLaws.{general-lent, box-yes, box-not, box-few, boxes-most}
+use Rattle.site.proofs.KnownLaws.{here-told}
 use Rattle.site.proofs.ElectLaws.{knows-of, elect-known}
 use Rattle.site.proofs.elections.elect.Statement.{statement}
 use Rattle.site.proofs.elections.elect.Tie as tie
@@ -41,12 +42,18 @@ elect-by-requires c κs = knows-of _ _
 
 returns-2 : tie.Need-returns-2
 returns-2 c =
-    let f = c .before .before .before .before .before .before .before .before .before .before .before .before .before .before .before .pre in
-    let e = c .before .before .before .before .before .before .before .before .before .before .before .setting-of .ensures in
-    elect-known _ _ f (c .before .before .before .before .before .before .before .before .before .before .before .before .before .before .before .args .c) _ e
-    (box-yes _ _ f _ _ e _ (c .before .before .before .before .before .before .before .before .before .before .is-box .ensures) (c .before .before .before .before .before .before .before .before .before .if1 .left))
-    _ _ _ _ (c .before .before .before .before .before .before .before .elect-verdict .ensures)
-    (c .before .before .before .before .elect-by .ensures)
+    let at-elect-by = c .before .before .before .before in
+    let at-elect-verdict = at-elect-by .before .before .before in
+    let at-if1 = at-elect-verdict .before .before in
+    let at-is-box = at-if1 .before in
+    let at-setting-of = at-is-box .before in
+    let start = at-setting-of .before .before .before .before in
+    let f = start .pre in
+    let e = at-setting-of .setting-of .ensures in
+    elect-known _ _ f (start .args .c) _ e
+    (box-yes _ _ f _ _ e _ (at-is-box .is-box .ensures) (at-if1 .if1 .left))
+    _ _ _ _ (at-elect-verdict .elect-verdict .ensures)
+    (at-elect-by .elect-by .ensures)
 
 pub elect-spec : {M : Type 1} → statement M
 elect-spec =

@@ -23,18 +23,24 @@ clear-links-requires c κs =
 
 put-general-requires : tie.Need-put-general-requires
 put-general-requires c κs =
-    let k = c .before .before .before .before .before .before .before .before .before .before .before .before .before .before .pre in
-    let l = c .before .before .before .before .before .before .before .elect-rows .ensures in
+    let at-elect-rows = c .before .before .before .before .before .before .before in
+    let start = at-elect-rows .before .before .before .before .before .before .before in
+    let k = start .pre in
+    let l = at-elect-rows .elect-rows .ensures in
     omega (arith, five-words _ _ (k .form), l .words)
 
 returns : tie.Need-returns
 returns c =
+    let at-put-general = c .before .before in
+    let at-clear-links = at-put-general .before .before .before .before in
+    let at-elect-rows = at-clear-links .before .before .before .before in
+    let at-enum-told = at-elect-rows .before .before in
     elect-go _ _ _ _ _ _ _ _
-    (c .before .before .before .before .before .before .before .before .before .before .before .before .enum-told .given .1)
+    (at-enum-told .enum-told .given .1)
     refl
-    (c .before .before .before .before .before .before .before .before .before .before .elect-rows .ensures)
-    (c .before .before .before .before .before .before .clear-links .ensures)
-    (c .before .before .put-general .ensures)
+    (at-elect-rows .elect-rows .ensures)
+    (at-clear-links .clear-links .ensures)
+    (at-put-general .put-general .ensures)
 
 returns-2 : tie.Need-returns-2
 returns-2 c = rw (c .before .v .given .1) (refl, (refl, refl))

@@ -12,8 +12,11 @@ step-formed-requires c κs = sym (c .before .before .before .is-by-form .ensures
 
 returns : tie.Need-returns
 returns c =
-    step-formed _ _ _ _ _ _ (sym (c .before .before .before .before .before .before .before .before .is-by-form .ensures) ∙ c .before .before .before .before .before .before .before .if1 .taken)
-    (c .before .before .before .before .step-formed .ensures .after)
+    let at-step-formed = c .before .before .before .before in
+    let at-if1 = at-step-formed .before .before .before in
+    let at-is-by-form = at-if1 .before in
+    step-formed _ _ _ _ _ _ (sym (at-is-by-form .is-by-form .ensures) ∙ at-if1 .if1 .taken)
+    (at-step-formed .step-formed .ensures .after)
 
 returns-2 : tie.Need-returns-2
 returns-2 c = unformed-after _ _ (sym (c .before .is-by-form .ensures) ∙ c .if1 .left) _

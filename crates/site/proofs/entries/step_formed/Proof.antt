@@ -57,66 +57,90 @@ acting-requires-7 c κs = (c .before .before .before .before .before .before .be
 returns : tie.Need-returns
 unfolding step
 returns c =
-    let start = c .before .before .before .before .before .before .before .before .before .before .before .before in
+    let at-elect = c .before .before .before .before in
+    let at-call = at-elect .before .before .before .before in
+    let at-before = at-call .before .before .before in
+    let start = at-before .before in
     formed (start .args .call) (fits start) (start .pre)
-    (rw (c .before .before .before .before .before .before .before .before .call .given .1)
-    (c .before .before .before .before .elect .ensures))
+    (rw (at-call .call .given .1)
+    (at-elect .elect .ensures))
 
 returns-2 : tie.Need-returns-2
 unfolding step
 returns-2 c =
-    let start = c .before .before .before .before .before .before .before .before .before .before .before .before in
+    let at-acting = c .before .before .before .before in
+    let at-call2 = at-acting .before .before .before .before in
+    let at-before = at-call2 .before .before .before in
+    let start = at-before .before in
     formed (start .args .call) (fits start) (start .pre)
-    (rw (c .before .before .before .before .before .before .before .before .call2 .given .1)
-    (c .before .before .before .before .acting .ensures))
+    (rw (at-call2 .call2 .given .1)
+    (at-acting .acting .ensures))
 
 returns-3 : tie.Need-returns-3
 unfolding step
 returns-3 c =
-    let start = c .before .before .before .before .before .before .before .before .before .before .before .before in
+    let at-acting2 = c .before .before .before .before in
+    let at-call3 = at-acting2 .before .before .before .before in
+    let at-before = at-call3 .before .before .before in
+    let start = at-before .before in
     formed (start .args .call) (fits start) (start .pre)
-    (rw (c .before .before .before .before .before .before .before .before .call3 .given .1)
-    (c .before .before .before .before .acting2 .ensures))
+    (rw (at-call3 .call3 .given .1)
+    (at-acting2 .acting2 .ensures))
 
 returns-4 : tie.Need-returns-4
 unfolding step
 returns-4 c =
-    let start = c .before .before .before .before .before .before .before .before .before .before .before .before in
+    let at-acting3 = c .before .before .before .before in
+    let at-call4 = at-acting3 .before .before .before .before in
+    let at-before = at-call4 .before .before .before in
+    let start = at-before .before in
     formed (start .args .call) (fits start) (start .pre)
-    (rw (c .before .before .before .before .before .before .before .before .call4 .given .1)
-    (c .before .before .before .before .acting3 .ensures))
+    (rw (at-call4 .call4 .given .1)
+    (at-acting3 .acting3 .ensures))
 
 returns-5 : tie.Need-returns-5
 unfolding step
 returns-5 c =
-    let start = c .before .before .before .before .before .before .before .before .before .before .before .before in
+    let at-acting4 = c .before .before .before .before in
+    let at-call5 = at-acting4 .before .before .before .before in
+    let at-before = at-call5 .before .before .before in
+    let start = at-before .before in
     formed (start .args .call) (fits start) (start .pre)
-    (rw (c .before .before .before .before .before .before .before .before .call5 .given .1)
-    (c .before .before .before .before .acting4 .ensures))
+    (rw (at-call5 .call5 .given .1)
+    (at-acting4 .acting4 .ensures))
 
 returns-6 : tie.Need-returns-6
 unfolding step
 returns-6 c =
-    let start = c .before .before .before .before .before .before .before .before .before .before .before .before in
+    let at-acting5 = c .before .before .before .before in
+    let at-call6 = at-acting5 .before .before .before .before in
+    let at-before = at-call6 .before .before .before in
+    let start = at-before .before in
     formed (start .args .call) (fits start) (start .pre)
-    (rw (c .before .before .before .before .before .before .before .before .call6 .given .1)
-    (c .before .before .before .before .acting5 .ensures))
+    (rw (at-call6 .call6 .given .1)
+    (at-acting5 .acting5 .ensures))
 
 returns-7 : tie.Need-returns-7
 unfolding step
 returns-7 c =
-    let start = c .before .before .before .before .before .before .before .before .before .before .before .before in
+    let at-acting6 = c .before .before .before .before in
+    let at-call7 = at-acting6 .before .before .before .before in
+    let at-before = at-call7 .before .before .before in
+    let start = at-before .before in
     formed (start .args .call) (fits start) (start .pre)
-    (rw (c .before .before .before .before .before .before .before .before .call7 .given .1)
-    (c .before .before .before .before .acting6 .ensures))
+    (rw (at-call7 .call7 .given .1)
+    (at-acting6 .acting6 .ensures))
 
 returns-8 : tie.Need-returns-8
 unfolding step
 returns-8 c =
-    let start = c .before .before .before .before .before .before .before .before .before .before .before .before in
+    let at-acting7 = c .before .before .before .before in
+    let at-call8 = at-acting7 .before .before .before .before in
+    let at-before = at-call8 .before .before .before in
+    let start = at-before .before in
     formed (start .args .call) (fits start) (start .pre)
-    (rw (c .before .before .before .before .before .before .before .before .call8 .given .1)
-    (c .before .before .before .before .acting7 .ensures))
+    (rw (at-call8 .call8 .given .1)
+    (at-acting7 .acting7 .ensures))
 
 returns-9 : tie.Need-returns-9
 unfolding step
@@ -153,10 +177,13 @@ returns-12 c =
 returns-13 : tie.Need-returns-13
 unfolding step
 returns-13 c =
-    let start = c .before .before .before .before .before .before .before .before .before .before .before .before in
+    let at-deliver = c .before .before .before .before in
+    let at-call13 = at-deliver .before .before .before .before in
+    let at-before = at-call13 .before .before .before in
+    let start = at-before .before in
     formed (start .args .call) (fits start) (start .pre)
-    (rw (c .before .before .before .before .before .before .before .before .call13 .given .1)
-    (c .before .before .before .before .deliver .ensures))
+    (rw (at-call13 .call13 .given .1)
+    (at-deliver .deliver .ensures))
 
 pub step-formed-spec : {M : Type 1} → statement M
 step-formed-spec =

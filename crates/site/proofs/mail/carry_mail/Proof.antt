@@ -2,7 +2,8 @@
 use mathlib.Core.Path.{refl}
 use native.Mathlib.Omega.{arith}
 use borrow.Author.Needs.{needs}
-use Rattle.site.proofs.MailKnown.{mail-some, mail-playable, mail-rows, mail-posts, mail-carried}
+use Rattle.site.proofs.MailKnown.{mail-some, mail-playable, mail-rows, mail-posts}
+use Rattle.site.proofs.MailKnown.{mail-carried}
 use Rattle.site.proofs.mail.carry_mail.Statement.{statement}
 use Rattle.site.proofs.mail.carry_mail.Tie as tie
 
@@ -18,20 +19,30 @@ play-requires c κs =
     ((omega arith, omega (arith, k .head .inside)), mail-playable k _ refl)
 
 pop-requires : tie.Need-pop-requires
-pop-requires c κs = let k = c .before .before .before .before .before .before .before .before .before .pre in (k .carries .links, (k .link, mail-some k))
+pop-requires c κs =
+    let start = c .before .before .before .before .before .before .before .before .before in
+    let k = start .pre in (k .carries .links, (k .link, mail-some k))
 
 post-requires : tie.Need-post-requires
 post-requires c κs =
-    let k = c .before .before .before .before .before .before .before .before .before .before .before .before .before .before .pre in
-    let rows = c .before .before .before .before .before .before .before .before .play .ensures in (
+    let at-pop = c .before .before .before .before in
+    let at-play = at-pop .before .before .before .before in
+    let start = at-play .before .before .before .before .before .before in
+    let k = start .pre in
+    let rows = at-play .play .ensures in (
       mail-rows k _ refl rows .lent,
       mail-posts k _ refl rows
-          (c .before .before .before .before .pop .ensures),
+          (at-pop .pop .ensures),
     )
 
 returns : tie.Need-returns
 returns c =
-    mail-carried (c .before .before .before .before .before .before .before .before .before .before .before .before .before .before .before .before .before .pre) _ refl (c .before .before .before .before .before .before .before .before .before .before .before .play .ensures) (c .before .before .before .before .before .before .before .pop .ensures) (c .before .before .post .ensures)
+    let at-post = c .before .before in
+    let at-pop = at-post .before .before .before .before .before in
+    let at-play = at-pop .before .before .before .before in
+    let start = at-play .before .before .before .before .before .before in
+    mail-carried (start .pre) _ refl (at-play .play .ensures) (at-pop .pop .ensures)
+    (at-post .post .ensures)
 
 pub carry-mail-spec : {M : Type 1} → statement M
 carry-mail-spec =

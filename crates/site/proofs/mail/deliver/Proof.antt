@@ -43,17 +43,27 @@ returns-2 c =
 
 hand-over-requires : tie.Need-hand-over-requires
 hand-over-requires c κs =
-    let s = c .before .before .before .before .before .before .before .before .before .before .before in
-    let e = c .before .before .before .before .before .before .before .setting-of .ensures in
+    let at-if2 = c .before .before in
+    let at-count = at-if2 .before in
+    let at-if1 = at-count .before .before in
+    let at-is-link = at-if1 .before in
+    let at-setting-of = at-is-link .before in
+    let at-before = at-setting-of .before .before .before in
+    let s = at-before .before in
+    let e = at-setting-of .setting-of .ensures in
     let is = link-yes (s .args .site .now) (s .args .a) (s .args .b) _ e _
-    (c .before .before .before .before .before .before .is-link .ensures)
-    (c .before .before .before .before .before .if1 .left) in
+    (at-is-link .is-link .ensures)
+    (at-if1 .if1 .left) in
     known-mail _ _ (s .pre) (s .args .a) (s .args .b) _ e is _
-    (c .before .before .before .count .ensures) (c .before .before .if2 .left)
+    (at-count .count .ensures) (at-if2 .if2 .left)
 
 returns-3 : tie.Need-returns-3
 returns-3 c =
-    delivered-known (c .before .before .before .before .before .before .before .before .before .before .before .before .before .before .before .before .args .site .now) (c .before .before .before .before .before .before .before .before .before .before .before .before .before .before .before .before .args .links .now) (c .before .before .before .before .before .before .before .before .before .before .before .before .before .before .before .before .args .a) (c .before .before .before .before .before .before .before .before .before .before .before .before .before .before .before .before .args .b) _ (c .before .before .before .before .before .before .before .before .before .before .before .before .setting-of .ensures) _ (c .before .before .before .before .hand-over .ensures)
+    let at-hand-over = c .before .before .before .before in
+    let at-setting-of = at-hand-over .before .before .before .before .before .before .before .before in
+    let start = at-setting-of .before .before .before .before in
+    delivered-known (start .args .site .now) (start .args .links .now) (start .args .a)
+    (start .args .b) _ (at-setting-of .setting-of .ensures) _ (at-hand-over .hand-over .ensures)
 
 pub deliver-spec : {M : Type 1} → statement M
 deliver-spec =

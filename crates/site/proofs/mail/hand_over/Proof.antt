@@ -30,59 +30,93 @@ returns c =
 
 pop-requires : tie.Need-pop-requires
 pop-requires c κs =
-    let k = c .before .before .before .before .before .before .before .before .before .before .before .before .pre in
+    let start = c .before .before .before .before .before .before .before .before .before .before .before .before in
+    let k = start .pre in
     (links-lent _ _ (k .0 .form) _ _ (k .0 .setting), (k .1 .0, k .1 .1))
 
 returns-2 : tie.Need-returns-2
 returns-2 c =
-    let k = c .before .before .before .before .before .before .before .before .before .before .before .before .before .before .before .pre in
-    let h = c .before .before .before .before .before .before .before .before .before .before .before .head-start .ensures in
+    let at-pop = c .before .before in
+    let at-if2 = at-pop .before .before in
+    let at-is-accepted = at-if2 .before in
+    let at-if1 = at-is-accepted .before in
+    let at-is-refusal = at-if1 .before in
+    let at-mail-turn = at-is-refusal .before in
+    let at-head-start = at-mail-turn .before .before .before in
+    let start = at-head-start .before .before .before .before in
+    let k = start .pre in
+    let h = at-head-start .head-start .ensures in
     over-discarded (k .0) _ (k .1 .0) _ h _
-    (c .before .before .before .before .before .before .before .before .mail-turn .ensures)
-    (sym (c .before .before .before .before .before .before .before .is-refusal .ensures)
-    ∙ c .before .before .before .before .before .before .if1 .left)
-    (sym (c .before .before .before .before .before .is-accepted .ensures) ∙ not-true _
-    (c .before .before .before .before .if2 .taken))
-    (c .before .before .pop .ensures)
+    (at-mail-turn .mail-turn .ensures)
+    (sym (at-is-refusal .is-refusal .ensures)
+    ∙ at-if1 .if1 .left)
+    (sym (at-is-accepted .is-accepted .ensures) ∙ not-true _
+    (at-if2 .if2 .taken))
+    (at-pop .pop .ensures)
 
 has-room-requires : tie.Need-has-room-requires
 has-room-requires c κs =
-    let k = c .before .before .before .before .before .before .before .before .before .before .before .before .pre in
-    let h = c .before .before .before .before .before .before .before .before .head-start .ensures
+    let at-mail-turn = c .before .before .before .before .before in
+    let at-head-start = at-mail-turn .before .before .before in
+    let start = at-head-start .before .before .before .before in
+    let k = start .pre in
+    let h = at-head-start .head-start .ensures
     in (
       links-lent _ _ (k .0 .form) _ _ (k .0 .setting),
-      (over-me (k .0) (c .before .before .before .before .before .before .before .before .before .before .before .before .args .a) (k .1 .0), over-apart (k .0) _ (k .1 .0) _ h _ (c .before .before .before .before .before .mail-turn .ensures)),
+      (
+        over-me (k .0) (start .args .a) (k .1 .0),
+        over-apart (k .0) _ (k .1 .0) _ h _
+            (at-mail-turn .mail-turn .ensures),
+      ),
     )
 
 returns-3 : tie.Need-returns-3
 returns-3 c =
-    let k = c .before .before .before .before .before .before .before .before .before .before .before .before .before .before .pre in
-    let h = c .before .before .before .before .before .before .before .before .before .before .head-start .ensures in
+    let at-if2 = c .before .before .before in
+    let at-is-accepted = at-if2 .before in
+    let at-mail-turn = at-is-accepted .before .before .before in
+    let at-head-start = at-mail-turn .before .before .before in
+    let start = at-head-start .before .before .before .before in
+    let k = start .pre in
+    let h = at-head-start .head-start .ensures in
     over-full (k .0) _ (k .1 .0) _ h _
-    (c .before .before .before .before .before .before .before .mail-turn .ensures)
-    (sym (c .before .before .before .before .is-accepted .ensures) ∙ not-false _
-    (c .before .before .before .if2 .left))
+    (at-mail-turn .mail-turn .ensures)
+    (sym (at-is-accepted .is-accepted .ensures) ∙ not-false _
+    (at-if2 .if2 .left))
     (sym (c .before .has-room .ensures) ∙ not-true _ (c .if3 .taken))
 
 carry-mail-requires : tie.Need-carry-mail-requires
 carry-mail-requires c κs =
-    let k = c .before .before .before .before .before .before .before .before .before .before .before .before .before .before .before .before .pre in
-    let h = c .before .before .before .before .before .before .before .before .before .before .before .before .head-start .ensures in
+    let at-if3 = c .before .before in
+    let at-has-room = at-if3 .before in
+    let at-mail-turn = at-has-room .before .before .before .before .before .before in
+    let at-head-start = at-mail-turn .before .before .before in
+    let start = at-head-start .before .before .before .before in
+    let k = start .pre in
+    let h = at-head-start .head-start .ensures in
     over-takes (k .0) _ (k .1 .0) _ h _
-    (c .before .before .before .before .before .before .before .before .before .mail-turn .ensures)
-    (sym (c .before .before .before .has-room .ensures) ∙ not-false _
-    (c .before .before .if3 .left))
+    (at-mail-turn .mail-turn .ensures)
+    (sym (at-has-room .has-room .ensures) ∙ not-false _
+    (at-if3 .if3 .left))
 
 returns-4 : tie.Need-returns-4
 returns-4 c =
-    let k = c .before .before .before .before .before .before .before .before .before .before .before .before .before .before .before .before .before .before .before .before .before .pre in
-    let h = c .before .before .before .before .before .before .before .before .before .before .before .before .before .before .before .before .before .head-start .ensures in
+    let at-carry-mail = c .before .before .before .before in
+    let at-if3 = at-carry-mail .before .before .before in
+    let at-has-room = at-if3 .before in
+    let at-if2 = at-has-room .before .before in
+    let at-is-accepted = at-if2 .before in
+    let at-mail-turn = at-is-accepted .before .before .before in
+    let at-head-start = at-mail-turn .before .before .before in
+    let start = at-head-start .before .before .before .before in
+    let k = start .pre in
+    let h = at-head-start .head-start .ensures in
     over-played (k .0) _ (k .1 .0) _ h _
-    (c .before .before .before .before .before .before .before .before .before .before .before .before .before .before .mail-turn .ensures)
-    (sym (c .before .before .before .before .before .before .before .before .before .before .before .is-accepted .ensures) ∙ not-false _ (c .before .before .before .before .before .before .before .before .before .before .if2 .left))
-    (sym (c .before .before .before .before .before .before .before .before .has-room .ensures)
-    ∙ not-false _ (c .before .before .before .before .before .before .before .if3 .left))
-    (c .before .before .before .before .carry-mail .ensures)
+    (at-mail-turn .mail-turn .ensures)
+    (sym (at-is-accepted .is-accepted .ensures) ∙ not-false _ (at-if2 .if2 .left))
+    (sym (at-has-room .has-room .ensures)
+    ∙ not-false _ (at-if3 .if3 .left))
+    (at-carry-mail .carry-mail .ensures)
 
 pub hand-over-spec : {M : Type 1} → statement M
 hand-over-spec =

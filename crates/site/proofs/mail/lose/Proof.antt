@@ -57,14 +57,21 @@ pop-requires c κs =
 
 returns-3 : tie.Need-returns-3
 returns-3 c =
-    let s = c .before .before .before .before .before .before .before .before .before .before .before .before in
-    let e = c .before .before .before .before .before .before .before .before .before .setting-of .ensures in
+    let at-pop = c .before .before in
+    let at-if2 = at-pop .before .before in
+    let at-count = at-if2 .before in
+    let at-if1 = at-count .before .before in
+    let at-is-link = at-if1 .before in
+    let at-setting-of = at-is-link .before in
+    let at-before = at-setting-of .before .before in
+    let s = at-before .before in
+    let e = at-setting-of .setting-of .ensures in
     lost-known _ _ (s .pre) (s .args .a) (s .args .b) _ e
     (link-yes (s .args .site .now) (s .args .a) (s .args .b) _ e _
-    (c .before .before .before .before .before .before .before .before .is-link .ensures)
-    (c .before .before .before .before .before .before .before .if1 .left))
-    _ _ (c .before .before .before .before .before .count .ensures)
-    (c .before .before .before .before .if2 .left) (c .before .before .pop .ensures)
+    (at-is-link .is-link .ensures)
+    (at-if1 .if1 .left))
+    _ _ (at-count .count .ensures)
+    (at-if2 .if2 .left) (at-pop .pop .ensures)
 
 pub lose-spec : {M : Type 1} → statement M
 lose-spec =

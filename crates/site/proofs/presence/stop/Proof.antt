@@ -46,14 +46,21 @@ present-as-requires c κs =
 returns-2 : tie.Need-returns-2
 unfolding siteOf
 returns-2 c =
-    let f = c .before .before .before .before .before .before .before .before .before .before .before .before .before .pre in
-    let e = c .before .before .before .before .before .before .before .before .before .setting-of .ensures in
-    let is = box-yes _ _ f _ _ e _ (c .before .before .before .before .before .before .before .before .is-box .ensures) (c .before .before .before .before .before .before .before .if1 .left) in
+    let at-present-as = c .before .before in
+    let at-without-box = at-present-as .before in
+    let at-stop-verdict = at-without-box .before .before in
+    let at-if1 = at-stop-verdict .before .before in
+    let at-is-box = at-if1 .before in
+    let at-setting-of = at-is-box .before in
+    let start = at-setting-of .before .before .before .before in
+    let f = start .pre in
+    let e = at-setting-of .setting-of .ensures in
+    let is = box-yes _ _ f _ _ e _ (at-is-box .is-box .ensures) (at-if1 .if1 .left) in
     carried _ _ f _ _ e _ stopNeeds
-    (λ k. without (k .present) (c .before .before .before .before .before .before .before .before .before .before .before .before .before .args .c)) _ _ _ _ (stop-needs _ _ f _ is)
-    (c .before .before .before .before .before .stop-verdict .ensures)
-    (c .before .before .before .without-box .ensures)
-    (c .before .before .present-as .ensures)
+    (λ k. without (k .present) (start .args .c)) _ _ _ _ (stop-needs _ _ f _ is)
+    (at-stop-verdict .stop-verdict .ensures)
+    (at-without-box .without-box .ensures)
+    (at-present-as .present-as .ensures)
 
 pub stop-spec : {M : Type 1} → statement M
 stop-spec =

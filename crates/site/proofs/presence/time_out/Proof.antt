@@ -44,13 +44,19 @@ present-as-requires c κs =
 returns-2 : tie.Need-returns-2
 unfolding siteOf
 returns-2 c =
-    let f = c .before .before .before .before .before .before .before .before .before .before .before .before .pre in
-    let e = c .before .before .before .before .before .before .before .before .setting-of .ensures
+    let at-present-as = c .before .before in
+    let at-timeout-verdict = at-present-as .before .before in
+    let at-if1 = at-timeout-verdict .before .before in
+    let at-is-box = at-if1 .before in
+    let at-setting-of = at-is-box .before in
+    let start = at-setting-of .before .before .before .before in
+    let f = start .pre in
+    let e = at-setting-of .setting-of .ensures
     in
-    let is = box-yes _ _ f _ _ e _ (c .before .before .before .before .before .before .before .is-box .ensures) (c .before .before .before .before .before .before .if1 .left) in
+    let is = box-yes _ _ f _ _ e _ (at-is-box .is-box .ensures) (at-if1 .if1 .left) in
     carried _ _ f _ _ e _ timeoutNeeds (λ k. k .present) _ _ _ _ (timeout-needs _ _ f _ is)
-    (c .before .before .before .before .timeout-verdict .ensures) refl
-    (c .before .before .present-as .ensures)
+    (at-timeout-verdict .timeout-verdict .ensures) refl
+    (at-present-as .present-as .ensures)
 
 pub time-out-spec : {M : Type 1} → statement M
 time-out-spec =

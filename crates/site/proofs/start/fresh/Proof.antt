@@ -4,7 +4,8 @@ use mathlib.Core.Bool.{true}
 use borrow.Author.Needs.{needs}
 use borrow.Author.Tests.{not-true, not-false}
 use Rattle.rules.specs.Sizes.{sizesForm}
-use Rattle.site.proofs.FreshAfter.{fresh-sizes, fresh-short, fresh-made, boxes-few, five-room, rows-room-put, links-room}
+use Rattle.site.proofs.FreshAfter.{fresh-sizes, fresh-short, fresh-made, boxes-few}
+use Rattle.site.proofs.FreshAfter.{five-room, rows-room-put, links-room}
 use Rattle.site.proofs.start.fresh.Statement.{statement}
 use Rattle.site.proofs.start.fresh.Tie as tie
 
@@ -38,30 +39,48 @@ put-setting-requires c κs =
 
 fresh-rows-requires : tie.Need-fresh-rows-requires
 fresh-rows-requires c κs =
-    let a = c .before .before .before .before .before .before .before .before .before .before .before .before .before .before .args in (
-      sized (c .before .before .before .before .before .before .before .before .before .before),
+    let at-put-setting = c .before .before .before in
+    let at-if2 = at-put-setting .before .before in
+    let at-has-words = at-if2 .before in
+    let at-before = at-has-words .before .before .before in
+    let start = at-before .before .before .before .before .before in
+    let a = start .args in (
+      sized (at-before .before),
       rows-room-put (a .site .now) (a .links .now) (a .n) (a .j) (a .l)
-          (c .before .before .before .before .before .before .before .before .before .full-set .result) _
-          (c .before .before .before .put-setting .ensures)
-          (sym (c .before .before .before .before .before .before .has-words .ensures) ∙ not-false _
-          (c .before .before .before .before .before .if2 .left)),
+          (at-before .full-set .result) _
+          (at-put-setting .put-setting .ensures)
+          (sym (at-has-words .has-words .ensures) ∙ not-false _
+          (at-if2 .if2 .left)),
     )
 
 clear-links-requires : tie.Need-clear-links-requires
 clear-links-requires c κs =
-    let a = c .before .before .before .before .before .before .before .before .before .before .before .before .before .before .before .before .before .before .args in (
-      sized (c .before .before .before .before .before .before .before .before .before .before .before .before .before .before),
+    let at-if2 = c .before .before .before .before .before .before .before .before .before in
+    let at-has-words = at-if2 .before in
+    let at-before = at-has-words .before .before .before in
+    let start = at-before .before .before .before .before .before in
+    let a = start .args in (
+      sized (at-before .before),
       links-room (a .site .now) (a .links .now) (a .n) (a .j) (a .l)
-          (sym (c .before .before .before .before .before .before .before .before .before .before .has-words .ensures) ∙ not-false _ (c .before .before .before .before .before .before .before .before .before .if2 .left)),
+          (sym (at-has-words .has-words .ensures) ∙ not-false _ (at-if2 .if2 .left)),
     )
 
 returns-3 : tie.Need-returns-3
 returns-3 c =
-    let a = c .before .before .before .before .before .before .before .before .before .before .before .before .before .before .before .before .before .before .before .before .before .args in
+    let at-clear-links = c .before .before in
+    let at-fresh-rows = at-clear-links .before .before .before .before in
+    let at-put-setting = at-fresh-rows .before .before .before .before in
+    let at-if2 = at-put-setting .before .before in
+    let at-has-words = at-if2 .before in
+    let at-before = at-has-words .before .before .before in
+    let start = at-before .before .before .before .before .before in
+    let a = start .args in
     fresh-made (a .site .now) (a .links .now) (a .n) (a .j) (a .l) _
-    (c .before .before .before .before .before .before .before .before .before .before .before .before .before .before .before .before .full-set .ensures) _ _
-    (sized (c .before .before .before .before .before .before .before .before .before .before .before .before .before .before .before .before .before)) (sym (c .before .before .before .before .before .before .before .before .before .before .before .before .before .has-words .ensures) ∙ not-false _ (c .before .before .before .before .before .before .before .before .before .before .before .before .if2 .left)) _
-    (c .before .before .before .before .before .before .before .before .before .before .put-setting .ensures) (c .before .before .before .before .before .before .fresh-rows .ensures) (c .before .before .clear-links .ensures)
+    (at-before .full-set .ensures) _ _
+    (sized (at-before .before)) (sym (at-has-words .has-words .ensures) ∙ not-false _
+    (at-if2 .if2 .left)) _
+    (at-put-setting .put-setting .ensures) (at-fresh-rows .fresh-rows .ensures)
+    (at-clear-links .clear-links .ensures)
 
 pub fresh-spec : {M : Type 1} → statement M
 fresh-spec =

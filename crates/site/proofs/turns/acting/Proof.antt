@@ -33,67 +33,104 @@ act-turn-requires c κs =
 
 returns-2 : tie.Need-returns-2
 returns-2 c =
-    let f = c .before .before .before .before .before .before .before .before .before .before .pre .0 in
-    let a = c .before .before .before .before .before .before .before .before .before .before .args .a in
-    let e = c .before .before .before .before .before .before .setting-of .ensures in
-    let is = box-yes _ _ f _ _ e _ (c .before .before .before .before .before .is-box .ensures)
-    (c .before .before .before .before .if1 .left) in
-    acting-stays _ _ f (c .before .before .before .before .before .before .before .before .before .before .args .c) (c .before .before .before .before .before .before .before .before .before .before .args .a) is _ (turn-is _ _ f _ is _ e (own a) _ (c .before .before .act-turn .ensures))
+    let at-act-turn = c .before .before in
+    let at-if1 = at-act-turn .before .before in
+    let at-is-box = at-if1 .before in
+    let at-setting-of = at-is-box .before in
+    let start = at-setting-of .before .before .before .before in
+    let f = start .pre .0 in
+    let a = start .args .a in
+    let e = at-setting-of .setting-of .ensures in
+    let is = box-yes _ _ f _ _ e _ (at-is-box .is-box .ensures)
+    (at-if1 .if1 .left) in
+    acting-stays _ _ f (start .args .c) (start .args .a) is _
+    (turn-is _ _ f _ is _ e (own a) _ (at-act-turn .act-turn .ensures))
     (sym (c .before .is-accepted .ensures) ∙ not-true _ (c .if2 .taken))
 
 has-room-requires : tie.Need-has-room-requires
 has-room-requires c κs =
-    let f = c .before .before .before .before .before .before .before .before .before .before .before .pre .0 in
-    let a = c .before .before .before .before .before .before .before .before .before .before .before .args .a in
-    let e = c .before .before .before .before .before .before .before .setting-of .ensures in
-    let is = box-yes _ _ f _ _ e _ (c .before .before .before .before .before .before .is-box .ensures) (c .before .before .before .before .before .if1 .left) in (
+    let at-act-turn = c .before .before .before in
+    let at-if1 = at-act-turn .before .before in
+    let at-is-box = at-if1 .before in
+    let at-setting-of = at-is-box .before in
+    let start = at-setting-of .before .before .before .before in
+    let f = start .pre .0 in
+    let a = start .args .a in
+    let e = at-setting-of .setting-of .ensures in
+    let is = box-yes _ _ f _ _ e _ (at-is-box .is-box .ensures) (at-if1 .if1 .left) in (
       links-lent _ _ f _ _ e,
       (
         me-is _ _ f _ is _ e,
         apart _ _ f _ is _ e (own a) _
-            (c .before .before .before .act-turn .ensures) tt,
+            (at-act-turn .act-turn .ensures) tt,
       ),
     )
 
 returns-3 : tie.Need-returns-3
 returns-3 c =
-    let f = c .before .before .before .before .before .before .before .before .before .before .before .before .before .pre .0 in
-    let a = c .before .before .before .before .before .before .before .before .before .before .before .before .before .args .a in
-    let e = c .before .before .before .before .before .before .before .before .before .setting-of .ensures in
-    let is = box-yes _ _ f _ _ e _ (c .before .before .before .before .before .before .before .before .is-box .ensures) (c .before .before .before .before .before .before .before .if1 .left) in
-    let t = c .before .before .before .before .before .act-turn .ensures in
-    acting-full _ _ f (c .before .before .before .before .before .before .before .before .before .before .before .before .before .args .c) (c .before .before .before .before .before .before .before .before .before .before .before .before .before .args .a) is _ (turn-is _ _ f _ is _ e (own a) _ t)
-    (sym (c .before .before .before .before .is-accepted .ensures) ∙ not-false _
-    (c .before .before .before .if2 .left))
+    let at-if2 = c .before .before .before in
+    let at-is-accepted = at-if2 .before in
+    let at-act-turn = at-is-accepted .before in
+    let at-if1 = at-act-turn .before .before in
+    let at-is-box = at-if1 .before in
+    let at-setting-of = at-is-box .before in
+    let start = at-setting-of .before .before .before .before in
+    let f = start .pre .0 in
+    let a = start .args .a in
+    let e = at-setting-of .setting-of .ensures in
+    let is = box-yes _ _ f _ _ e _ (at-is-box .is-box .ensures) (at-if1 .if1 .left) in
+    let t = at-act-turn .act-turn .ensures in
+    acting-full _ _ f (start .args .c) (start .args .a) is _ (turn-is _ _ f _ is _ e (own a) _ t)
+    (sym (at-is-accepted .is-accepted .ensures) ∙ not-false _
+    (at-if2 .if2 .left))
     (sym (room-told _ _ f _ is _ e (own a) _ t _ (c .before .has-room .ensures)) ∙ not-true _
     (c .if3 .taken))
 
 carry-out-requires : tie.Need-carry-out-requires
 carry-out-requires c κs =
-    let f = c .before .before .before .before .before .before .before .before .before .before .before .before .before .before .before .pre .0 in
-    let a = c .before .before .before .before .before .before .before .before .before .before .before .before .before .before .before .args .a in
-    let e = c .before .before .before .before .before .before .before .before .before .before .before .setting-of .ensures in
-    let is = box-yes _ _ f _ _ e _ (c .before .before .before .before .before .before .before .before .before .before .is-box .ensures) (c .before .before .before .before .before .before .before .before .before .if1 .left) in
+    let at-if3 = c .before .before in
+    let at-has-room = at-if3 .before in
+    let at-act-turn = at-has-room .before .before .before .before in
+    let at-if1 = at-act-turn .before .before in
+    let at-is-box = at-if1 .before in
+    let at-setting-of = at-is-box .before in
+    let start = at-setting-of .before .before .before .before in
+    let f = start .pre .0 in
+    let a = start .args .a in
+    let e = at-setting-of .setting-of .ensures in
+    let is = box-yes _ _ f _ _ e _ (at-is-box .is-box .ensures) (at-if1 .if1 .left) in
     carries _ _ f _ is _ e (own a) _
-    (c .before .before .before .before .before .before .before .act-turn .ensures)
-    (c .before .before .before .before .before .before .before .before .before .before .before .before .before .before .before .pre .1) tt
-    (sym (c .before .before .before .has-room .ensures) ∙ not-false _
-    (c .before .before .if3 .left))
+    (at-act-turn .act-turn .ensures)
+    (start .pre .1) tt
+    (sym (at-has-room .has-room .ensures) ∙ not-false _
+    (at-if3 .if3 .left))
 
 returns-4 : tie.Need-returns-4
 returns-4 c =
-    let f = c .before .before .before .before .before .before .before .before .before .before .before .before .before .before .before .before .before .before .before .before .pre .0 in
-    let a = c .before .before .before .before .before .before .before .before .before .before .before .before .before .before .before .before .before .before .before .before .args .a in
-    let e = c .before .before .before .before .before .before .before .before .before .before .before .before .before .before .before .before .setting-of .ensures in
-    let is = box-yes _ _ f _ _ e _ (c .before .before .before .before .before .before .before .before .before .before .before .before .before .before .before .is-box .ensures) (c .before .before .before .before .before .before .before .before .before .before .before .before .before .before .if1 .left) in
-    let t = c .before .before .before .before .before .before .before .before .before .before .before .before .act-turn .ensures in
+    let at-carry-out = c .before .before .before .before in
+    let at-if3 = at-carry-out .before .before .before in
+    let at-has-room = at-if3 .before in
+    let at-if2 = at-has-room .before .before in
+    let at-is-accepted = at-if2 .before in
+    let at-act-turn = at-is-accepted .before in
+    let at-if1 = at-act-turn .before .before in
+    let at-is-box = at-if1 .before in
+    let at-setting-of = at-is-box .before in
+    let start = at-setting-of .before .before .before .before in
+    let f = start .pre .0 in
+    let a = start .args .a in
+    let e = at-setting-of .setting-of .ensures in
+    let is = box-yes _ _ f _ _ e _ (at-is-box .is-box .ensures) (at-if1 .if1 .left) in
+    let t = at-act-turn .act-turn .ensures in
     let done = carried-known _ _ f _ is _ e
-    (λ k. linksOf k (c .before .before .before .before .before .before .before .before .before .before .before .before .before .before .before .before .before .before .before .before .args .links .now)) (c .before .before .before .before .before .before .before .before .before .before .before .before .act-turn .result) [] _ _ _ (c .before .before .before .before .carry-out .ensures) in
-    acting-played _ _ f (c .before .before .before .before .before .before .before .before .before .before .before .before .before .before .before .before .before .before .before .before .args .c) (c .before .before .before .before .before .before .before .before .before .before .before .before .before .before .before .before .before .before .before .before .args .a) is _ (turn-is _ _ f _ is _ e (own a) _ t) _ _
-    (sym (c .before .before .before .before .before .before .before .before .before .before .before .is-accepted .ensures) ∙ not-false _ (c .before .before .before .before .before .before .before .before .before .before .if2 .left))
+    (λ k. linksOf k (start .args .links .now)) (at-act-turn .act-turn .result) [] _ _ _
+    (at-carry-out .carry-out .ensures) in
+    acting-played _ _ f (start .args .c) (start .args .a) is _
+    (turn-is _ _ f _ is _ e (own a) _ t) _ _
+    (sym (at-is-accepted .is-accepted .ensures) ∙ not-false _ (at-if2 .if2 .left))
     (sym (room-told _ _ f _ is _ e (own a) _ t _
-    (c .before .before .before .before .before .before .before .before .has-room .ensures))
-    ∙ not-false _ (c .before .before .before .before .before .before .before .if3 .left))
+    (at-has-room .has-room .ensures))
+    ∙ not-false _ (at-if3 .if3 .left))
     (done .rows) (done .links)
 
 pub acting-spec : {M : Type 1} → statement M

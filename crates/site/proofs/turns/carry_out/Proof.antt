@@ -17,9 +17,12 @@ post-requires c κs =
 
 returns : tie.Need-returns
 returns c =
-    let can = c .before .before .before .before .before .before .before .before .before .before .before .before .pre in
-    let rows = c .before .before .before .before .before .before .before .play .ensures in
-    record { rows = rows; links = sent-after can rows _ _ _ (c .before .before .post .ensures) }
+    let at-post = c .before .before in
+    let at-play = at-post .before .before .before .before .before in
+    let start = at-play .before .before .before .before .before in
+    let can = start .pre in
+    let rows = at-play .play .ensures in
+    record { rows = rows; links = sent-after can rows _ _ _ (at-post .post .ensures) }
 
 pub carry-out-spec : {M : Type 1} → statement M
 carry-out-spec =

@@ -18,7 +18,8 @@ returns c =
 returns-2 : tie.Need-returns-2
 unfolding anyAct
 returns-2 c =
-    c .stay .ensures ∙ guard-stop _ _ _ _ (c .before .before .bounded .ensures) (c .before .if1 .left)
+    let at-bounded = c .before .before in
+    c .stay .ensures ∙ guard-stop _ _ _ _ (at-bounded .bounded .ensures) (c .before .if1 .left)
 
 pub any-act-spec : {M : Type 1} → statement M
 any-act-spec =

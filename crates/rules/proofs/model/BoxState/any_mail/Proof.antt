@@ -7,9 +7,10 @@ use Rattle.rules.proofs.model.BoxState.any_mail.Tie as tie
 
 on-mail-requires : tie.Need-on-mail-requires
 on-mail-requires c κs =
-    let f = c .before .before .bounded .result in
+    let at-bounded = c .before .before in
+    let f = at-bounded .bounded .result in
     let g = c .before .bounded2 .result in
-    let h = bounded-box _ _ (sym (c .before .before .bounded .ensures) ∙ first-of f g (c .if1 .taken)) in
+    let h = bounded-box _ _ (sym (at-bounded .bounded .ensures) ∙ first-of f g (c .if1 .taken)) in
     let m = bounded-mail _ (sym (c .before .bounded2 .ensures) ∙ second-of f g (c .if1 .taken)) in
     (h .last, (m .last, (m .pn, (h .me, h .replies))))
 

@@ -7,17 +7,25 @@ use Rattle.rules.proofs.model.BoxState.on_last.Tie as tie
 returns : tie.Need-returns
 unfolding onLast
 returns c =
+    let at-take-book = c .before .before in
+    let at-mail-of = at-take-book .before in
+    let at-laggards = at-mail-of .before in
+    let at-note = at-laggards .before in
+    let at-take = at-note .before in
+    let at-answer = at-take .before .before .before in
+    let at-hear = at-answer .before in
+    let at-judge-last = at-hear .before in
     simp (
       c .settle .ensures,
       c .before .takes .ensures,
-      c .before .before .take-book .ensures,
-      c .before .before .before .mail-of .ensures,
-      c .before .before .before .before .laggards .ensures,
-      c .before .before .before .before .before .note .ensures,
-      c .before .before .before .before .before .before .take .ensures,
-      c .before .before .before .before .before .before .before .before .before .answer .ensures,
-      c .before .before .before .before .before .before .before .before .before .before .hear .ensures .0,
-      c .before .before .before .before .before .before .before .before .before .before .before .judge-last .ensures,
+      at-take-book .take-book .ensures,
+      at-mail-of .mail-of .ensures,
+      at-laggards .laggards .ensures,
+      at-note .note .ensures,
+      at-take .take .ensures,
+      at-answer .answer .ensures,
+      at-hear .hear .ensures .0,
+      at-judge-last .judge-last .ensures,
     )
 
 pub on-last-spec : {M : Type 1} → statement M

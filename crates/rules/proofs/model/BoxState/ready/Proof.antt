@@ -7,14 +7,19 @@ use Rattle.rules.proofs.model.BoxState.ready.Tie as tie
 returns : tie.Need-returns
 unfolding ready
 returns c =
+    let at-can-ready = c .before .before in
+    let at-pick-turn = at-can-ready .before in
+    let at-lease = at-pick-turn .before in
+    let at-start = at-lease .before in
+    let at-has-previous = at-start .before .before .before .before .before .before in
     simp (
       c .settle .ensures,
       c .before .unless .ensures,
-      c .before .before .can-ready .ensures,
-      c .before .before .before .pick-turn .ensures,
-      c .before .before .before .before .lease .ensures,
-      c .before .before .before .before .before .start .ensures,
-      c .before .before .before .before .before .before .before .before .before .before .before .has-previous .ensures,
+      at-can-ready .can-ready .ensures,
+      at-pick-turn .pick-turn .ensures,
+      at-lease .lease .ensures,
+      at-start .start .ensures,
+      at-has-previous .has-previous .ensures,
     )
 
 pub ready-spec : {M : Type 1} → statement M
