@@ -1,4 +1,3 @@
--- `feed::feed_end` meets its contract.
 use mathlib.Core.Path.{_≡_}
 use lib.ListN.{length}
 use borrow.Author.Needs.{needs}

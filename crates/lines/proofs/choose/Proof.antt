@@ -1,4 +1,3 @@
--- `lines::choose` meets its contract.
 use Rattle.rules.proofs.Tests.{tests}
 use Rattle.rules.specs.Pick.{pick}
 use Rattle.lines.proofs.choose.Statement.{statement}

@@ -1,4 +1,3 @@
--- `lines::grow` meets its contract.
 use borrow.Author.Needs.{needs}
 use Rattle.rules.proofs.Tests.{tests}
 use Rattle.lines.specs.Read.{grown}

@@ -1,4 +1,3 @@
--- `lines::line_of` meets its contract.
 use Prim.Native.Nat.{ℕ}
 use mathlib.Core.Path.{sym, _∙_, ap}
 use mathlib.Core.Bool.{_||_, not}

@@ -1,4 +1,3 @@
--- `lines::read_line` meets its contract.
 use mathlib.Core.Path.{sym}
 use borrow.Author.Tests.{le-ltb}
 use borrow.Author.Needs.{needs}

@@ -1,4 +1,3 @@
--- `lines::starts` meets its contract.
 use Prim.Native.Nat.{_-_}
 use mathlib.Core.Path.{_≡_, sym, _∙_, refl}
 use lib.ListN.{length, drop}

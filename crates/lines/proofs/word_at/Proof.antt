@@ -1,4 +1,3 @@
--- `lines::word_at` meets its contract.
 use mathlib.Core.Path.{_∙_, ap}
 use borrow.Author.Needs.{needs}
 use Rattle.rules.specs.Pick.{pick}

@@ -1,4 +1,3 @@
--- `print::put_bytes` meets its contract.
 use Prim.Native.Nat.{_≤_, _-_, _+_}
 use native.Mathlib.Omega.{arith}
 use lib.ListN.{length, take}

@@ -1,4 +1,3 @@
--- `print::put_decimal` meets its contract.
 use borrow.Author.Needs.{needs}
 use Rattle.print.proofs.WriteLaws.{decimal-done}
 use Rattle.print.proofs.put_decimal.Statement.{statement}

@@ -1,4 +1,3 @@
--- `print::put_next` meets its contract.
 use borrow.Author.Needs.{needs}
 use Rattle.print.proofs.WriteLaws.{then}
 use Rattle.print.proofs.put_next.Statement.{statement}

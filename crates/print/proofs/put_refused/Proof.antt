@@ -1,4 +1,3 @@
--- `print::put_refused` meets its contract.
 use native.Mathlib.Omega.{arith}
 use borrow.Author.Needs.{needs}
 use Rattle.print.specs.Text.{refusedText}

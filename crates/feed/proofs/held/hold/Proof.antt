@@ -1,4 +1,3 @@
--- `feed::held::hold` meets its contract.
 use Prim.Native.Nat.{_≤_, _-_}
 use mathlib.Core.Path.{_≡_}
 use native.Mathlib.Omega.{arith}
@@ -31,13 +30,12 @@ least-requires-2 : tie.Need-least-requires-2 Inv-loop μ-loop
 least-requires-2 c κs = search tests
 
 loop-holds : tie.Need-loop-holds Inv-loop μ-loop
-loop-holds c =
-    let at-before = c .before .before in (
-      omega arith,
-      paste-zero ((at-before .before) .args .line) (c .before .least
-          .result) (drop ((at-before .before) .args .i) ((at-before .before) .args .piece
-          .now)),
-    )
+loop-holds c = (
+  omega arith,
+  paste-zero ((c .before .before .before) .args .line) (c .before .least
+      .result) (drop ((c .before .before .before) .args .i) ((c .before .before .before) .args .piece
+      .now)),
+)
 
 add-next : tie.Need-add-next Inv-loop μ-loop
 add-next c = search tests

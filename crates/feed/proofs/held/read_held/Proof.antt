@@ -1,4 +1,3 @@
--- `feed::held::read_held` meets its contract.
 use mathlib.Core.Path.{_≡_, _∙_, ap}
 use native.Mathlib.Omega.{arith}
 use lib.ListN.{length}

@@ -1,4 +1,3 @@
--- `feed::settle::keep` meets its contract.
 use mathlib.Core.Path.{refl}
 use borrow.Author.Needs.{needs}
 use Rattle.feed.proofs.AnswerLaws.{keeps-is}

@@ -1,4 +1,3 @@
--- `feed::tell::put_lasts` meets its contract.
 use Prim.Native.Nat.{_≤_, _-_, _*_}
 use native.Mathlib.Omega.{arith}
 use Rattle.print.specs.Decimal.{spaced}
@@ -45,19 +44,15 @@ loop-less : tie.Need-loop-less Inv-loop μ-loop
 loop-less c = search tests
 
 loop-again : tie.Need-loop-again Inv-loop μ-loop
-loop-again c =
-    let at-put-next = c .before .before in
-    let at-before = at-put-next .before .before in
-    let at-before-2 = at-before .before in
-    let at-before-3 = at-before-2 .before in (
-      omega arith,
-      lasts-more ((at-before-3 .before
-          .before .before .before) .args .site .now) ((at-before-2 .before
-          .before .before .before .before) .args .w) (at-before-2 .before
-          .before .loop .i) (at-before-2 .row-at .result) (c .before
-          .before .before .before .before .row-at .ensures .0) (at-before .before
-          .before .before .loop .inv .1) (at-put-next .put-next .ensures),
-    )
+loop-again c = (
+  omega arith,
+  lasts-more ((c .before .before .before .before .before .before .before
+      .before .before .before) .args .site .now) ((c .before .before .before .before .before .before
+      .before .before .before .before) .args .w) (c .before .before .before .before .before .before
+      .before .loop .i) (c .before .before .before .before .before .row-at .result) (c .before
+      .before .before .before .before .row-at .ensures .0) (c .before .before .before .before .before
+      .before .before .loop .inv .1) (c .before .before .put-next .ensures),
+)
 
 same-length : tie.Need-same-length Inv-loop μ-loop
 same-length c = c .before .loop .inv .1 .room

@@ -1,4 +1,3 @@
--- `lines::Numbers::digit` meets its contract.
 use mathlib.Core.Path.{sym, _∙_, ap}
 use borrow.Author.Needs.{needs}
 use Rattle.lines.specs.Read.{withGrown}

@@ -1,4 +1,3 @@
--- `lines::Numbers::finish` meets its contract.
 use borrow.Author.Needs.{needs}
 use Rattle.lines.specs.Read.{finished}
 use Rattle.lines.proofs.Numbers.finish.Statement.{statement}

@@ -1,4 +1,3 @@
--- `lines::Numbers::next` meets its contract.
 use borrow.Author.Needs.{needs}
 use Rattle.rules.proofs.Tests.{tests}
 use Rattle.lines.specs.Read.{byteRead}
