@@ -1,17 +1,17 @@
 -- A record, a letter and a link in bytes: found, or none there.
-use mathlib.Core.Path.{_≡_, refl, sym, ap, _∙_, subst}
+use mathlib.Core.Path.{_≡_, refl, sym, ap, _∙_}
 use mathlib.Core.Bool.{Bool, true, false, false≢true, _&&_}
-use Prim.Native.Nat.{ℕ, zero, suc, _+_, _-_, _*_, _/_, _%_, _^_, _≤_, _<_}
+use Prim.Native.Nat.{ℕ, _+_, _^_, _≤_, _<_}
 use native.Mathlib.Omega.{arith}
-use mathlib.Core.List.{List, [], _∷_, _++_}
-use lib.Dec.{leb, ltb}
-use lib.ListN.{length, drop, getD}
-use borrow.Author.Tests.{leb-true, le-leb, lt-ltb}
+use mathlib.Core.List.{List, [], _∷_}
+use lib.Dec.{leb}
+use lib.ListN.{length, getD}
+use borrow.Author.Tests.{leb-true, le-leb}
 use Rattle.words.specs.Rows.{part}
 use Rattle.words.proofs.PartLaws.{gets-all}
 use Rattle.le.specs.Le.{le, Number}
 use Rattle.rules.specs.Every.{all}
-use Rattle.rules.specs.Sizes.{mostLoads, mostMails, mostPn, leftOf, rightOf, within, proper}
+use Rattle.rules.specs.Sizes.{mostLoads, mostMails, mostPn, within, proper}
 use Rattle.rules.specs.Numbers.{kindNumber}
 use Rattle.rules.specs.Box.{Letter}
 use Rattle.rules.specs.Form.{formKind, formLetter}
@@ -30,17 +30,6 @@ use Rattle.image.proofs.LetterLaws.{letter-records, letter-parts, countWord, li
 use Rattle.checker.specs.Heads.{letterHead}
 
 -- ---- a record
-
--- Eight bytes hold no frame number above 4,294,967,295.
-pub proper-word : (x : ℕ) → x < 256 ^ 8 → (leb 1 (leftOf x) && leb 1 (rightOf x)) ≡ proper x
-unfolding proper
-proper-word x h =
-    let low : ltb (leftOf x) 4294967296 ≡ true = lt-ltb (leftOf x) 4294967296 (omega arith) in
-    ap (λ (t : Bool). t && leb 1 (rightOf x)) (drop-true (leb 1 (leftOf x)) low)
-  where
-    drop-true : (a : Bool) {b : Bool} → b ≡ true → a ≡ (a && b)
-    drop-true true e = sym e
-    drop-true false e = refl
 
 module _ (src : List ℕ) (at x : ℕ) (h : at + 8 ≤ length src)
     (e : Number 8 (part src at 8) x) where

@@ -2,21 +2,14 @@
 use cells::Walk;
 use words::size;
 ghost use mathlib.Core.Path.{_≡_};
-ghost use Prim.Native.Nat.{_*_, _-_, _≤_};
+ghost use Prim.Native.Nat.{_-_, _≤_};
 ghost use lib.ListN.{length};
 ghost use Rattle.le.specs.Le.{le};
-ghost use Rattle.rules.specs.Sizes.{mostLoads, mostMails, proper};
+ghost use Rattle.rules.specs.Sizes.{mostLoads, mostMails};
 ghost use Rattle.cells.specs.Cells.{chain, cells, WalkIs, Many};
 ghost use Rattle.image.specs.Image.{letterBytes, linkBytes};
 ghost use Rattle.image.specs.Parts.{GoodRecord, GoodLetter, GoodLink};
 ghost use Rattle.checker.specs.Heads.{letterHead};
-
-// Both frame numbers are at least 1; a word holds none above 4,294,967,295.
-fn is_proper(x: u64) -> bool
-    ensures { λ r. ⌜ r ≡ proper x ⌝ }
-{
-    (1 <= x / 4294967296) & (1 <= x % 4294967296)
-}
 
 pub fn check_record(src: &[u8], at: usize) -> Walk
     requires { ⌜ at ≤ length (now src) ⌝ }
@@ -26,7 +19,7 @@ pub fn check_record(src: &[u8], at: usize) -> Walk
         return Walk::Bad;
     }
     let x = le::get_at(src, at, 8);
-    if is_proper(x) {
+    if place::is_proper(x) {
         return Walk::Next(at + 8);
     }
     Walk::Bad

@@ -24,7 +24,7 @@ use Rattle.cells.specs.Cells.{cells, Each, All, Below}
 use Rattle.cells.proofs.ChainLaws.{each-one, each-take, each-made}
 use Rattle.cells.proofs.CodeLaws.{Code, Parts, cells-code, cancel-same, told-code}
 use Rattle.image.specs.Image.{boxBody}
-use Rattle.image.specs.Parts.{GoodRecord, GoodBox, headBytes, HeadWords}
+use Rattle.image.specs.Parts.{GoodRecord, GoodBox, SomeBox, headBytes, HeadWords}
 use Rattle.image.proofs.LetterLaws.{all-of, record-below, records-code}
 
 -- ---- twenty words, group by group
@@ -152,7 +152,7 @@ module _ (n J b : ℕ) (boxes : n ≤ mostBoxes) (x : Box) (f : FormedBox n J b 
       ∙ take-at d c (mostBoxes - n) (length-drop n peersOf ∙ omega arith)
 
   -- A peer above n is unknown.
-  peer-none : (k : ℕ) → In k mostBoxes → n < k → getD peersOf (k - 1) 0 ≡ unknown
+  pub peer-none : (k : ℕ) → In k mostBoxes → n < k → getD peersOf (k - 1) 0 ≡ unknown
   peer-none k h above = go (f .peers k h)
     where
       go : Peer n J b k (getD peersOf (k - 1) 0) → getD peersOf (k - 1) 0 ≡ unknown
@@ -292,10 +292,6 @@ module _ (n J b : ℕ) (boxes : n ≤ mostBoxes) (x : Box) (f : FormedBox n J b 
 
 pub box-records : (n J b : ℕ) (x : Box) → GoodBox n J b x → All GoodRecord (x .records)
 box-records n J b x g = all-of (box-says g .records)
-
--- some box of the site, whatever its number
-abbrev pub SomeBox : ℕ → ℕ → Box → Type 0
-SomeBox n J x = (b : ℕ) × GoodBox n J b x
 
 module _ (n J : ℕ) (boxes : n ≤ mostBoxes) (loads : J ≤ mostLoads) where
   abbrev pub box-parts : Parts (boxBody n) (SomeBox n J) (headBytes n) (HeadWords n)

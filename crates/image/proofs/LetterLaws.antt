@@ -110,8 +110,8 @@ letter-split y = refl
 pub letter-records : (J : ℕ) (y : Letter) → GoodLetter J y → All GoodRecord (y .records)
 letter-records J y g = all-of (letter-says g .records)
 
--- A letter holds at most J records, or one.
-pub letter-few : {J : ℕ} {y : Letter} → FormedLetter J y → length (y .records) ≤ J + 1
+-- A letter holds at most J records.
+pub letter-few : {J : ℕ} {y : Letter} → FormedLetter J y → length (y .records) ≤ J
 letter-few {J} {y} f = go (y .head .kind) (f .kind)
   where
     last : y .head .last ≤ J
@@ -119,10 +119,10 @@ letter-few {J} {y} f = go (y .head .kind) (f .kind)
 
     go : (k : Kind)
         → FormedKind k J (y .head .pn) (y .head .last) (y .head .unagreed) (length (y .records))
-        → length (y .records) ≤ J + 1
+        → length (y .records) ≤ J
     go Kind.Collect h = let n = h .no-records in omega arith
     go Kind.Last h = let n = h .held .room in omega arith
-    go Kind.Begin h = let n = h .one-record in omega arith
+    go Kind.Begin h = let n = h .one-record in let r = h .room in omega arith
     go Kind.Accept h = let n = h .no-records in omega arith
     go Kind.Commit h = let n = h .all-records in omega arith
     go Kind.Lease h = let n = h .bare .no-records in omega arith

@@ -5,5 +5,7 @@ pub mod BoxLaws
 pub mod ListedLaws
 pub mod TableLaws
 pub mod OneImage
+pub mod SiteIn
 pub mod Lengths
+pub mod Short
 pub mod MemoryImage

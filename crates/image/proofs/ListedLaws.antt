@@ -1,41 +1,40 @@
 -- What the bodies of a site hold: by form exactly where the site is, and told from their bytes.
 use mathlib.Core.Path.{_≡_, refl, sym, ap, _∙_, subst}
-use mathlib.Core.Bool.{Bool, true, cond}
-use Prim.Native.Nat.{ℕ, zero, suc, _+_, _-_, _*_, _^_, _≤_, _<_}
-use native.Mathlib.Numerals.{add-one}
+use mathlib.Core.Bool.{true, cond}
+use Prim.Native.Nat.{ℕ, zero, suc, _+_, _-_, _≤_, _<_}
 use native.Mathlib.Omega.{arith}
-use mathlib.Core.List.{List, [], _∷_, _++_, append-assoc, map}
+use mathlib.Core.List.{List, [], _∷_, _++_, map}
 use lib.Dec.{leb}
-use lib.ListN.{length, take, drop, getD}
+use lib.ListN.{length, getD}
 use borrow.Author.Tests.{leb-true, le-leb}
 use Rattle.rules.specs.Every.{tally}
-use Rattle.rules.specs.Sizes.{mostBoxes, mostLoads, mostEpoch, within, sizesForm}
-use Rattle.rules.specs.Sets.{setForm}
+use Rattle.rules.specs.Sizes.{mostBoxes, mostLoads, mostEpoch, sizesForm}
 use Rattle.rules.specs.Box.{Box, Letter}
 use Rattle.rules.specs.Site.{Site, freshBox}
 use Rattle.rules.specs.Form.{form}
 use Rattle.laws.proofs.Logic.{In, and-yes, and-both}
 use Rattle.laws.proofs.SetLaws.{set-small, set-up}
 use Rattle.laws.proofs.Counts.{one-says, one-made}
-use Rattle.laws.proofs.FormLaws.{FormedSizes, sizes-says, sizes-made, FormedLetter, FormedLink}
+use Rattle.laws.proofs.FormLaws.{sizes-says, sizes-made, FormedLink}
 use Rattle.laws.proofs.FormLaws.{letter-says, letter-made, FormedBox, box-says, box-made}
 use Rattle.laws.proofs.FormLaws.{Formed, form-says, form-made}
 use Rattle.laws.proofs.Logic as logic
 use Rattle.memory.specs.Memory.{linkIndex}
-use Rattle.cells.specs.Cells.{chain, cells, Each, All, Many}
+use Rattle.cells.specs.Cells.{chain, cells, Each, All}
 use Rattle.cells.proofs.ChainLaws.{each-made, each-at, each-map}
 use Rattle.cells.proofs.CodeLaws.{Code, Parts, chain-code, cancel-same, regroup, told-code}
 use Rattle.image.specs.Image.{numbersFrom, boxesOf, linksOf, boxBody, linkBytes}
-use Rattle.image.specs.Parts.{GoodLetter, GoodLink, GoodBox, GoodBoxes, GoodLinks, Words}
+use Rattle.image.specs.Parts.{GoodLetter, GoodLink, GoodBox, SomeBox, GoodBoxes, GoodLinks}
+use Rattle.image.specs.Parts.{Words}
 use Rattle.image.specs.Parts.{leaders, Listed, nIn, JIn, LIn, listed, listedBytes, GoodListed}
 use Rattle.image.proofs.OrderLaws.{from-snoc, length-boxes, boxes-at, length-links}
 use Rattle.image.proofs.OrderLaws.{link-index, links-at, all-links}
 use Rattle.image.proofs.LetterLaws.{all-of, all-to, words-code, link-code}
-use Rattle.image.proofs.BoxLaws.{SomeBox, box-code}
+use Rattle.image.proofs.BoxLaws.{box-code}
 
 -- ---- leaders
 
-leaders-snoc : (l : List Box) (x : Box)
+pub leaders-snoc : (l : List Box) (x : Box)
     → leaders (l ++ (x ∷ [])) ≡ cond (x .head .leads) 1 0 + leaders l
 unfolding leaders
 leaders-snoc [] x = refl
@@ -163,7 +162,18 @@ listed-parts = record {
   range = λ t g. g .words;
 }
 
--- Boxes and links of the same sizes are told from their bytes.
+-- Boxes of the same sizes are told from their bytes ..
+pub boxes-code : (n J : ℕ) → n ≤ mostBoxes → J ≤ mostLoads → (x y : List Box) (r s : List ℕ)
+    → GoodBoxes n J x → GoodBoxes n J y
+    → chain (boxBody n) x ++ r ≡ chain (boxBody n) y ++ s → x ≡ y
+boxes-code n J few loads x y r s gx gy e =
+    chain-code (boxBody n) (SomeBox n J) (box-code n J few loads) x y r s
+    (gx .count ∙ sym (gy .count)) (some x (gx .each)) (some y (gy .each)) e
+  where
+    some : (l : List Box) → Each (λ i. GoodBox n J (i + 1)) l → All (SomeBox n J) l
+    some l h = each-map (λ i. GoodBox n J (i + 1)) (λ i. SomeBox n J) (λ i x g. (i + 1, g)) l h
+
+-- .. and so are boxes and links.
 pub rest-code : (n J L : ℕ) → sizesForm n J L ≡ true → (x y : List Box) (k l : List (List Letter))
     (r s : List ℕ) → GoodBoxes n J x → GoodBoxes n J y → GoodLinks n J L k → GoodLinks n J L l
     → (chain (boxBody n) x ++ chain linkBytes k) ++ r ≡ (chain (boxBody n) y ++ chain linkBytes l)
@@ -174,17 +184,13 @@ rest-code n J L sizes x y k l r s gx gy gk gl e =
     let f = regroup (chain (boxBody n) x) (chain linkBytes k) r (chain (boxBody n) y)
     (chain linkBytes l) s e in
     let boxes : x ≡ y =
-    chain-code (boxBody n) (SomeBox n J) (box-code n J (z .few-boxes) (z .few-loads)) x y
-    (chain linkBytes k ++ r) (chain linkBytes l ++ s) (gx .count ∙ sym (gy .count))
-    (some x (gx .each)) (some y (gy .each)) f in
+    boxes-code n J (z .few-boxes) (z .few-loads) x y (chain linkBytes k ++ r)
+    (chain linkBytes l ++ s) gx gy f in
     let links : k ≡ l =
     chain-code linkBytes (GoodLink J L) (link-code J L (z .few-loads) (z .few-mails)) k l r s
     (gk .count ∙ sym (gl .count)) (gk .each) (gl .each)
     (cancel-same (chain (boxBody n) x) (chain (boxBody n) y) (ap (chain (boxBody n)) boxes) f) in
     (boxes, links)
-  where
-    some : (l : List Box) → Each (λ i. GoodBox n J (i + 1)) l → All (SomeBox n J) l
-    some l h = each-map (λ i. GoodBox n J (i + 1)) (λ i. SomeBox n J) (λ i x g. (i + 1, g)) l h
 
 pub listed-code : Code listedBytes GoodListed
 listed-code t u r s g h e =

@@ -4,7 +4,7 @@ use Prim.Native.Nat.{ℕ, _+_, _*_, _^_, _≤_, _<_}
 use native.Mathlib.Nat.{add-zero}
 use native.Mathlib.Numerals.{add-one}
 use native.Mathlib.Omega.{arith}
-use mathlib.Core.List.{List, [], _∷_, _++_, append-nil, map}
+use mathlib.Core.List.{List, [], _∷_, _++_, map}
 use lib.ListN.{length, take, drop, getD, length-append, length-map}
 use lib.Seq.{take-suc, take-all, drop-at, length-take-le}
 use Rattle.le.specs.Le.{le}
@@ -13,9 +13,9 @@ use Rattle.cells.specs.Cells.{chain, cells}
 use Rattle.cells.proofs.ChainLaws.{chain-append, chain-cons, chain-one, chain-map, length-cells}
 use Rattle.cells.proofs.CodeLaws.{le-code, regroup}
 use Rattle.image.specs.Image.{generalBody, boxBody, mailBody, bodies, contents, tableOf}
-use Rattle.image.specs.Image.{linkBytes, imageOf, boxesOf}
+use Rattle.image.specs.Image.{linkBytes, imageOf}
 use Rattle.image.specs.Parts.{Listed, nIn, listed, bodiesIn, listedBytes}
-use Rattle.image.proofs.OrderLaws.{map-append, length-boxes}
+use Rattle.image.proofs.OrderLaws.{map-append}
 
 -- Two numbers for each body.
 pub length-contents : (at : ℕ) (bs : List (List ℕ)) → length (contents at bs) ≡ 2 * length bs
@@ -107,6 +107,26 @@ image-in s =
     ap (λ (bs : List (List ℕ)). tableOf bs ++ chain (λ b. b) bs) (bodies-in s)
     ∙ ap (λ (l : List ℕ). tableOf (bodiesIn (listed s)) ++ l) (bodies-bytes (listed s))
 
+-- The entries: the general body's, the boxes', the mail's.
+pub contents-in : (t : Listed) (start : ℕ) → length (t .general) ≡ 5
+    → contents start (bodiesIn t)
+    ≡ start ∷ 20 ∷ (contents (start + 20) (map (boxBody (nIn t)) (t .boxes))
+    ++ ((start + 20 + length (chain (boxBody (nIn t)) (t .boxes)))
+    ∷ length (chain linkBytes (t .links)) ∷ []))
+unfolding bodiesIn contents
+contents-in t start g =
+    let id : List ℕ → List ℕ = λ b. b in
+    let boxes = map (boxBody (nIn t)) (t .boxes) in
+    let mail = chain linkBytes (t .links) in
+    let general : length (cells 4 (t .general)) ≡ 20 =
+    length-cells 4 (t .general) ∙ ap (λ (k : ℕ). k * 4) g in
+    ap (λ (k : ℕ). start ∷ k ∷ contents (start + k) (boxes ++ (mail ∷ []))) general
+    ∙ ap (λ (l : List ℕ). start ∷ 20 ∷ l)
+    (contents-append (start + 20) boxes (mail ∷ [])
+    ∙ ap (λ (b : List ℕ).
+    contents (start + 20) boxes ++ ((start + 20 + length b) ∷ length mail ∷ []))
+    (chain-map id (boxBody (nIn t)) (t .boxes)))
+
 -- The table in the order in which it is written: the count and the general body's entry, the
 -- boxes', the mail's.
 pub table-groups : (t : Listed) (count start : ℕ) → length (t .general) ≡ 5
@@ -115,11 +135,11 @@ pub table-groups : (t : Listed) (count start : ℕ) → length (t .general) ≡ 
     ++ (cells 4 (contents (start + 20) (map (boxBody (nIn t)) (t .boxes)))
     ++ cells 4 ((start + 20 + length (chain (boxBody (nIn t)) (t .boxes)))
     ∷ length (chain linkBytes (t .links)) ∷ []))
-unfolding tableOf bodiesIn contents
+unfolding tableOf
 table-groups t count start g b c e =
     ap (λ (k : ℕ). cells 4 (k ∷ contents (4 + 8 * k) (bodiesIn t))) (bodies-count t b ∙ sym c)
     ∙ ap (λ (k : ℕ). cells 4 (count ∷ contents k (bodiesIn t))) (sym e)
-    ∙ ap (λ (l : List ℕ). cells 4 (count ∷ l)) entry
+    ∙ ap (λ (l : List ℕ). cells 4 (count ∷ l)) (contents-in t start g)
     ∙ chain-append (le 4) (count ∷ start ∷ 20 ∷ []) (contents (start + 20) boxes ++ mail)
     ∙ ap (λ (l : List ℕ). cells 4 (count ∷ start ∷ 20 ∷ []) ++ l)
     (chain-append (le 4) (contents (start + 20) boxes) mail)
@@ -131,21 +151,6 @@ table-groups t count start g b c e =
     mail =
         (start + 20 + length (chain (boxBody (nIn t)) (t .boxes)))
         ∷ length (chain linkBytes (t .links)) ∷ []
-
-    entry : contents start (bodiesIn t) ≡ start ∷ 20 ∷ (contents (start + 20) boxes ++ mail)
-    entry =
-        let id : List ℕ → List ℕ = λ b. b in
-        let general : length (cells 4 (t .general)) ≡ 20 =
-        length-cells 4 (t .general) ∙ ap (λ (k : ℕ). k * 4) g in
-        ap (λ (k : ℕ). start ∷ k ∷ contents (start + k)
-        (boxes ++ (chain linkBytes (t .links) ∷ [])))
-        general
-        ∙ ap (λ (l : List ℕ). start ∷ 20 ∷ l)
-        (contents-append (start + 20) boxes (chain linkBytes (t .links) ∷ [])
-        ∙ ap (λ (b : List ℕ).
-        contents (start + 20) boxes
-        ++ ((start + 20 + length b) ∷ length (chain linkBytes (t .links)) ∷ []))
-        (chain-map id (boxBody (nIn t)) (t .boxes)))
 
 -- Two tables with the same bytes have as many bodies ..
 table-count : (a b : List (List ℕ)) (r s : List ℕ) → length a < 256 ^ 4 → length b < 256 ^ 4

@@ -30,6 +30,10 @@ pub record GoodLink (J L : ℕ) (ys : List Letter) : Type 0 where
 abbrev pub GoodBox : ℕ → ℕ → ℕ → Box → Type 0
 GoodBox n J b x = formBox n J b x ≡ true
 
+-- one of the boxes, whatever its number
+abbrev pub SomeBox : ℕ → ℕ → Box → Type 0
+SomeBox n J x = (b : ℕ) × GoodBox n J b x
+
 -- boxes 1 to n, and the links of all ordered pairs
 abbrev pub GoodBoxes : ℕ → ℕ → List Box → Type 0
 GoodBoxes n J = Many (λ i. GoodBox n J (i + 1)) n

@@ -20,7 +20,7 @@ use rules::model::Setting;
 use rules::ranges;
 
 // The sizes, the epoch and the present set are by form, whatever the words are.
-fn is_general(site: &[u64]) -> bool
+pub fn is_general(site: &[u64]) -> bool
     ensures { λ r. ⌜ r ≡ generalForm (now (site .entry)) ⌝ }
 {
     if site.len() < 5 {

@@ -71,7 +71,7 @@ fn seat(a: u32, b: u32) -> usize
 }
 
 // How many links there are.
-pub(crate) fn link_count(s: Setting) -> usize
+pub fn link_count(s: Setting) -> usize
     requires { ⌜ sizesForm (s .n) (s .j) (s .l) ≡ true ⌝ }
     ensures { λ r. ⌜ r ≡ s .n * (s .n - 1) ⌝ }
 {

@@ -37,10 +37,10 @@ count-enclosed k l rs h = ap length (enclosed-part k l rs h) ∙ length-part (en
 
 module _ (p : List ℕ) (m : Mail) (ys : List ℕ) (count : ℕ) (long : length ys ≡ count) where
   -- the place, its five words written and then its records
-  abbrev filled : List ℕ
+  abbrev pub filled : List ℕ
   filled = splice (wordsOfMail m count ++ drop 5 p) 5 count ys
 
-  filled-letter : letterAt filled ≡ record { head = m; records = ys }
+  pub filled-letter : letterAt filled ≡ record { head = m; records = ys }
   filled-letter = λ i. record {
     head = record { kind = kind-back (m .kind) i; pn = m .pn; last = m .last; unagreed = m .unagreed };
     records = take-at ys (drop count (drop 5 p)) count long i;
@@ -53,7 +53,7 @@ module _ (p : List ℕ) (m : Mail) (ys : List ℕ) (count : ℕ) (long : length 
         let e : length ws ≡ length p = simp (length-append, length-drop) (omega arith) in
         length-splice 5 count ws ys (omega arith) long ∙ e
 
-    filled-fits : (J : ℕ) → length p ≡ 5 + J → placeFits J filled ≡ true
+    pub filled-fits : (J : ℕ) → length p ≡ 5 + J → placeFits J filled ≡ true
     unfolding placeFits all
     filled-fits J e = rw (kind-in (m .kind), le-leb count J (omega arith))
 

@@ -105,7 +105,7 @@ fn is_peer(row: &[u64], n: u32, j: u32, b: u32, k: u32) -> bool
     (last == 4294967295) | ((k != b) & (last <= most))
 }
 
-fn are_peers(row: &[u64], n: u32, j: u32, b: u32) -> bool
+pub fn are_peers(row: &[u64], n: u32, j: u32, b: u32) -> bool
     requires { ⌜ 20 ≤ length (now row) ⌝ }
     ensures { λ r. ⌜ r ≡ every mostBoxes (peerForm n j b (headOf n (now (row .entry)) .peers)) ⌝ }
 {
@@ -118,7 +118,7 @@ fn are_peers(row: &[u64], n: u32, j: u32, b: u32) -> bool
 }
 
 // The enums, the count and the numbers are in their ranges, whatever the words are ..
-fn numbers_fit(row: &[u64], j: u32) -> bool
+pub fn numbers_fit(row: &[u64], j: u32) -> bool
     requires { ⌜ 20 ≤ length (now row) ⌝ }
     ensures { λ r. ⌜ r ≡ numbersFit j (now (row .entry)) ⌝ }
 {
@@ -135,7 +135,7 @@ fn numbers_fit(row: &[u64], j: u32) -> bool
 }
 
 // .. and so are the records and sets.
-fn values_fit(row: &[u64], n: u32) -> bool
+pub fn values_fit(row: &[u64], n: u32) -> bool
     requires { ⌜ 20 ≤ length (now row) ⌝ }
     ensures { λ r. ⌜ r ≡ valuesFit n (now (row .entry)) ⌝ }
 {

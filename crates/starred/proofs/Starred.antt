@@ -1,4 +1,4 @@
--- Every starred case of the paper holds of the rules.
+-- Every starred case of the paper holds of the rules and of the image.
 use mathlib.Core.Bool.{true}
 use mathlib.Core.Path.{_≡_, refl}
 use lib.Count.{ones, onesIn}
@@ -63,8 +63,12 @@ use Rattle.rules.specs.Site.{freshHead, fresh, posted, room}
 use Rattle.rules.specs.Form.{countForm, peerForm, formBox, formKind, formLetter, formLink, form}
 use Rattle.rules.specs.Needs.{ruled}
 use Rattle.rules.specs.Step.{byAnswer, delivered, elect, presented, step, run}
+use Rattle.le.specs.Le.{le}
+use Rattle.cells.specs.Cells.{chain}
+use Rattle.image.specs.Image.{numbersFrom, boxesOf, bySender, linksOf, generalBody, boxBody}
+use Rattle.image.specs.Image.{letterBytes, linkBytes, mailBody, bodies, contents, tableOf, imageOf}
 use Rattle.starred.specs.Table.{stars, told}
 
 pub starred : each told stars ≡ true
-unfolding stars ones onesIn pick all each every tally sizesForm proper recordForm bit joined without digit has setForm fullSet inState inPhase newPn firstCause unless settled others isHeld underOf tookKept tookBook cleared noted heard behind lagging improves bettered raised counted uncounted answered lastVerdict onLast unagreedOf onCollect beginVerdict onBegin acceptVerdict onAccept onCommit onLease ofKind onMail elected canRecover recover canCollect bestHeld collect started leased canReady hasPrevious ready canOffer offer canPropose propose canAgree agree canFinish finish acted heldAt written enclosed freshHead fresh posted room countForm peerForm formBox formKind formLetter formLink form ruled byAnswer delivered elect presented step run
+unfolding stars ones onesIn pick all each every tally sizesForm proper recordForm bit joined without digit has setForm fullSet inState inPhase newPn firstCause unless settled others isHeld underOf tookKept tookBook cleared noted heard behind lagging improves bettered raised counted uncounted answered lastVerdict onLast unagreedOf onCollect beginVerdict onBegin acceptVerdict onAccept onCommit onLease ofKind onMail elected canRecover recover canCollect bestHeld collect started leased canReady hasPrevious ready canOffer offer canPropose propose canAgree agree canFinish finish acted heldAt written enclosed freshHead fresh posted room countForm peerForm formBox formKind formLetter formLink form ruled byAnswer delivered elect presented step run le chain numbersFrom boxesOf bySender linksOf generalBody boxBody letterBytes linkBytes mailBody bodies contents tableOf imageOf
 starred = refl

@@ -3,7 +3,7 @@ use Prim.Native.Nat.{ℕ}
 use mathlib.Core.Bool.{Bool}
 use mathlib.Core.List.{List, [], _∷_}
 use lib.Dec.{eqb}
-use lib.ListN.{getD}
+use lib.ListN.{length, getD}
 use Rattle.rules.specs.Sizes.{majorityOf, recordOf}
 use Rattle.rules.specs.Numbers.{answerNumber}
 use Rattle.rules.specs.Fields.{withLeads, withKept, promised}
@@ -11,6 +11,7 @@ use Rattle.rules.specs.Site.{Site, Outcome, fresh, freshHead}
 use Rattle.rules.specs.Step.{step, run}
 use Rattle.rules.specs.declared.model.BoxState.{BoxState}
 use Rattle.rules.specs.declared.model.Call.{Call}
+use Rattle.image.specs.Image.{imageOf}
 
 pub record Star : Type 0 where
   pub gives : ℕ
@@ -67,6 +68,9 @@ stars =
     ∷ star (pnAfter 999999899 2) 999999902
     -- "999,999,901 rank 2, refusal 6"
     ∷ star (answerNumber (recovered 999999901 2 .answer)) 6
+    -- "Fresh image: n=3, 340 bytes; n=1, 124."
+    ∷ star (length (imageOf (fresh 3 16 8))) 340
+    ∷ star (length (imageOf (fresh 1 16 8))) 124
     -- "Majority of 4 is 3."
     ∷ star (majorityOf 4) 3
     -- "Elect, n=5, two present: 4."

@@ -1,22 +1,20 @@
 -- A row's words are a box's numbers, and the rows' words the boxes.
 use mathlib.Core.Path.{_≡_, refl, sym, ap, _∙_, subst}
-use mathlib.Core.Bool.{Bool, true, false, cond}
+use mathlib.Core.Bool.{Bool, cond}
 use Prim.Native.Nat.{ℕ, zero, suc, _+_, _-_, _*_, _≤_, _<_}
 use native.Mathlib.Nat.{add-sub-cancel-left, zero-add}
 use native.Mathlib.Omega.{arith}
-use mathlib.Core.List.{List, [], _∷_, _++_, map}
-use lib.Dec.{leb}
-use lib.ListN.{length, take, drop, getD, length-map, length-take, length-drop}
-use lib.Seq.{getD-take, getD-drop, ext-getD, length-take-le, take-take}
+use mathlib.Core.List.{List, [], _∷_, _++_}
+use lib.ListN.{length, take, drop, getD, length-map}
+use lib.Seq.{getD-take, getD-drop, ext-getD, length-take-le}
 use borrow.Author.Tests.{le-leb}
 use Rattle.words.specs.Rows.{part}
 use Rattle.words.proofs.PartLaws.{length-part, gets, gets-part, cut-at}
 use Rattle.rules.specs.Sizes.{mostBoxes, unknown}
 use Rattle.rules.specs.Numbers.{stateNumber, phaseNumber}
-use Rattle.rules.specs.Box.{Box}
 use Rattle.row.specs.Row.{flagOf, flagNumber, stateOf, phaseOf, peerOf, headOf, boxOf}
 use Rattle.memory.specs.Memory.{rowWidth}
-use Rattle.cells.specs.Cells.{chain, cells}
+use Rattle.cells.specs.Cells.{cells}
 use Rattle.image.specs.Image.{numbersFrom, boxBody}
 use Rattle.image.proofs.OrderLaws.{map-at, length-from, from-at}
 use Rattle.image.proofs.Lengths.{length-box}

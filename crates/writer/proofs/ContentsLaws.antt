@@ -1,10 +1,9 @@
 -- The table of contents is written entry by entry.
 use mathlib.Core.Path.{_≡_, sym, ap, _∙_, subst}
-use Prim.Native.Nat.{ℕ, _+_, _*_, _≤_, _<_}
+use Prim.Native.Nat.{ℕ, _+_, _≤_, _<_}
 use native.Mathlib.Omega.{arith}
 use mathlib.Core.List.{List, [], _∷_, _++_, map}
 use lib.ListN.{length, take, getD}
-use lib.Seq.{take-all}
 use Rattle.le.specs.Le.{le}
 use Rattle.cells.specs.Cells.{chain, cells, Room, Wrote}
 use Rattle.cells.proofs.ChainLaws.{chain-append, length-cells}

@@ -1,15 +1,14 @@
 -- A place's words are a letter's numbers, a link's places its letters, the links' words the links.
 use mathlib.Core.Path.{_≡_, refl, sym, ap, _∙_, subst}
-use Prim.Native.Nat.{ℕ, zero, suc, _+_, _-_, _*_, _≤_, _<_}
+use Prim.Native.Nat.{ℕ, _+_, _-_, _*_, _≤_, _<_}
 use native.Mathlib.Nat.{add-sub-cancel-left, zero-add}
 use native.Mathlib.Omega.{arith}
-use mathlib.Core.List.{List, [], _∷_, _++_, map}
+use mathlib.Core.List.{List, [], _∷_, _++_}
 use lib.ListN.{length, take, drop, getD, length-map, List·getD-map}
-use lib.Seq.{take-all}
 use Rattle.words.specs.Rows.{part, rows}
-use Rattle.words.specs.Ring.{slot, ring}
+use Rattle.words.specs.Ring.{slot}
 use Rattle.words.proofs.PartLaws.{length-part, gets-part, part-drop, cut-at}
-use Rattle.words.proofs.RowLaws.{length-rows, rows-at, row-end}
+use Rattle.words.proofs.RowLaws.{rows-at, row-end}
 use Rattle.words.proofs.RingLaws.{slot-lt, length-ring, ring-at}
 use Rattle.rules.specs.Box.{Letter}
 use Rattle.place.specs.Place.{letterAt}

@@ -4,9 +4,9 @@ use mathlib.Core.Bool.{Bool, true, not, cond}
 use Prim.Native.Nat.{ℕ, _+_, _-_, _*_, _≤_, _<_}
 use native.Mathlib.Nat.{zero-add}
 use native.Mathlib.Omega.{arith}
-use mathlib.Core.List.{List, [], _∷_, _++_, map}
-use lib.Dec.{leb, eqb}
-use lib.ListN.{length, take, drop, getD, length-map}
+use mathlib.Core.List.{List, [], map}
+use lib.Dec.{leb}
+use lib.ListN.{length, drop, getD, length-map}
 use lib.Seq.{ext-getD}
 use borrow.Author.Tests.{leb-true, ltb-true, ne-eqb}
 use Rattle.words.specs.Rows.{part, rows}
@@ -15,9 +15,8 @@ use Rattle.words.proofs.PartLaws.{length-part, gets-part, part-drop}
 use Rattle.words.proofs.RowLaws.{rows-at, row-end}
 use Rattle.words.proofs.RingLaws.{slot-lt, length-ring, ring-at}
 use Rattle.rules.specs.Every.{each}
-use Rattle.rules.specs.Sizes.{mostBoxes, mostLoads, mostMails, within}
-use Rattle.rules.specs.Box.{Box, Letter}
-use Rattle.rules.specs.Site.{Site, isBox, isLink, freshBox}
+use Rattle.rules.specs.Sizes.{mostBoxes, mostLoads, mostMails}
+use Rattle.rules.specs.Site.{freshBox}
 use Rattle.rules.specs.Form.{form}
 use Rattle.laws.proofs.Logic.{In, passed, and-yes, and-both, every-at}
 use Rattle.laws.proofs.Logic as logic
@@ -25,14 +24,14 @@ use Rattle.laws.proofs.FormLaws.{FormedSizes, sizes-says, box-is}
 use Rattle.place.specs.Place.{placeFits}
 use Rattle.row.specs.Row.{boxOf, rowFits}
 use Rattle.link.specs.Link.{placeWidth, linkWidth, places, linkOf, linkFits}
-use Rattle.memory.specs.Memory.{rowWidth, siteWords, linksWords, rowAt, linkAt, linkIndex, siteOf}
+use Rattle.memory.specs.Memory.{rowWidth, siteWords, linksWords, rowAt, linkAt, siteOf}
 use Rattle.memory.specs.Memory.{roomy, memoryForm}
 use Rattle.cells.specs.Cells.{Each}
 use Rattle.cells.proofs.ChainLaws.{each-at}
 use Rattle.image.specs.Image.{numbersFrom, boxesOf, bySender, linksOf}
-use Rattle.image.specs.Parts.{Listed, listed}
+use Rattle.image.specs.Parts.{listed}
 use Rattle.image.proofs.OrderLaws.{map-at, length-from, from-at, length-boxes, boxes-at}
-use Rattle.image.proofs.OrderLaws.{link-index, all-pairs, pairs-flat}
+use Rattle.image.proofs.OrderLaws.{all-pairs, pairs-flat}
 use Rattle.writer.specs.Fits.{LetterFits, letterPlace, LinkFits, linkRow, LinksFit, linksIn}
 use Rattle.writer.specs.Fits.{BoxFits, boxRow, BoxesFit, boxesIn}
 use Rattle.writer.proofs.BoxLaws.{length-boxes-in, boxes-in-at}

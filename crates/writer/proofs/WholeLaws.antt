@@ -2,23 +2,24 @@
 -- and what that makes of the buffer.
 use mathlib.Core.Path.{_≡_, refl, sym, ap, _∙_, subst}
 use mathlib.Core.Bool.{true}
-use Prim.Native.Nat.{ℕ, _+_, _-_, _*_, _≤_, _<_}
+use Prim.Native.Nat.{ℕ, _+_, _-_, _*_, _≤_}
 use native.Mathlib.Nat.{zero-add}
 use native.Mathlib.Omega.{arith}
-use mathlib.Core.List.{List, [], _∷_, _++_, append-assoc, map}
-use lib.ListN.{length, take, drop, getD, length-append, length-map}
+use mathlib.Core.List.{List, [], _∷_, _++_, map}
+use lib.ListN.{length, drop, getD, length-append, length-map}
 use lib.Seq.{getD-take}
 use Rattle.words.specs.Rows.{part}
 use Rattle.words.proofs.PartLaws.{length-part}
-use Rattle.cells.specs.Cells.{chain, cells, Wrote}
+use Rattle.cells.specs.Cells.{chain, cells, Room, Wrote}
 use Rattle.cells.proofs.ChainLaws.{length-cells}
 use Rattle.memory.specs.Memory.{siteOf, memoryForm}
 use Rattle.image.specs.Image.{boxBody, linkBytes, contents, tableOf}
 use Rattle.image.specs.Parts.{Listed, listed, bodiesIn, listedBytes}
 use Rattle.image.proofs.TableLaws.{length-contents, table-groups, image-in}
+use Rattle.writer.specs.declared.Extent.{Extent}
 use Rattle.writer.specs.declared.Written.{Written}
 use Rattle.writer.specs.Fits.{linksIn, BoxesFit, boxesIn, LinksFit, tableIn, bodiesOf}
-use Rattle.writer.specs.Writer.{image, WriteIs, written}
+use Rattle.writer.specs.Writer.{image, Measured, WriteIs, written}
 use Rattle.writer.proofs.BoxLaws.{length-boxes-in}
 use Rattle.writer.proofs.MemoryLaws.{memory-sizes, memory-boxes, memory-links, memory-listed}
 
@@ -88,6 +89,32 @@ module _ (xs ls : List ℕ) (e : memoryForm xs ls ≡ true) (n J L m : ℕ) (en 
       (ap length (image-parts mail v)
       ∙ simp (length-append, length-cells, length-contents, length-map)
       (omega (arith, length-boxes-in n J xs, length-part 0 5 xs (long-enough xs ls e))))
+
+-- The same of what the code has measured.
+module _ (xs ls : List ℕ) (f : memoryForm xs ls ≡ true) (e : Extent) (m : Measured xs ls e) where
+  pub boxes-measured : BoxesFit (e .n) (e .j) xs
+  boxes-measured = boxes-fit xs ls f (e .n) (e .j) (m .n) (m .j)
+
+  pub links-measured : LinksFit (e .pairs) (e .j) (e .l) ls
+  links-measured = links-fit xs ls f (e .n) (e .j) (e .l) (e .pairs) (m .n) (m .j) (m .l)
+      (m .pairs)
+
+  abbrev pub tableMeasured : List ℕ
+  tableMeasured = tableIn (e .n) (e .j) xs (e .mail)
+
+  abbrev pub bodiesMeasured : List ℕ
+  bodiesMeasured = bodiesOf (e .n) (e .j) (e .l) (e .pairs) xs ls
+
+  pub parts-measured : image xs ls ≡ tableMeasured ++ bodiesMeasured
+  parts-measured =
+      image-parts xs ls f (e .n) (e .j) (e .l) (e .pairs) (m .n) (m .j) (m .l) (m .pairs)
+      (e .mail) (m .mail)
+
+  pub room-measured : (o : List ℕ) → e .total ≤ length o
+      → Room (tableMeasured ++ bodiesMeasured) o 0
+  room-measured o h =
+      subst (λ (b : List ℕ). Room b o 0) parts-measured
+      (record { fits = omega (arith, m .total) })
 
 -- The table in the terms of the code.
 module _ (n J : ℕ) (xs : List ℕ) (mail : ℕ) where

@@ -2,13 +2,16 @@
 -- else the image and its length, and the rest of a longer buffer as it was.
 use mathlib.Core.Path.{_≡_}
 use mathlib.Core.Bool.{true, false}
-use Prim.Native.Nat.{ℕ, _≤_, _<_}
+use Prim.Native.Nat.{ℕ, _-_, _*_, _≤_, _<_}
 use mathlib.Core.List.{List, _++_}
-use lib.ListN.{length, drop}
+use lib.ListN.{length, drop, getD}
 use Rattle.rules.specs.declared.model.Refusal.{Refusal}
 use Rattle.memory.specs.Memory.{siteOf, memoryForm}
-use Rattle.image.specs.Image.{imageOf}
+use Rattle.cells.specs.Cells.{chain}
+use Rattle.image.specs.Image.{imageOf, boxBody, linkBytes}
+use Rattle.writer.specs.declared.Extent.{Extent}
 use Rattle.writer.specs.declared.Written.{Written}
+use Rattle.writer.specs.Fits.{boxesIn, linksIn}
 
 abbrev pub image : List ℕ → List ℕ → List ℕ
 image xs ls = imageOf (siteOf xs ls)
@@ -20,3 +23,19 @@ pub data WriteIs (xs ls o : List ℕ) : Written → List ℕ → Type 0 where
   written : memoryForm xs ls ≡ true → length (image xs ls) ≤ length o
       → WriteIs xs ls o (Written.Length (length (image xs ls)))
       (image xs ls ++ drop (length (image xs ls)) o)
+
+-- what `image_length` answers: the same without a buffer
+pub data LengthIs (xs ls : List ℕ) : Written → Type 0 where
+  no-image : memoryForm xs ls ≡ false → LengthIs xs ls (Written.Refused Refusal.Form)
+  has-length : memoryForm xs ls ≡ true → LengthIs xs ls (Written.Length (length (image xs ls)))
+
+-- what is known of words by form before the first byte is written
+pub record Measured (xs ls : List ℕ) (e : Extent) : Type 0 where
+  pub n : e .n ≡ getD xs 0 0
+  pub j : e .j ≡ getD xs 1 0
+  pub l : e .l ≡ getD xs 2 0
+  pub pairs : e .pairs ≡ e .n * (e .n - 1)
+  pub boxes : e .boxes ≡ length (chain (boxBody (e .n)) (boxesIn (e .n) (e .j) xs))
+  pub few : e .boxes ≤ 164300
+  pub mail : e .mail ≡ length (chain linkBytes (linksIn (e .pairs) (e .j) (e .l) ls))
+  pub total : e .total ≡ length (image xs ls)

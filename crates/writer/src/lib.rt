@@ -10,7 +10,7 @@ ghost use Rattle.memory.specs.Memory.{memoryForm};
 ghost use Rattle.cells.specs.Cells.{chain, Room, Wrote};
 ghost use Rattle.image.specs.Image.{boxBody};
 ghost use Rattle.writer.specs.Fits.{BoxesFit, LinksFit, boxesIn, tableIn, bodiesOf};
-ghost use Rattle.writer.specs.Writer.{image, WriteIs};
+ghost use Rattle.writer.specs.Writer.{Measured, LengthIs, WriteIs};
 
 pub mod boxes;
 pub mod mail;
@@ -36,10 +36,22 @@ fn table_length(n: usize) -> usize
     4 + 8 * (n + 2)
 }
 
-// How many bytes the image of a site by form has.
-pub fn image_length(site: &[u64], links: &[u64]) -> usize
+// What has to be known of a site before its first byte is written: its sizes, how many links it
+// has, how long its boxes, its mail and the whole image are.
+pub struct Extent {
+    pub n: usize,
+    pub j: usize,
+    pub l: usize,
+    pub pairs: usize,
+    pub boxes: usize,
+    pub mail: usize,
+    pub total: usize,
+}
+
+// The one look at the site's lengths.
+fn measure(site: &[u64], links: &[u64]) -> Extent
     requires { ⌜ memoryForm (now site) (now links) ≡ true ⌝ }
-    ensures { λ r. ⌜ r ≡ length (image (now (site .entry)) (now (links .entry))) ⌝ }
+    ensures { λ r. ⌜ Measured (now (site .entry)) (now (links .entry)) r ⌝ }
 {
     let n = size(site[0]);
     let j = size(site[1]);
@@ -47,7 +59,16 @@ pub fn image_length(site: &[u64], links: &[u64]) -> usize
     let m = pairs(n);
     let boxes = boxes::boxes_length(site, n, j);
     let mail = mail::links_length(links, m, j, l);
-    table_length(n) + 20 + boxes + mail
+    let total = table_length(n) + 20 + boxes + mail;
+    Extent {
+        n: n,
+        j: j,
+        l: l,
+        pairs: m,
+        boxes: boxes,
+        mail: mail,
+        total: total,
+    }
 }
 
 // The table of contents: the count, and the entries of the general body, the boxes and the mail.
@@ -98,17 +119,34 @@ pub fn write_formed(site: &[u64], links: &[u64], out: &mut [u8]) -> Written
         ⌜ WriteIs (now (site .entry)) (now (links .entry))
         (now (out .entry)) r (now (out .exit)) ⌝ }
 {
-    let n = size(site[0]);
-    let j = size(site[1]);
-    let l = size(site[2]);
-    let m = pairs(n);
-    let boxes = boxes::boxes_length(site, n, j);
-    let mail = mail::links_length(links, m, j, l);
-    let total = table_length(n) + 20 + boxes + mail;
-    if out.len() < total {
+    let e = measure(site, links);
+    if out.len() < e.total {
         return Written::Refused(Refusal::Buffer);
     }
-    let at = write_table(out, site, n, j, boxes, mail);
-    let end = write_bodies(out, at, site, links, n, j, l, m);
+    let at = write_table(out, site, e.n, e.j, e.boxes, e.mail);
+    let end = write_bodies(out, at, site, links, e.n, e.j, e.l, e.pairs);
     Written::Length(end)
+}
+
+// How many bytes the image has, for a caller who wants to know before a buffer is lent.
+pub fn image_length(site: &[u64], links: &[u64]) -> Written
+    ensures { λ r. ⌜ LengthIs (now (site .entry)) (now (links .entry)) r ⌝ }
+{
+    if memory::is_by_form(site, links) {
+        let e = measure(site, links);
+        return Written::Length(e.total);
+    }
+    Written::Refused(Refusal::Form)
+}
+
+// The image goes to the front of the buffer: 1, then 12, found before the first byte is written.
+pub fn write(site: &[u64], links: &[u64], image: &mut [u8]) -> Written
+    ensures { λ r.
+        ⌜ WriteIs (now (site .entry)) (now (links .entry))
+        (now (image .entry)) r (now (image .exit)) ⌝ }
+{
+    if memory::is_by_form(site, links) {
+        return write_formed(site, links, image);
+    }
+    Written::Refused(Refusal::Form)
 }

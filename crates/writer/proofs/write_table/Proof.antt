@@ -1,10 +1,10 @@
 -- `writer::write_table` meets its contract: three groups, one after another.
 use borrow.Author.Needs.{needs}
-use mathlib.Core.Path.{_≡_, sym, ap, _∙_, subst}
+use mathlib.Core.Path.{_≡_, ap, _∙_}
 use Prim.Native.Nat.{ℕ, _+_}
 use native.Mathlib.Omega.{arith}
-use mathlib.Core.List.{List, [], _∷_, _++_}
-use Rattle.cells.specs.Cells.{cells, Room, Wrote}
+use mathlib.Core.List.{[], _∷_, _++_}
+use Rattle.cells.specs.Cells.{cells, Room}
 use Rattle.cells.proofs.WriteLaws.{room-first, room-rest, wrote-seq}
 use Rattle.writer.specs.Fits.{tableIn}
 use Rattle.writer.proofs.WholeLaws.{entriesFrom, lastEntry, table-as}

@@ -1,6 +1,6 @@
 -- `writer::mail::write_letter` meets its contract: the five numbers, then the records.
 use borrow.Author.Needs.{needs}
-use mathlib.Core.Path.{_≡_, sym}
+use mathlib.Core.Path.{_≡_}
 use Prim.Native.Nat.{_+_, _-_}
 use mathlib.Core.List.{_++_}
 use lib.ListN.{take, drop}

@@ -1,0 +1,211 @@
+-- A letter and a link, as they stand in an image and as their words hold them.
+use mathlib.Core.Path.{_≡_, refl, sym, ap, _∙_, subst}
+use Prim.Native.Nat.{ℕ, _+_, _-_, _*_, _^_, _≤_, _<_}
+use native.Mathlib.Nat.{mul-le-mul-right}
+use native.Mathlib.Omega.{arith}
+use mathlib.Core.List.{List, [], _∷_, _++_, append-nil, map}
+use lib.ListN.{length, drop, getD, set, length-drop}
+use lib.Seq.{ext-getD, drop-length}
+use Rattle.words.specs.Rows.{part, splice, rows}
+use Rattle.words.proofs.RowLaws.{length-rows, rows-at, take-rows, length-table, table-get}
+use Rattle.words.proofs.RingLaws.{ring-flat}
+use Rattle.rules.specs.Every.{each}
+use Rattle.rules.specs.Sizes.{mostLoads}
+use Rattle.rules.specs.Box.{Letter}
+use Rattle.laws.proofs.Logic.{each-made}
+use Rattle.laws.proofs.FormLaws.{letter-says}
+use Rattle.place.specs.Place.{letterAt, placeFits}
+use Rattle.place.proofs.EncloseLaws.{filled, filled-letter, filled-fits}
+use Rattle.link.specs.Link.{placeWidth, linkWidth, places, linkOf}
+use Rattle.link.specs.Holds.{LinkSizes, Holds}
+use Rattle.link.proofs.LinkLaws.{fits-made, two-set, length-link}
+use Rattle.cells.specs.Cells.{chain, cells, All, Stands, Read, Found, Many, Has}
+use Rattle.cells.proofs.ChainLaws.{length-cells, each-map}
+use Rattle.cells.proofs.CodeLaws.{cells-code, told}
+use Rattle.image.specs.Image.{letterBytes, linkBytes}
+use Rattle.image.specs.Parts.{GoodRecord, GoodLetter, GoodLink}
+use Rattle.image.proofs.LetterLaws.{proper-below, letterWords, letter-records, letter-few}
+use Rattle.image.proofs.LetterLaws.{letter-parts, countWord, link-parts}
+use Rattle.image.proofs.Lengths.{length-letter}
+use Rattle.image.proofs.Lengths as lengths
+use Rattle.store.specs.Store.{HoldsLetter, HoldsRows, StoredIs}
+
+-- Records that were read where those of a thing by form stand are these.
+pub same-records : {src : List ℕ} {p q r : ℕ} (xs ys : List ℕ) → length ys ≡ length xs
+    → Read 8 src p ys r → Stands (cells 8 xs) src p q → All GoodRecord xs
+    → (ys ≡ xs) × (r ≡ q)
+same-records {src} {p} {q} {r} xs ys l g v good =
+    let below = each-map (λ i. GoodRecord) (λ i x. x < 256 ^ 8) (λ i x. proper-below) xs good in
+    let e : ys ≡ xs =
+    cells-code 8 ys xs (drop r src) (drop q src) l (g .below) below
+    (sym (g .stands .here) ∙ v .here) in
+    (e, g .stands .next ∙ ap (λ (x : List ℕ). p + length (cells 8 x)) e ∙ sym (v .next))
+
+-- ---- a letter
+
+pub letter-room : (J : ℕ) (src : List ℕ) (at : ℕ) → Has letterBytes (GoodLetter J) src at
+    → at + 20 ≤ length src
+letter-room J src at x =
+    let f = x .found in
+    let next = f .stands .next in
+    let room = f .stands .room in
+    omega (arith, length-letter (f .thing))
+
+-- w are the five words that were read.
+module _ (J : ℕ) (few : J ≤ mostLoads) (src : List ℕ) (at p : ℕ) (w : List ℕ)
+    (five : length w ≡ 5) (g : Read 4 src at w p) where
+  letter-is : (y : Letter) (q : ℕ) → GoodLetter J y → Stands (letterBytes y) src at q
+      → (w ≡ letterWords y) × Stands (cells 8 (y .records)) src p q
+  letter-is y q =
+      told (letter-parts J few) w (record { width = five; below = g .below }) (g .stands) y q
+
+  -- Its records have room in a place, and stand behind the words.
+  pub letter-there : Has letterBytes (GoodLetter J) src at
+      → (getD w 4 0 ≤ J) × (p + getD w 4 0 * 8 ≤ length src)
+  letter-there x =
+      let f = x .found in
+      let t = letter-is (f .thing) (x .place) (f .good) (f .stands) in
+      let count : getD w 4 0 ≡ length (f .thing .records) =
+      ap (λ (v : List ℕ). getD v 4 0) (t .0) in
+      let next = t .1 .next in
+      let room = t .1 .room in (
+        omega (arith, letter-few (letter-says (f .good))),
+        omega (arith, length-cells 8 (f .thing .records)),
+      )
+
+  -- The place when the words and then the records ys are in it.
+  pub letter-stored : (place ys : List ℕ) (m r : ℕ) → length place ≡ 5 + J → m ≡ getD w 4 0
+      → length ys ≡ m → Read 8 src p ys r
+      → StoredIs letterBytes (GoodLetter J) src at
+      (HoldsLetter J (splice (w ++ drop 5 place) 5 (5 + m - 5) ys)) r
+  letter-stored place ys m r wide u long h q f =
+      let y = f .thing in
+      let c = length (y .records) in
+      let t = letter-is y q (f .good) (f .stands) in
+      let count : m ≡ c = u ∙ ap (λ (v : List ℕ). getD v 4 0) (t .0) in
+      let z = same-records (y .records) ys (long ∙ count) h (t .1) (letter-records J y
+      (f .good)) in
+      let room : 5 + c ≤ length place =
+      omega (arith, letter-few (letter-says (f .good))) in
+      let size : 5 + m - 5 ≡ c = omega arith in
+      let here : splice (w ++ drop 5 place) 5 (5 + m - 5) ys
+      ≡ filled place (y .head) (y .records) c refl =
+      λ i. splice (t .0 i ++ drop 5 place) 5 (size i) (z .0 i) in (
+        record {
+          letter = ap letterAt here ∙ filled-letter place (y .head) (y .records) c refl;
+          fits = ap (placeFits J) here
+              ∙ filled-fits place (y .head) (y .records) c refl room J wide;
+        },
+        z .1,
+      )
+
+-- ---- a link
+
+pub link-room : (J L : ℕ) (src : List ℕ) (at : ℕ) → Has linkBytes (GoodLink J L) src at
+    → at + 4 ≤ length src
+link-room J L src at x =
+    let f = x .found in
+    let next = f .stands .next in
+    let room = f .stands .room in
+    omega (arith, lengths.length-link (f .thing))
+
+-- A link whose first place is place 0 holds what stands in its first c places.
+module _ (J L c : ℕ) (some : 1 ≤ L) (most : c ≤ L) (d : List ℕ) where
+  places-flat : places J L (0 ∷ c ∷ d) ≡ rows (placeWidth J) c d
+  unfolding places
+  places-flat =
+      let w = placeWidth J in
+      ring-flat [] L 0 c (rows w L d) (omega arith) (omega (arith, length-rows w L d))
+      ∙ take-rows w L c d most
+
+  pub link-flat : (l : List Letter) → length l ≡ c → length d ≡ L * placeWidth J
+      → ((i : ℕ) → i < c
+      → HoldsLetter J (part d (i * placeWidth J) (placeWidth J)) (getD l i (letterAt [])))
+      → Holds J L (0 ∷ c ∷ d) l
+  unfolding linkOf
+  link-flat l count wide held = record {
+    letters = ap (map letterAt) places-flat
+        ∙ ext-getD (letterAt []) (map letterAt rs) l (length-table letterAt w c d ∙ sym count)
+        (λ i h.
+        let k : i < c = omega (arith, length-table letterAt w c d) in
+        table-get letterAt w c i d k ∙ held i k .letter);
+    fits = fits-made (record {
+      first = some;
+      count = most;
+      held = ap (each (placeFits J)) places-flat
+          ∙ each-made (placeFits J) rs []
+          (λ i h.
+          let k : i < c = omega (arith, length-rows w c d) in
+          ap (placeFits J) (rows-at w c i d k) ∙ held i k .fits);
+    });
+    width = omega arith;
+  }
+    where
+      w : ℕ
+      w = placeWidth J
+
+      rs : List (List ℕ)
+      rs = rows (placeWidth J) c d
+
+-- w is the count that was read.
+module _ (J L : ℕ) (sizes : LinkSizes J L) (src : List ℕ) (at p : ℕ) (w : List ℕ)
+    (one : length w ≡ 1) (g : Read 4 src at w p) (c : ℕ) (ec : c ≡ getD w 0 0) where
+  link-is : (ys : List Letter) (q : ℕ) → GoodLink J L ys → Stands (linkBytes ys) src at q
+      → (w ≡ countWord ys) × Stands (chain letterBytes ys) src p q
+  link-is ys q =
+      told (link-parts J L (sizes .few-loads) (sizes .few-mails)) w
+      (record { width = one; below = g .below }) (g .stands) ys q
+
+  count-is : {q : ℕ} (f : Found linkBytes (GoodLink J L) src at q) → length (f .thing) ≡ c
+  count-is {q} f =
+      sym (ec ∙ ap (λ (v : List ℕ). getD v 0 0) (link-is (f .thing) q (f .good) (f .stands) .0))
+
+  -- So many letters stand behind it ..
+  pub letters-has : Has linkBytes (GoodLink J L) src at
+      → Has (chain letterBytes) (Many (λ i. GoodLetter J) c) src p
+  letters-has x =
+      let f = x .found in
+      record {
+        place = x .place;
+        found = record {
+          thing = f .thing;
+          good = record { count = count-is f; each = f .good .letters };
+          stands = link-is (f .thing) (x .place) (f .good) (f .stands) .1;
+        };
+      }
+
+  -- .. and have room in the link's places.
+  pub letters-few : Has linkBytes (GoodLink J L) src at → c ≤ L
+  letters-few x = let f = x .found in omega (arith, f .good .room, count-is f)
+
+  pub letters-room : (row : List ℕ) → length row ≡ linkWidth J L
+      → Has linkBytes (GoodLink J L) src at → c * placeWidth J ≤ length row - 2
+  letters-room row wide x = omega (arith, mul-le-mul-right (placeWidth J) (letters-few x))
+
+  -- The row when the first place, the count and then the places ds are in it.
+  pub link-stored : (row ds : List ℕ) (e r : ℕ) → length row ≡ linkWidth J L → e ≡ length row
+      → length ds ≡ e - 2 → (v : ℕ) → v ≡ c → (zs : List ℕ)
+      → StoredIs (chain letterBytes) (Many (λ i. GoodLetter J) c) src p
+      (HoldsRows (HoldsLetter J) (placeWidth J) c (letterAt []) zs ds) r
+      → StoredIs linkBytes (GoodLink J L) src at
+      (Holds J L (splice (set (set row 0 0) 1 v) 2 (e - 2) ds)) r
+  link-stored row ds e r wide end long v ev zs got q f =
+      let ys = f .thing in
+      let t = link-is ys q (f .good) (f .stands) in
+      let z = got q (record {
+        thing = ys;
+        good = record { count = count-is f; each = f .good .letters };
+        stands = t .1;
+      }) in
+      let tail = drop 2 row in
+      let size : e - 2 ≡ length tail = omega (arith, length-drop 2 row) in
+      let none : drop (e - 2) tail ≡ [] =
+      ap (λ (k : ℕ). drop k tail) size ∙ drop-length tail in
+      let here : splice (set (set row 0 0) 1 v) 2 (e - 2) ds ≡ 0 ∷ c ∷ ds =
+      ap (λ (l : List ℕ). splice l 2 (e - 2) ds) (two-set row 0 v (omega arith))
+      ∙ (λ i. 0 ∷ ev i ∷ (ds ++ none i)) ∙ ap (λ (l : List ℕ). 0 ∷ c ∷ l) (append-nil ds) in (
+        subst (λ (l : List ℕ). Holds J L l ys) (sym here)
+            (link-flat J L c (sizes .some-mails) (omega (arith, f .good .room, count-is f)) ds ys
+            (count-is f) (omega arith) (z .0 .each)),
+        z .1,
+      )

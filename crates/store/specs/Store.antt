@@ -1,0 +1,56 @@
+-- What lent words hold when what stands in an image was stored in them.
+use mathlib.Core.Path.{_≡_}
+use mathlib.Core.Bool.{true}
+use Prim.Native.Nat.{ℕ, _*_, _≤_, _<_}
+use mathlib.Core.List.{List}
+use lib.ListN.{length, drop, getD}
+use Rattle.words.specs.Rows.{part}
+use Rattle.rules.specs.Box.{Box, Letter}
+use Rattle.place.specs.Place.{letterAt, placeFits}
+use Rattle.row.specs.Row.{boxOf, rowFits}
+use Rattle.memory.specs.Memory.{siteWords, linksWords, siteOf, memoryForm}
+use Rattle.cells.specs.Cells.{Stands, Found}
+use Rattle.image.specs.Parts.{Listed, nIn, JIn, LIn, listed, listedBytes, GoodListed}
+
+-- the place p holds the letter y
+pub record HoldsLetter (J : ℕ) (p : List ℕ) (y : Letter) : Type 0 where
+  pub letter : letterAt p ≡ y
+  pub fits : placeFits J p ≡ true
+
+-- the row r holds the box x, one of n
+pub record HoldsBox (n J : ℕ) (r : List ℕ) (x : Box) : Type 0 where
+  pub box : boxOf n r ≡ x
+  pub fits : rowFits J r ≡ true
+
+module _ {A : Type 0} where
+  -- the words xs have become ys: their first n rows of w words hold the things l, in order, and
+  -- what follows these rows is as it was; d is read past the end of l
+  pub record HoldsRows (Holds : List ℕ → A → Type 0) (w n : ℕ) (d : A) (xs ys : List ℕ)
+      (l : List A) : Type 0 where
+    pub each : (i : ℕ) → i < n → Holds (part ys (i * w) w) (getD l i d)
+    pub rest : drop (n * w) ys ≡ drop (n * w) xs
+
+  -- H holds of whatever thing by form stands at `at`, and r is the place behind it
+  abbrev pub StoredIs : (A → List ℕ) → (A → Type 0) → List ℕ → ℕ → (A → Type 0) → ℕ → Type 0
+  StoredIs enc Good src at H r = (q : ℕ) (f : Found enc Good src at q) → H (f .thing) × (r ≡ q)
+
+-- the words xs and ls are enough for the bodies that stand at `at`
+pub record RoomFor (src : List ℕ) (at : ℕ) (xs ls : List ℕ) : Type 0 where
+  pub words : (t : Listed) (q : ℕ) → GoodListed t → Stands (listedBytes t) src at q
+      → (siteWords (nIn t) (JIn t) ≤ length xs) × (linksWords (nIn t) (JIn t) (LIn t) ≤ length ls)
+
+-- the words xs and ls have become ys and ks: these are by form, their site is what the bodies t
+-- hold, and what follows its rows and links is as it was
+pub record HoldsSite (xs ls ys ks : List ℕ) (t : Listed) : Type 0 where
+  pub form : memoryForm ys ks ≡ true
+  pub site : listed (siteOf ys ks) ≡ t
+  pub site-words : length ys ≡ length xs
+  pub links-words : length ks ≡ length ls
+  pub site-rest : drop (siteWords (nIn t) (JIn t)) ys ≡ drop (siteWords (nIn t) (JIn t)) xs
+  pub links-rest :
+      drop (linksWords (nIn t) (JIn t) (LIn t)) ks ≡ drop (linksWords (nIn t) (JIn t) (LIn t)) ls
+
+-- whatever bodies by form stand at `at`, the words hold them now
+abbrev pub SiteStored : List ℕ → ℕ → List ℕ → List ℕ → List ℕ → List ℕ → Type 0
+SiteStored src at xs ls ys ks =
+    (q : ℕ) (f : Found listedBytes GoodListed src at q) → HoldsSite xs ls ys ks (f .thing)

@@ -1,0 +1,50 @@
+// The boxes' bodies, each into its row.
+use words::size;
+ghost use mathlib.Core.Path.{_≡_};
+ghost use mathlib.Core.List.{[]};
+ghost use Prim.Native.Nat.{_*_, _≤_};
+ghost use lib.ListN.{length};
+ghost use Rattle.rules.specs.Sizes.{mostBoxes, mostLoads};
+ghost use Rattle.row.specs.Row.{boxOf};
+ghost use Rattle.memory.specs.Memory.{rowWidth};
+ghost use Rattle.cells.specs.Cells.{chain, Many, Has};
+ghost use Rattle.image.specs.Image.{boxBody};
+ghost use Rattle.image.specs.Parts.{SomeBox};
+ghost use Rattle.store.specs.Store.{HoldsBox, HoldsRows, StoredIs};
+
+// A box of n goes into its row; the words of peers above n say that they are unknown.
+fn store_box(src: &[u8], at: usize, n: u32, j: u32, row: &mut [u64]) -> usize
+    requires { ⌜ (n ≤ mostBoxes) × (j ≤ mostLoads) ⌝ }
+    requires { ⌜ length (now row) ≡ rowWidth j ⌝ }
+    requires { ⌜ Has (boxBody n) (SomeBox n j) (now src) at ⌝ }
+    ensures { λ r.
+        ⌜ StoredIs (boxBody n) (SomeBox n j) (now (src .entry)) at
+        (HoldsBox n j (now (row .exit))) r ⌝ }
+{
+    words::fill(&mut row[0..20], 4294967295);
+    let p = whole::boxes::get_head(src, at, n as usize, &mut row[0..20]);
+    let held = size(row[19]);
+    cells::get_words(src, p, 8, &mut row[20..20 + held])
+}
+
+// The n boxes go into the first n rows.
+pub fn store_boxes(src: &[u8], at: usize, n: u32, j: u32, rows: &mut [u64]) -> usize
+    requires { ⌜ (n ≤ mostBoxes) × (j ≤ mostLoads) ⌝ }
+    requires { ⌜ n * rowWidth j ≤ length (now rows) ⌝ }
+    requires { ⌜ Has (chain (boxBody n)) (Many (λ i. SomeBox n j) n) (now src) at ⌝ }
+    ensures { λ r.
+        ⌜ StoredIs (chain (boxBody n)) (Many (λ i. SomeBox n j) n) (now (src .entry)) at
+        (HoldsRows (HoldsBox n j) (rowWidth j) n (boxOf n []) (now (rows .entry))
+        (now (rows .exit))) r ⌝ }
+{
+    let w = memory::row_width(j);
+    let count = n as usize;
+    let mut p = at;
+    let mut i = 0;
+    while i < count {
+        let a = words::row_at(i, w, count);
+        p = store_box(src, p, n, j, &mut rows[a..a + w]);
+        i += 1;
+    }
+    p
+}

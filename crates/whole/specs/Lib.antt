@@ -1,0 +1,3 @@
+-- What the contracts of `whole` cite.
+pub mod Boxes
+pub mod Whole

@@ -1,0 +1,66 @@
+// All bodies in bytes, one after another: the general words, the boxes, the mail. Where each begins
+// and how long it is goes into the words of a table of contents.
+use crate::boxes;
+use cells::Walk;
+ghost use mathlib.Core.Path.{_≡_};
+ghost use mathlib.Core.Bool.{true};
+ghost use Prim.Native.Nat.{_+_, _*_, _≤_};
+ghost use lib.ListN.{length, take};
+ghost use Rattle.rules.specs.Sizes.{sizesForm};
+ghost use Rattle.whole.specs.Whole.{MailIs, RestIs, ListedIs};
+
+// The links of n boxes.
+fn check_mail(src: &[u8], at: usize, n: usize, j: usize, l: usize, table: &mut [u64]) -> Walk
+    requires { ⌜ at ≤ length (now src) ⌝ }
+    requires { ⌜ sizesForm n j l ≡ true ⌝ }
+    requires { ⌜ 5 + 2 * n ≤ length (now table) ⌝ }
+    ensures { λ r.
+        ⌜ MailIs n j l (now (src .entry)) at (now (table .entry)) (now (table .exit)) r ⌝ }
+{
+    let r = checker::mail::check_links(src, at, n * (n - 1), j, l);
+    match r {
+        Walk::Next(q) => {
+            boxes::enter(table, 3 + 2 * n, at, q);
+            Walk::Next(q)
+        }
+        Walk::Bad => Walk::Bad,
+    }
+}
+
+// The boxes and the mail of sizes in range.
+fn check_rest(src: &[u8], at: usize, n: u32, j: u32, l: u32, table: &mut [u64]) -> Walk
+    requires { ⌜ at ≤ length (now src) ⌝ }
+    requires { ⌜ sizesForm n j l ≡ true ⌝ }
+    requires { ⌜ 5 + 2 * n ≤ length (now table) ⌝ }
+    ensures { λ r.
+        ⌜ RestIs n j l (now (src .entry)) at (take 3 (now (table .entry)))
+        (now (table .exit)) r ⌝ }
+{
+    let r = boxes::check_boxes(src, at, n, j, table);
+    match r {
+        Walk::Next(p) => check_mail(src, p, n as usize, j as usize, l as usize, table),
+        Walk::Bad => Walk::Bad,
+    }
+}
+
+// The bodies of an image, the first at `at`.
+pub fn check_listed(src: &[u8], at: usize, table: &mut [u64]) -> Walk
+    requires { ⌜ at ≤ length (now src) ⌝ }
+    requires { ⌜ 15 ≤ length (now table) ⌝ }
+    ensures { λ r. ⌜ ListedIs (now (src .entry)) at (now (table .exit)) r ⌝ }
+{
+    if src.len() - at < 20 {
+        return Walk::Bad;
+    }
+    let mut w = [0u64; 5];
+    let p = cells::get_words(src, at, 4, &mut w);
+    if !memory::is_general(&w) {
+        return Walk::Bad;
+    }
+    let n = place::number(w[0]);
+    let j = place::number(w[1]);
+    let l = place::number(w[2]);
+    table[0] = w[0] + 2;
+    boxes::enter(table, 1, at, p);
+    check_rest(src, p, n, j, l, table)
+}
