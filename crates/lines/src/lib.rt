@@ -67,7 +67,7 @@ pub struct Numbers {
 }
 
 // Whether the bytes of w stand at the start of s.
-fn starts(w: &[u8], s: &[u8]) -> bool
+pub fn starts(w: &[u8], s: &[u8]) -> bool
     ensures { λ r. ⌜ r ≡ startsWith (now (w .entry)) (now (s .entry)) ⌝ }
 {
     let mut i = 0;

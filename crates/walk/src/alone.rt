@@ -1,0 +1,161 @@
+// A box by itself: its row stands in the site, its letters in two trays.
+ghost use Prim.Native.Nat.{_≤_};
+use crate::lent;
+use crate::lent::Lent;
+use crate::see;
+use crate::show;
+use crate::spots::get;
+use crate::spots::row_at;
+use own::Sent;
+use rules::model::Act;
+use rules::model::Call;
+use rules::model::Setting;
+
+// A word as a number of 32 bits, or the largest such.
+fn short(x: u64) -> u32 {
+    if 4294967295 < x {
+        return 4294967295;
+    }
+    x as u32
+}
+
+fn setting(site: &[u64], me: u32) -> Setting {
+    Setting {
+        n: short(get(site, 0)),
+        j: short(get(site, 1)),
+        l: short(get(site, 2)),
+        epoch: short(get(site, 3)),
+        present: short(get(site, 4)),
+        me,
+    }
+}
+
+// What came of it; what was sent is the next letter.
+fn sent(r: Sent, kept: bool, letter: &mut [u64], out: &[u64]) {
+    let answer = r.answer;
+    show::answer(rules::numbers::answer_number(answer), kept);
+    let to = r.to;
+    if to == 0 {
+        show::text(b"\n");
+        return;
+    }
+    show::text(b" to ");
+    show::number(to as u64);
+    see::letter(out, 0);
+    show::text(b"\n");
+    lent::copy(out, letter);
+}
+
+// Where a row that begins at a ends, as much of it as is lent.
+fn row_end(a: usize, j: u32, most: usize) -> usize
+    requires { ⌜ a ≤ most ⌝ }
+    ensures { λ r. ⌜ (a ≤ r) × (r ≤ most) ⌝ }
+{
+    let width = 20 + j as usize;
+    if width < most - a {
+        return a + width;
+    }
+    most
+}
+
+fn act(
+    z: Lent,
+    site: &mut [u64],
+    site_before: &[u64],
+    letter: &mut [u64],
+    out: &mut [u64],
+    out_before: &[u64],
+    c: u32,
+    event: Act,
+) {
+    let s = setting(site, c);
+    let most = site.len();
+    let a = lent::least(row_at(z.j, c as u64), most);
+    let e = row_end(a, z.j, most);
+    let r = own::act(&mut site[a..e], out, s, event);
+    let kept = lent::same(site, site_before) & lent::same(out, out_before);
+    sent(r, kept, letter, out);
+}
+
+fn mail(
+    z: Lent,
+    site: &mut [u64],
+    site_before: &[u64],
+    letter: &mut [u64],
+    out: &mut [u64],
+    out_before: &[u64],
+    sender: u32,
+    c: u32,
+) {
+    let s = setting(site, c);
+    let most = site.len();
+    let a = lent::least(row_at(z.j, c as u64), most);
+    let e = row_end(a, z.j, most);
+    let r = own::mail(&mut site[a..e], letter, out, s, sender);
+    let kept = lent::same(site, site_before) & lent::same(out, out_before);
+    sent(r, kept, letter, out);
+}
+
+// What a line of the trace is to one box: a step of its own, a letter from another, or nothing.
+enum Event {
+    Own(u32, Act),
+    Mail(u32, u32),
+    Nothing,
+}
+
+fn event_of(call: Call) -> Event {
+    match call {
+        Call::Elect(_) => Event::Nothing,
+        Call::Recover(c) => Event::Own(c, Act::Recover),
+        Call::Collect(c) => Event::Own(c, Act::Collect),
+        Call::Ready(c) => Event::Own(c, Act::Ready),
+        Call::Offer(c, left, right) => Event::Own(c, Act::Offer(left, right)),
+        Call::Propose(c) => Event::Own(c, Act::Propose),
+        Call::Agree(c) => Event::Own(c, Act::Agree),
+        Call::Finish(c) => Event::Own(c, Act::Finish),
+        Call::Stop(_) => Event::Nothing,
+        Call::Return(_) => Event::Nothing,
+        Call::Timeout(_) => Event::Nothing,
+        Call::Lose(_, _) => Event::Nothing,
+        Call::Deliver(a, b) => Event::Mail(a, b),
+    }
+}
+
+fn play(
+    z: Lent,
+    site: &mut [u64],
+    before: &[u64],
+    letter: &mut [u64],
+    out: &mut [u64],
+    out_before: &[u64],
+    event: Event,
+) {
+    match event {
+        Event::Own(c, a) => act(z, site, before, letter, out, out_before, c, a),
+        Event::Mail(a, c) => mail(z, site, before, letter, out, out_before, a, c),
+        Event::Nothing => show::text(b" | no event of a box\n"),
+    }
+}
+
+// An event of one box: what it does by itself, or the letter in the tray.
+pub(crate) fn line(
+    z: Lent,
+    site: &mut [u64],
+    site_before: &mut [u64],
+    letter: &mut [u64],
+    out: &mut [u64],
+    out_before: &mut [u64],
+    call: Call,
+) {
+    lent::copy(site, site_before);
+    lent::copy(out, out_before);
+    play(
+        z,
+        site,
+        site_before,
+        letter,
+        out,
+        out_before,
+        event_of(call),
+    );
+}

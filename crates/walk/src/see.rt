@@ -1,0 +1,56 @@
+// A box, a link or a letter, word by word.
+use crate::lent::Lent;
+use crate::show;
+use crate::spots::get;
+use crate::spots::link_at;
+use crate::spots::row_at;
+use std::num::wrapping_add_usize;
+
+// A place and the records that it holds.
+pub(crate) fn letter(w: &[u64], at: usize) {
+    show::text(b" |");
+    let head = wrapping_add_usize(at, 5);
+    let count = get(w, wrapping_add_usize(at, 4)) as usize;
+    show::words(w, at, wrapping_add_usize(head, count));
+}
+
+// The twenty words of box c, and the records that it holds.
+pub(crate) fn row(z: Lent, site: &[u64], c: u64) {
+    let at = row_at(z.j, c);
+    let head = wrapping_add_usize(at, 20);
+    let count = get(site, wrapping_add_usize(at, 19)) as usize;
+    show::text(b" |");
+    show::words(site, at, wrapping_add_usize(head, count));
+    show::text(b"\n");
+}
+
+// The place after p, round the link.
+fn after(p: usize, l: usize) -> usize {
+    let q = wrapping_add_usize(p, 1);
+    if q < l {
+        return q;
+    }
+    0
+}
+
+// The mails of the link from a to b.
+pub(crate) fn link(z: Lent, links: &[u64], a: u64, b: u64) {
+    let at = link_at(z.n, z.j, z.l, a, b);
+    let l = z.l as usize;
+    let count = get(links, wrapping_add_usize(at, 1)) as usize;
+    let mut p = get(links, at) as usize;
+    let mut i = 0;
+    show::text(b" | ");
+    show::number(count as u64);
+    while i < count {
+        letter(links, wrapping_add_usize(at, place_at(z.j, p)));
+        p = after(p, l);
+        i += 1;
+    }
+    show::text(b"\n");
+}
+
+fn place_at(j: u32, p: usize) -> usize {
+    let place = wrapping_add_usize(5, j as usize);
+    wrapping_add_usize(2, crate::spots::many(p, place))
+}

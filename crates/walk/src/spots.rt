@@ -1,0 +1,67 @@
+// Words of the site and of its links, by the layout that the engine's documents give.
+use std::num::wrapping_add_u64;
+use std::num::wrapping_add_usize;
+
+pub(crate) fn get(words: &[u64], at: usize) -> u64 {
+    if at < words.len() {
+        return words[at];
+    }
+    0
+}
+
+pub(crate) fn put(words: &mut [u64], at: usize, v: u64) {
+    if at < words.len() {
+        words[at] = v;
+    }
+}
+
+// The records of frames 1 and 1, 2 and 2, to k and k, from at on.
+pub(crate) fn put_pairs(words: &mut [u64], at: usize, k: usize) {
+    let mut pair = 0;
+    let mut i = 0;
+    while i < k {
+        pair = wrapping_add_u64(pair, 4294967297);
+        put(words, wrapping_add_usize(at, i), pair);
+        i += 1;
+    }
+}
+
+// k widths, one after the other.
+pub(crate) fn many(k: usize, width: usize) -> usize {
+    let mut sum = 0;
+    let mut i = 0;
+    while i < k {
+        sum = wrapping_add_usize(sum, width);
+        i += 1;
+    }
+    sum
+}
+
+fn less_one(k: u64) -> usize {
+    if k < 1 {
+        return 0;
+    }
+    (k - 1) as usize
+}
+
+fn less_two(k: u64) -> usize {
+    if k < 2 {
+        return 0;
+    }
+    (k - 2) as usize
+}
+
+// The row of box c: 5 general words and the rows of the boxes before it.
+pub(crate) fn row_at(j: u32, c: u64) -> usize {
+    let width = wrapping_add_usize(20, j as usize);
+    wrapping_add_usize(5, many(less_one(c), width))
+}
+
+// The row of the link from a to b: the links of the senders before a, those of a to boxes before b.
+pub(crate) fn link_at(n: u32, j: u32, l: u32, a: u64, b: u64) -> usize {
+    let place = wrapping_add_usize(5, j as usize);
+    let width = wrapping_add_usize(2, many(l as usize, place));
+    let own = if b < a { less_one(b) } else { less_two(b) };
+    let before = many(less_one(a), less_one(n as u64));
+    many(wrapping_add_usize(before, own), width)
+}
