@@ -1,0 +1,3 @@
+-- Laws of the exported functions.
+pub mod NumberedLaws
+pub mod SizeLaws
