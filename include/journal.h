@@ -1,0 +1,171 @@
+/* The load journal: its engine for C, in libjournal.a (x86-64 Linux; lib/build makes it).
+ *
+ * Every function is proved to give what the paper's rules give, for every input, to touch no word
+ * but those lent to it, and to end. Nothing is allocated, nothing is kept between calls, and there
+ * is no global state: two threads may work on two sites at once, and not on one.
+ *
+ * MEMORY. A site stands in two arrays of 64-bit words that the caller lends: `site`, its sizes,
+ * epoch and boxes, and `links`, its mails. How many words each needs follows from the sizes: n
+ * boxes (1 to 5), book of J loads (1 to 4,096), L mails on a link (1 to 16). An array is passed as
+ * a pointer and its length in words; a longer one is allowed, and the words past those needed are
+ * never read or written. What C must see to, since no test can: a pointer is not null, not even
+ * with the length 0; it is aligned to 8 bytes; the length is no more than is there; two arrays of
+ * one call do not overlap. What the words hold is tested by every call: words that are not by form
+ * are refused with 1.
+ *
+ * ANSWERS. Every function but the two that count words answers one of these numbers. A refused call
+ * (1 to 14) leaves every word as it was. A mail that is discarded (101 to 104) has left its link,
+ * and nothing else has changed. */
+#ifndef JOURNAL_H
+#define JOURNAL_H
+
+#include <stddef.h>
+#include <stdint.h>
+
+#ifdef __cplusplus
+extern "C" {
+#endif
+
+enum {
+    JOURNAL_DONE = 0,
+    /* The paper's refusals. Where several apply the first in this order is given. */
+    JOURNAL_SIZES = 13,    /* sizes outside their ranges */
+    JOURNAL_FORM = 1,      /* the words are not a site (or a box, a letter, an image) by form */
+    JOURNAL_BOX = 2,       /* a box number outside 1..n, or a link from a box to itself */
+    JOURNAL_FRAME = 10,    /* an offered frame number is 0 */
+    JOURNAL_CONDITION = 3, /* the step's condition fails */
+    JOURNAL_MAJORITY = 4,  /* elect with fewer present than a majority */
+    JOURNAL_EPOCH = 5,     /* stop, return or timeout at epoch 1,000,000 */
+    JOURNAL_NEW_PN = 6,    /* the new proposal number would exceed 999,999,999 */
+    JOURNAL_ABOVE = 9,     /* a Begin mail with a proposal number above the receiver's */
+    JOURNAL_BOOK = 7,      /* propose with a full book */
+    JOURNAL_LINK = 8,      /* a mail would go onto a full link */
+    JOURNAL_BUFFER = 12,   /* too few words or bytes are lent */
+    JOURNAL_UNTRUE = 14,   /* a holds line that is untrue */
+    /* A mail that was handed over. */
+    JOURNAL_TAKEN = 100,
+    JOURNAL_DISCARDED_ROLE = 101,
+    JOURNAL_DISCARDED_PHASE = 102,
+    JOURNAL_DISCARDED_NUMBER = 103,
+    JOURNAL_DISCARDED_PLACE = 104
+};
+
+/* The words of an array, as constants: for sizes within their ranges the same as the two functions
+ * below. A row is one box, a place is one letter. */
+#define JOURNAL_ROW_WORDS(J) (20 + (J))
+#define JOURNAL_PLACE_WORDS(J) (5 + (J))
+#define JOURNAL_SITE_WORDS(n, J) (5 + (n) * JOURNAL_ROW_WORDS(J))
+#define JOURNAL_LINKS_WORDS(n, J, L) ((n) * ((n) - 1) * (2 + (L) * JOURNAL_PLACE_WORDS(J)))
+
+/* How many words `site` and `links` need; 0 for sizes outside their ranges. (`links` needs 0 words
+ * where n is 1.) */
+size_t journal_site_words(uint32_t n, uint32_t j, uint32_t l);
+size_t journal_links_words(uint32_t n, uint32_t j, uint32_t l);
+
+/* A fresh site, whatever the words held: epoch 1, all boxes present, nothing agreed, no mail.
+ * Answers 0, 13, 12. */
+uint32_t journal_fresh(uint64_t *site, size_t site_words, uint64_t *links, size_t links_words,
+                       uint32_t n, uint32_t j, uint32_t l);
+
+/* The thirteen calls. Each can answer 1, 2 and 3 beside what stands with it, and 0 where it is
+ * done. c is a box.
+ *
+ * elect: c alone leads; needs an odd epoch, c present, and a majority present.            4
+ * recover: leader c takes a new proposal number.                                          6
+ * collect: leader c asks the others for what they hold.                                   8
+ * ready: all present have answered; c starts an unagreed record again, or leases.         8
+ * offer: the frames left and right wait at leader c.                                      10
+ * propose: leader c starts the waiting pair under the next load number.                   7 8
+ * agree: all present have accepted; the number is agreed, and the others are told.        8
+ * finish: leader c is active again.                                                       8
+ * stop, return: box c is switched off, comes back. Nothing stored is lost.                  5
+ * timeout: box c misses its leader; an election is due.                                   5
+ * lose: the head of the link from a to b is dropped.
+ * deliver: the head of the link from a to b is handed to b.       6 9 8 100 101 102 103 104
+ *          (not 0) A refused mail stays at the head. */
+uint32_t journal_elect(uint64_t *site, size_t site_words, uint64_t *links, size_t links_words,
+                       uint32_t c);
+uint32_t journal_recover(uint64_t *site, size_t site_words, uint64_t *links, size_t links_words,
+                         uint32_t c);
+uint32_t journal_collect(uint64_t *site, size_t site_words, uint64_t *links, size_t links_words,
+                         uint32_t c);
+uint32_t journal_ready(uint64_t *site, size_t site_words, uint64_t *links, size_t links_words,
+                       uint32_t c);
+uint32_t journal_offer(uint64_t *site, size_t site_words, uint64_t *links, size_t links_words,
+                       uint32_t c, uint32_t left, uint32_t right);
+uint32_t journal_propose(uint64_t *site, size_t site_words, uint64_t *links, size_t links_words,
+                         uint32_t c);
+uint32_t journal_agree(uint64_t *site, size_t site_words, uint64_t *links, size_t links_words,
+                       uint32_t c);
+uint32_t journal_finish(uint64_t *site, size_t site_words, uint64_t *links, size_t links_words,
+                        uint32_t c);
+uint32_t journal_stop(uint64_t *site, size_t site_words, uint64_t *links, size_t links_words,
+                      uint32_t c);
+uint32_t journal_return(uint64_t *site, size_t site_words, uint64_t *links, size_t links_words,
+                        uint32_t c);
+uint32_t journal_timeout(uint64_t *site, size_t site_words, uint64_t *links, size_t links_words,
+                         uint32_t c);
+uint32_t journal_lose(uint64_t *site, size_t site_words, uint64_t *links, size_t links_words,
+                      uint32_t a, uint32_t b);
+uint32_t journal_deliver(uint64_t *site, size_t site_words, uint64_t *links, size_t links_words,
+                         uint32_t a, uint32_t b);
+
+/* Is load k agreed at box c with these frames? 0 where it is; 14 where it is not, a k of 0 or above
+ * the last agreed number and a frame of 0 among it; 1, 2. */
+uint32_t journal_holds(const uint64_t *site, size_t site_words, const uint64_t *links,
+                       size_t links_words, uint32_t c, uint32_t k, uint32_t left, uint32_t right);
+
+/* A BOX BY ITSELF, for a program that runs one box and carries its mails by other means. `row` is
+ * the box (JOURNAL_ROW_WORDS(j) words), `letter` a mail that came in, `out` a place for the mail
+ * that goes out (JOURNAL_PLACE_WORDS(j) words each). n, j, l, epoch and present (box k as the value
+ * 2^(k-1)) are the site's, me is the box's own number. Where the call is done or the mail is taken,
+ * *to is the set of boxes that the letter in `out` is for, or 0, and then `out` is as it was; where
+ * the mail is discarded *to is 0; where the call is refused *to stays too.
+ *
+ * A fresh box is a row of 0, but 4,294,967,295 in its words 14 to 18 (the peers' lasts are
+ * unknown). An election, who is present and the links are the caller's part: when box c is elected,
+ * in every row word 0 becomes 1 at c and 0 elsewhere, words 1, 2, 12 and 13 become 0 (word 1
+ * becomes 1 where exactly one box is present).
+ *
+ * Answers 0, 13, 1, 2, 10, 3, 6, 7, 12; mail 100 to 104, 13, 1, 2, 3, 6, 9, 12. */
+uint32_t journal_own_recover(uint64_t *row, size_t row_words, uint64_t *out, size_t out_words,
+                             uint32_t *to, uint32_t n, uint32_t j, uint32_t l, uint32_t epoch,
+                             uint32_t present, uint32_t me);
+uint32_t journal_own_collect(uint64_t *row, size_t row_words, uint64_t *out, size_t out_words,
+                             uint32_t *to, uint32_t n, uint32_t j, uint32_t l, uint32_t epoch,
+                             uint32_t present, uint32_t me);
+uint32_t journal_own_ready(uint64_t *row, size_t row_words, uint64_t *out, size_t out_words,
+                           uint32_t *to, uint32_t n, uint32_t j, uint32_t l, uint32_t epoch,
+                           uint32_t present, uint32_t me);
+uint32_t journal_own_offer(uint64_t *row, size_t row_words, uint64_t *out, size_t out_words,
+                           uint32_t *to, uint32_t n, uint32_t j, uint32_t l, uint32_t epoch,
+                           uint32_t present, uint32_t me, uint32_t left, uint32_t right);
+uint32_t journal_own_propose(uint64_t *row, size_t row_words, uint64_t *out, size_t out_words,
+                             uint32_t *to, uint32_t n, uint32_t j, uint32_t l, uint32_t epoch,
+                             uint32_t present, uint32_t me);
+uint32_t journal_own_agree(uint64_t *row, size_t row_words, uint64_t *out, size_t out_words,
+                           uint32_t *to, uint32_t n, uint32_t j, uint32_t l, uint32_t epoch,
+                           uint32_t present, uint32_t me);
+uint32_t journal_own_finish(uint64_t *row, size_t row_words, uint64_t *out, size_t out_words,
+                            uint32_t *to, uint32_t n, uint32_t j, uint32_t l, uint32_t epoch,
+                            uint32_t present, uint32_t me);
+uint32_t journal_own_mail(uint64_t *row, size_t row_words, const uint64_t *letter,
+                          size_t letter_words, uint64_t *out, size_t out_words, uint32_t *to,
+                          uint32_t n, uint32_t j, uint32_t l, uint32_t epoch, uint32_t present,
+                          uint32_t me, uint32_t sender);
+
+/* EXAMPLE. Two boxes agree on one load; tests/c/example.c is this as a whole program.
+ *
+ *     uint64_t site[JOURNAL_SITE_WORDS(2, 16)], links[JOURNAL_LINKS_WORDS(2, 16, 8)];
+ *     size_t s = JOURNAL_SITE_WORDS(2, 16), l = JOURNAL_LINKS_WORDS(2, 16, 8);
+ *     if (journal_fresh(site, s, links, l, 2, 16, 8) != JOURNAL_DONE) return 1;
+ *     journal_elect(site, s, links, l, 1);
+ *     ...
+ *     if (journal_holds(site, s, links, l, 2, 1, 71, 72) == JOURNAL_DONE) puts("load 1: 71 72");
+ */
+
+#ifdef __cplusplus
+}
+#endif
+
+#endif

@@ -1,0 +1,6 @@
+/* The part of the C library that the tests use, for a machine that has the kit and no headers. */
+#ifndef STD_STDDEF_H
+#define STD_STDDEF_H
+typedef __SIZE_TYPE__ size_t;
+#define NULL ((void *)0)
+#endif

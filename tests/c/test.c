@@ -1,0 +1,411 @@
+/* Calls every exported function at its edges and at the largest sizes, and compares each answer
+ * with the paper's. A refused call must leave every lent word, and no call may touch the words
+ * behind what it was lent. Ends with 1 where anything differs. */
+#include "journal.h"
+#include <stdio.h>
+#include <stdlib.h>
+#include <string.h>
+
+enum { GUARD = 8 }; /* words behind each array */
+static const uint64_t GUARDED = 0x5ca1ab1e0ddba115u;
+
+static int checks, failures;
+
+/* One lent array: its words, how many are lent, and what they were before the call. */
+typedef struct {
+    uint64_t *words, *before;
+    size_t size, lent;
+} Array;
+
+static void check(int line, const char *what, uint64_t got, uint64_t want) {
+    checks++;
+    if (got != want) {
+        failures++;
+        printf("line %d: %s is %lu and not %lu\n", line, what, got, want);
+    }
+}
+
+static Array lend(size_t size) {
+    Array a = {malloc((size + GUARD) * sizeof(uint64_t)), malloc((size + GUARD) * sizeof(uint64_t)),
+               size, size};
+    for (size_t i = 0; i < size; i++) a.words[i] = 0;
+    for (size_t i = 0; i < GUARD; i++) a.words[size + i] = GUARDED;
+    return a;
+}
+
+static void release(Array a) {
+    free(a.words);
+    free(a.before);
+}
+
+static void keep(Array a) { memcpy(a.before, a.words, (a.size + GUARD) * sizeof(uint64_t)); }
+
+/* From word `from` on nothing has changed. */
+static int stays(Array a, size_t from) {
+    return memcmp(a.words + from, a.before + from, (a.size + GUARD - from) * sizeof(uint64_t)) == 0;
+}
+
+/* The site under test, and the row and the two trays of a box by itself. */
+static Array site, links, row, letter, out;
+static uint32_t to, to_before;
+
+static int is_refusal(uint32_t answer) { return 1 <= answer && answer <= 14; }
+
+static void settle(int line, const char *what, uint32_t got, uint32_t want) {
+    check(line, what, got, want);
+    int all = is_refusal(want);
+    check(line, "site stays", stays(site, all ? 0 : site.lent), 1);
+    check(line, "links stay", stays(links, all ? 0 : links.lent), 1);
+}
+
+static void settle_own(int line, const char *what, uint32_t got, uint32_t want, uint32_t set) {
+    check(line, what, got, want);
+    int all = is_refusal(want);
+    check(line, "row stays", stays(row, all ? 0 : row.lent), 1);
+    check(line, "letter stays", stays(letter, 0), 1);
+    check(line, "out stays", stays(out, set == 0 || all ? 0 : out.lent), 1);
+    check(line, "to", to, all ? to_before : set);
+}
+
+#define ON site.words, site.lent, links.words, links.lent
+#define SITE(want, call)                                                                           \
+    do {                                                                                           \
+        keep(site), keep(links);                                                                   \
+        settle(__LINE__, #call, call, want);                                                       \
+    } while (0)
+#define ROW row.words, row.lent, out.words, out.lent, &to
+#define MAIL row.words, row.lent, letter.words, letter.lent, out.words, out.lent, &to
+#define OWN(want, set, call)                                                                       \
+    do {                                                                                           \
+        keep(row), keep(letter), keep(out), to_before = to;                                        \
+        settle_own(__LINE__, #call, call, want, set);                                              \
+    } while (0)
+#define WORD(array, at, want) check(__LINE__, #array " " #at, array.words[at], want)
+
+static void lend_site(uint32_t n, uint32_t j, uint32_t l) {
+    site = lend(journal_site_words(n, j, l));
+    links = lend(journal_links_words(n, j, l));
+}
+
+static void release_site(void) {
+    release(site);
+    release(links);
+}
+
+static void word_counts(void) {
+    static const uint32_t loads[] = {1, 4, 4096}, mails[] = {1, 2, 16};
+    for (uint32_t n = 1; n <= 5; n++)
+        for (int i = 0; i < 3; i++)
+            for (int k = 0; k < 3; k++) {
+                uint32_t j = loads[i], l = mails[k];
+                check(__LINE__, "site words", journal_site_words(n, j, l), JOURNAL_SITE_WORDS(n, j));
+                check(__LINE__, "links words", journal_links_words(n, j, l),
+                      JOURNAL_LINKS_WORDS(n, j, l));
+            }
+    static const uint32_t bad[][3] = {{0, 4, 2}, {6, 4, 2}, {3, 0, 2}, {3, 4097, 2}, {3, 4, 0},
+                                      {3, 4, 17}, {UINT32_MAX, 4, 2}, {3, UINT32_MAX, 2},
+                                      {3, 4, UINT32_MAX}, {UINT32_MAX, UINT32_MAX, UINT32_MAX}};
+    lend_site(3, 4, 2);
+    for (int i = 0; i < 10; i++) {
+        uint32_t n = bad[i][0], j = bad[i][1], l = bad[i][2];
+        check(__LINE__, "site words", journal_site_words(n, j, l), 0);
+        check(__LINE__, "links words", journal_links_words(n, j, l), 0);
+        SITE(JOURNAL_SIZES, journal_fresh(ON, n, j, l));
+    }
+    release_site();
+}
+
+/* Too few words: 12 for a fresh site, 1 for every other call. */
+static void short_arrays(void) {
+    lend_site(3, 4, 2);
+    SITE(JOURNAL_FORM, journal_elect(ON, 1)); /* words of 0 are no site */
+    SITE(JOURNAL_DONE, journal_fresh(ON, 3, 4, 2));
+    for (int i = 0; i < 4; i++) {
+        site.lent = i == 0 ? 76 : i == 2 ? 0 : 77;
+        links.lent = i == 1 ? 119 : i == 3 ? 0 : 120;
+        SITE(JOURNAL_BUFFER, journal_fresh(ON, 3, 4, 2));
+        SITE(JOURNAL_SIZES, journal_fresh(ON, 3, 4, 17));
+        SITE(JOURNAL_FORM, journal_elect(ON, 9));
+        SITE(JOURNAL_FORM, journal_deliver(ON, 1, 1));
+        SITE(JOURNAL_FORM, journal_holds(ON, 9, 0, 0, 0));
+    }
+    site.lent = 77, links.lent = 120;
+    SITE(JOURNAL_DONE, journal_elect(ON, 1));
+    release_site();
+}
+
+/* Box numbers outside 1 to n, in every call. */
+static void box_numbers(void) {
+    lend_site(3, 4, 2);
+    SITE(JOURNAL_DONE, journal_fresh(ON, 3, 4, 2));
+    static const uint32_t bad[] = {0, 4, UINT32_MAX};
+    for (int i = 0; i < 3; i++) {
+        uint32_t c = bad[i];
+        SITE(JOURNAL_BOX, journal_elect(ON, c));
+        SITE(JOURNAL_BOX, journal_recover(ON, c));
+        SITE(JOURNAL_BOX, journal_collect(ON, c));
+        SITE(JOURNAL_BOX, journal_ready(ON, c));
+        SITE(JOURNAL_BOX, journal_offer(ON, c, 0, 0));
+        SITE(JOURNAL_BOX, journal_propose(ON, c));
+        SITE(JOURNAL_BOX, journal_agree(ON, c));
+        SITE(JOURNAL_BOX, journal_finish(ON, c));
+        SITE(JOURNAL_BOX, journal_stop(ON, c));
+        SITE(JOURNAL_BOX, journal_return(ON, c));
+        SITE(JOURNAL_BOX, journal_timeout(ON, c));
+        SITE(JOURNAL_BOX, journal_lose(ON, c, 1));
+        SITE(JOURNAL_BOX, journal_lose(ON, 1, c));
+        SITE(JOURNAL_BOX, journal_deliver(ON, c, 1));
+        SITE(JOURNAL_BOX, journal_deliver(ON, 1, c));
+        SITE(JOURNAL_BOX, journal_holds(ON, c, 1, 7, 8));
+    }
+    SITE(JOURNAL_BOX, journal_lose(ON, 2, 2));
+    SITE(JOURNAL_BOX, journal_deliver(ON, 3, 3));
+    SITE(JOURNAL_FRAME, journal_offer(ON, 1, 0, 7));
+    SITE(JOURNAL_FRAME, journal_offer(ON, 1, 7, 0));
+    SITE(JOURNAL_CONDITION, journal_offer(ON, 1, UINT32_MAX, 1));
+    release_site();
+}
+
+/* Each call once where it is refused and once where it is done. */
+static void each_call(void) {
+    lend_site(2, 1, 2);
+    SITE(JOURNAL_DONE, journal_fresh(ON, 2, 1, 2));
+    SITE(JOURNAL_CONDITION, journal_recover(ON, 1));
+    SITE(JOURNAL_DONE, journal_elect(ON, 1));
+    WORD(site, 3, 2);
+    SITE(JOURNAL_CONDITION, journal_elect(ON, 1));
+    SITE(JOURNAL_CONDITION, journal_collect(ON, 1));
+    SITE(JOURNAL_DONE, journal_recover(ON, 1));
+    WORD(site, 5 + 3, 101);
+    SITE(JOURNAL_DONE, journal_collect(ON, 1));
+    SITE(JOURNAL_CONDITION, journal_ready(ON, 1));
+    SITE(JOURNAL_TAKEN, journal_deliver(ON, 1, 2));
+    SITE(JOURNAL_TAKEN, journal_deliver(ON, 2, 1));
+    SITE(JOURNAL_DONE, journal_ready(ON, 1));
+    SITE(JOURNAL_CONDITION, journal_propose(ON, 1));
+    SITE(JOURNAL_DONE, journal_offer(ON, 1, 71, 72));
+    SITE(JOURNAL_CONDITION, journal_offer(ON, 1, 71, 72));
+    SITE(JOURNAL_DONE, journal_propose(ON, 1));
+    SITE(JOURNAL_CONDITION, journal_agree(ON, 1));
+    SITE(JOURNAL_TAKEN, journal_deliver(ON, 1, 2));
+    SITE(JOURNAL_TAKEN, journal_deliver(ON, 1, 2));
+    SITE(JOURNAL_TAKEN, journal_deliver(ON, 2, 1));
+    SITE(JOURNAL_CONDITION, journal_finish(ON, 1));
+    SITE(JOURNAL_DONE, journal_agree(ON, 1));
+    SITE(JOURNAL_DONE, journal_finish(ON, 1));
+    SITE(JOURNAL_UNTRUE, journal_holds(ON, 2, 1, 71, 72));
+    SITE(JOURNAL_TAKEN, journal_deliver(ON, 1, 2));
+    SITE(JOURNAL_DONE, journal_holds(ON, 2, 1, 71, 72));
+    SITE(JOURNAL_UNTRUE, journal_holds(ON, 2, 1, 72, 71));
+    SITE(JOURNAL_UNTRUE, journal_holds(ON, 2, 0, 71, 72));
+    SITE(JOURNAL_UNTRUE, journal_holds(ON, 2, 2, 71, 72));
+    SITE(JOURNAL_UNTRUE, journal_holds(ON, 2, 1, 0, 72));
+    SITE(JOURNAL_DONE, journal_lose(ON, 1, 2));
+    SITE(JOURNAL_CONDITION, journal_lose(ON, 1, 2));
+    SITE(JOURNAL_CONDITION, journal_deliver(ON, 1, 2));
+    SITE(JOURNAL_DONE, journal_offer(ON, 1, 73, 74));
+    SITE(JOURNAL_BOOK, journal_propose(ON, 1));
+    SITE(JOURNAL_CONDITION, journal_return(ON, 2));
+    SITE(JOURNAL_DONE, journal_stop(ON, 2));
+    SITE(JOURNAL_CONDITION, journal_stop(ON, 2));
+    SITE(JOURNAL_MAJORITY, journal_elect(ON, 1));
+    SITE(JOURNAL_DONE, journal_return(ON, 2));
+    SITE(JOURNAL_CONDITION, journal_timeout(ON, 1));
+    SITE(JOURNAL_DONE, journal_elect(ON, 2));
+    SITE(JOURNAL_DONE, journal_timeout(ON, 1));
+    WORD(site, 3, 5);
+    site.words[3] = 1000000;
+    SITE(JOURNAL_EPOCH, journal_timeout(ON, 1));
+    SITE(JOURNAL_EPOCH, journal_stop(ON, 1));
+    site.words[5 + 21 + 3] = 999999901; /* the promise of box 2, who leads */
+    SITE(JOURNAL_NEW_PN, journal_recover(ON, 2));
+    site.words[5 + 21 + 1] = UINT64_MAX; /* its state */
+    SITE(JOURNAL_FORM, journal_recover(ON, 2));
+    release_site();
+}
+
+/* Mails of a foreign site: 9 and the four causes. Link 1 to 2 of a site of two boxes stands first. */
+static void post(uint64_t kind, uint64_t pn, uint64_t last, uint64_t count) {
+    uint64_t mail[] = {0, 1, kind, pn, last, 0, count, 0x700000008u};
+    memcpy(links.words, mail, sizeof mail);
+}
+
+static void mails(void) {
+    lend_site(2, 1, 2);
+    SITE(JOURNAL_DONE, journal_fresh(ON, 2, 1, 2));
+    SITE(JOURNAL_DONE, journal_elect(ON, 2));
+    post(1, 101, 0, 0);
+    SITE(JOURNAL_DISCARDED_ROLE, journal_deliver(ON, 1, 2));
+    WORD(links, 1, 0);
+    post(2, 101, 0, 0);
+    SITE(JOURNAL_DISCARDED_PHASE, journal_deliver(ON, 1, 2));
+    site.words[5 + 21 + 0] = 0; /* box 2 does not lead, and has promised 203 */
+    site.words[5 + 21 + 3] = 203;
+    post(3, 202, 0, 1);
+    SITE(JOURNAL_DISCARDED_NUMBER, journal_deliver(ON, 1, 2));
+    post(6, 0, 1, 0);
+    SITE(JOURNAL_DISCARDED_PLACE, journal_deliver(ON, 1, 2));
+    post(3, 204, 0, 1);
+    SITE(JOURNAL_ABOVE, journal_deliver(ON, 1, 2));
+    WORD(links, 1, 1);
+    post(3, 203, 0, 1);
+    SITE(JOURNAL_TAKEN, journal_deliver(ON, 1, 2));
+    post(7, 0, 0, 0);
+    SITE(JOURNAL_FORM, journal_deliver(ON, 1, 2));
+    release_site();
+}
+
+/* Two boxes by themselves, whose letters are carried by copying them. */
+static void own_boxes(void) {
+    enum { J = 4, EVEN = 2, ODD = 3, BOTH = 3 };
+#define TOLD 2, J, 2, EVEN, BOTH
+    row = lend(JOURNAL_ROW_WORDS(J));
+    letter = lend(JOURNAL_PLACE_WORDS(J));
+    out = lend(JOURNAL_PLACE_WORDS(J));
+    to = 77;
+    uint64_t fresh_row[JOURNAL_ROW_WORDS(J)] = {0}, rows[2][JOURNAL_ROW_WORDS(J)];
+    for (int i = 14; i < 19; i++) fresh_row[i] = UINT32_MAX;
+    memcpy(rows[0], fresh_row, sizeof fresh_row);
+    memcpy(rows[1], fresh_row, sizeof fresh_row);
+    rows[0][0] = 1; /* box 1 is elected */
+#define BOX(k) memcpy(row.words, rows[(k) - 1], sizeof rows[0])
+#define PUT(k) memcpy(rows[(k) - 1], row.words, sizeof rows[0])
+#define CARRY() memcpy(letter.words, out.words, sizeof(uint64_t[JOURNAL_PLACE_WORDS(J)]))
+    BOX(1);
+    OWN(JOURNAL_CONDITION, 0, journal_own_recover(ROW, 2, J, 2, ODD, BOTH, 1));
+    OWN(JOURNAL_SIZES, 0, journal_own_recover(ROW, 6, J, 2, EVEN, BOTH, 1));
+    OWN(JOURNAL_SIZES, 0, journal_own_recover(ROW, 2, 0, 2, EVEN, BOTH, 1));
+    OWN(JOURNAL_SIZES, 0, journal_own_recover(ROW, 2, J, 17, EVEN, BOTH, 1));
+    OWN(JOURNAL_FORM, 0, journal_own_recover(ROW, 2, J, 2, 0, BOTH, 1));
+    OWN(JOURNAL_FORM, 0, journal_own_recover(ROW, 2, J, 2, 1000001, BOTH, 1));
+    OWN(JOURNAL_FORM, 0, journal_own_recover(ROW, 2, J, 2, EVEN, 4, 1));
+    OWN(JOURNAL_FORM, 0, journal_own_recover(ROW, 2, J + 1, 2, EVEN, BOTH, 1));
+    OWN(JOURNAL_BOX, 0, journal_own_recover(ROW, TOLD, 0));
+    OWN(JOURNAL_BOX, 0, journal_own_recover(ROW, TOLD, 3));
+    row.lent--;
+    OWN(JOURNAL_FORM, 0, journal_own_recover(ROW, TOLD, 1));
+    row.lent = 0;
+    OWN(JOURNAL_FORM, 0, journal_own_recover(ROW, TOLD, 1));
+    row.lent = row.size;
+    OWN(JOURNAL_DONE, 0, journal_own_recover(ROW, TOLD, 1));
+    out.lent--;
+    OWN(JOURNAL_BUFFER, 0, journal_own_collect(ROW, TOLD, 1));
+    out.lent = 0;
+    OWN(JOURNAL_BUFFER, 0, journal_own_collect(ROW, TOLD, 1));
+    out.lent = out.size;
+    OWN(JOURNAL_DONE, 2, journal_own_collect(ROW, TOLD, 1));
+    WORD(out, 0, 1), WORD(out, 1, 101);
+    PUT(1), CARRY(), BOX(2);
+    OWN(JOURNAL_BOX, 0, journal_own_mail(MAIL, TOLD, 2, 2));
+    OWN(JOURNAL_BOX, 0, journal_own_mail(MAIL, TOLD, 2, 0));
+    OWN(JOURNAL_BOX, 0, journal_own_mail(MAIL, TOLD, 2, 3));
+    letter.lent--;
+    OWN(JOURNAL_FORM, 0, journal_own_mail(MAIL, TOLD, 2, 1));
+    letter.lent = letter.size;
+    OWN(JOURNAL_TAKEN, 1, journal_own_mail(MAIL, TOLD, 2, 1));
+    WORD(out, 0, 2), WORD(row, 3, 101);
+    PUT(2), CARRY(), BOX(1);
+    OWN(JOURNAL_TAKEN, 0, journal_own_mail(MAIL, TOLD, 1, 2));
+    OWN(JOURNAL_DISCARDED_PHASE, 0, journal_own_mail(MAIL, TOLD, 1, 2));
+    OWN(JOURNAL_DONE, 2, journal_own_ready(ROW, TOLD, 1));
+    OWN(JOURNAL_FRAME, 0, journal_own_offer(ROW, TOLD, 1, 7, 0));
+    OWN(JOURNAL_DONE, 0, journal_own_offer(ROW, TOLD, 1, 7, 8));
+    OWN(JOURNAL_DONE, 2, journal_own_propose(ROW, TOLD, 1));
+    WORD(out, 0, 3), WORD(out, 5, 0x700000008u);
+    PUT(1), CARRY(), BOX(2);
+    OWN(JOURNAL_TAKEN, 1, journal_own_mail(MAIL, TOLD, 2, 1));
+    PUT(2), CARRY(), BOX(1);
+    OWN(JOURNAL_CONDITION, 0, journal_own_agree(ROW, TOLD, 1));
+    OWN(JOURNAL_TAKEN, 0, journal_own_mail(MAIL, TOLD, 1, 2));
+    OWN(JOURNAL_DONE, 2, journal_own_agree(ROW, TOLD, 1));
+    PUT(1), CARRY(), BOX(2);
+    OWN(JOURNAL_TAKEN, 0, journal_own_mail(MAIL, TOLD, 2, 1));
+    WORD(row, 4, 1), WORD(row, 20, 0x700000008u);
+    BOX(1);
+    OWN(JOURNAL_DISCARDED_ROLE, 0, journal_own_mail(MAIL, TOLD, 1, 2));
+    OWN(JOURNAL_DONE, 2, journal_own_finish(ROW, TOLD, 1));
+    OWN(JOURNAL_CONDITION, 0, journal_own_finish(ROW, TOLD, 1));
+    release(row), release(letter), release(out);
+}
+
+/* Box c has agreed on k loads, number i with the frames i and i. */
+static void put_book(uint32_t j, uint32_t c, uint64_t k) {
+    uint64_t *r = site.words + 5 + (size_t)(c - 1) * JOURNAL_ROW_WORDS(j);
+    r[4] = r[19] = k;
+    for (uint64_t i = 1; i <= k; i++) r[19 + i] = i << 32 | i;
+}
+
+/* n = 5, J = 4,096, L = 16: four boxes have nothing, the leader has 4,095 loads. */
+static void largest(void) {
+    lend_site(5, 4096, 16);
+    check(__LINE__, "site words", site.lent, 20585);
+    check(__LINE__, "links words", links.lent, 1312360);
+    SITE(JOURNAL_DONE, journal_fresh(ON, 5, 4096, 16));
+    put_book(4096, 1, 4095);
+    SITE(JOURNAL_DONE, journal_elect(ON, 1));
+    SITE(JOURNAL_DONE, journal_recover(ON, 1));
+    SITE(JOURNAL_DONE, journal_collect(ON, 1));
+    for (uint32_t b = 2; b <= 5; b++) SITE(JOURNAL_TAKEN, journal_deliver(ON, 1, b));
+    for (uint32_t b = 2; b <= 5; b++) SITE(JOURNAL_TAKEN, journal_deliver(ON, b, 1));
+    SITE(JOURNAL_DONE, journal_ready(ON, 1));
+    for (uint32_t b = 2; b <= 5; b++) /* Commits, one for each Last since its own, and a Lease */
+        for (uint32_t i = b; i <= 6; i++) SITE(JOURNAL_TAKEN, journal_deliver(ON, 1, b));
+    SITE(JOURNAL_DONE, journal_holds(ON, 5, 4095, 4095, 4095));
+    SITE(JOURNAL_DONE, journal_offer(ON, 1, UINT32_MAX, UINT32_MAX));
+    SITE(JOURNAL_DONE, journal_propose(ON, 1));
+    for (uint32_t b = 2; b <= 5; b++) {
+        SITE(JOURNAL_TAKEN, journal_deliver(ON, 1, b));
+        SITE(JOURNAL_TAKEN, journal_deliver(ON, b, 1));
+    }
+    SITE(JOURNAL_DONE, journal_agree(ON, 1));
+    for (uint32_t b = 2; b <= 5; b++) SITE(JOURNAL_TAKEN, journal_deliver(ON, 1, b));
+    for (uint32_t b = 1; b <= 5; b++)
+        SITE(JOURNAL_DONE, journal_holds(ON, b, 4096, UINT32_MAX, UINT32_MAX));
+    SITE(JOURNAL_UNTRUE, journal_holds(ON, 5, 4097, UINT32_MAX, UINT32_MAX));
+    /* Sixteen mails fill a link: a lease, then Lasts that each bring a Commit. */
+    SITE(JOURNAL_DONE, journal_finish(ON, 1));
+    SITE(JOURNAL_DONE, journal_offer(ON, 1, 1, 1));
+    SITE(JOURNAL_BOOK, journal_propose(ON, 1));
+    links.words[1] = 16;
+    for (uint32_t i = 0; i < 16; i++) {
+        uint64_t lease[] = {6, 0, 0, 0, 0};
+        memcpy(links.words + 2 + i * JOURNAL_PLACE_WORDS(4096), lease, sizeof lease);
+    }
+    site.words[5 + 2] = 5, site.words[5 + 1] = 4; /* phase Commit, state Refresh */
+    SITE(JOURNAL_LINK, journal_finish(ON, 1));
+    for (uint32_t i = 0; i < 16; i++) SITE(JOURNAL_DISCARDED_PLACE, journal_deliver(ON, 1, 2));
+    SITE(JOURNAL_CONDITION, journal_deliver(ON, 1, 2));
+    SITE(JOURNAL_DONE, journal_finish(ON, 1));
+    links.words[1] = 17;
+    SITE(JOURNAL_FORM, journal_finish(ON, 1));
+    release_site();
+}
+
+/* A site of one box has no links at all. */
+static void one_box(void) {
+    uint64_t none[1] = {GUARDED};
+    site = lend(JOURNAL_SITE_WORDS(1, 1));
+    links = lend(0);
+    check(__LINE__, "links words", journal_links_words(1, 1, 1), 0);
+    SITE(JOURNAL_DONE, journal_fresh(ON, 1, 1, 1));
+    SITE(JOURNAL_DONE, journal_elect(ON, 1));
+    SITE(JOURNAL_DONE, journal_offer(ON, 1, 1, UINT32_MAX));
+    SITE(JOURNAL_DONE, journal_propose(ON, 1));
+    SITE(JOURNAL_DONE, journal_agree(ON, 1));
+    check(__LINE__, "holds", journal_holds(site.words, site.lent, none, 0, 1, 1, 1, UINT32_MAX), 0);
+    check(__LINE__, "unlent word", none[0], GUARDED);
+    release_site();
+}
+
+int main(void) {
+    word_counts();
+    short_arrays();
+    box_numbers();
+    each_call();
+    mails();
+    own_boxes();
+    largest();
+    one_box();
+    printf("%d checks, %d failures\n", checks, failures);
+    return failures != 0;
+}
