@@ -1,0 +1,318 @@
+//! The load journal for Rust: one file to take into a program that links libjournal.a (x86-64).
+//!
+//! The library takes every input and refuses what is not by form, so little is left to check here:
+//! slices are never null, are aligned and do not overlap by Rust's own rules, and the sizes of a
+//! slice are its own. What the types of C cannot say is said by types: a refusal is an `Err` with
+//! its case, an answer to a mail is `Mail`, and a site is borrowed for as long as it is used.
+//! include/journal.h is the manual of what each call does and answers.
+
+use std::fmt;
+
+/// Why a call is refused; the number of each is the paper's. Every word stays as it was.
+#[derive(Clone, Copy, Debug, PartialEq, Eq)]
+#[repr(u32)]
+pub enum Refusal {
+    Sizes = 13,
+    Form = 1,
+    Box = 2,
+    Frame = 10,
+    Condition = 3,
+    Majority = 4,
+    Epoch = 5,
+    NewPn = 6,
+    Above = 9,
+    Book = 7,
+    Link = 8,
+    Buffer = 12,
+    Untrue = 14,
+}
+
+/// Why a mail is discarded.
+#[derive(Clone, Copy, Debug, PartialEq, Eq)]
+pub enum Cause {
+    Role,
+    Phase,
+    Number,
+    Place,
+}
+
+/// What became of a mail that was handed over.
+#[derive(Clone, Copy, Debug, PartialEq, Eq)]
+pub enum Mail {
+    Taken,
+    Discarded(Cause),
+}
+
+impl fmt::Display for Refusal {
+    fn fmt(&self, f: &mut fmt::Formatter<'_>) -> fmt::Result {
+        write!(f, "refused {}", *self as u32)
+    }
+}
+
+impl std::error::Error for Refusal {}
+
+const REFUSALS: [Refusal; 13] = [
+    Refusal::Sizes,
+    Refusal::Form,
+    Refusal::Box,
+    Refusal::Frame,
+    Refusal::Condition,
+    Refusal::Majority,
+    Refusal::Epoch,
+    Refusal::NewPn,
+    Refusal::Above,
+    Refusal::Book,
+    Refusal::Link,
+    Refusal::Buffer,
+    Refusal::Untrue,
+];
+
+/// The library answers no other number than these; another would be another library's.
+fn answered(number: u32) -> Result<Option<Mail>, Refusal> {
+    match number {
+        0 => Ok(None),
+        100 => Ok(Some(Mail::Taken)),
+        101 => Ok(Some(Mail::Discarded(Cause::Role))),
+        102 => Ok(Some(Mail::Discarded(Cause::Phase))),
+        103 => Ok(Some(Mail::Discarded(Cause::Number))),
+        104 => Ok(Some(Mail::Discarded(Cause::Place))),
+        _ => Err(REFUSALS
+            .into_iter()
+            .find(|r| *r as u32 == number)
+            .expect("libjournal.a answers a number that this binding does not know")),
+    }
+}
+
+fn done(number: u32) -> Result<(), Refusal> {
+    match answered(number)? {
+        None => Ok(()),
+        Some(mail) => panic!("a call answered as a mail does: {mail:?}"),
+    }
+}
+
+fn mailed(number: u32) -> Result<Mail, Refusal> {
+    Ok(answered(number)?.expect("a mail was neither taken nor discarded"))
+}
+
+mod c {
+    extern "C" {
+        pub fn journal_site_words(n: u32, j: u32, l: u32) -> usize;
+        pub fn journal_links_words(n: u32, j: u32, l: u32) -> usize;
+        pub fn journal_fresh(s: *mut u64, sn: usize, l: *mut u64, ln: usize, n: u32, j: u32, mails: u32) -> u32;
+        pub fn journal_elect(s: *mut u64, sn: usize, l: *mut u64, ln: usize, c: u32) -> u32;
+        pub fn journal_recover(s: *mut u64, sn: usize, l: *mut u64, ln: usize, c: u32) -> u32;
+        pub fn journal_collect(s: *mut u64, sn: usize, l: *mut u64, ln: usize, c: u32) -> u32;
+        pub fn journal_ready(s: *mut u64, sn: usize, l: *mut u64, ln: usize, c: u32) -> u32;
+        pub fn journal_offer(s: *mut u64, sn: usize, l: *mut u64, ln: usize, c: u32, left: u32, right: u32) -> u32;
+        pub fn journal_propose(s: *mut u64, sn: usize, l: *mut u64, ln: usize, c: u32) -> u32;
+        pub fn journal_agree(s: *mut u64, sn: usize, l: *mut u64, ln: usize, c: u32) -> u32;
+        pub fn journal_finish(s: *mut u64, sn: usize, l: *mut u64, ln: usize, c: u32) -> u32;
+        pub fn journal_stop(s: *mut u64, sn: usize, l: *mut u64, ln: usize, c: u32) -> u32;
+        pub fn journal_return(s: *mut u64, sn: usize, l: *mut u64, ln: usize, c: u32) -> u32;
+        pub fn journal_timeout(s: *mut u64, sn: usize, l: *mut u64, ln: usize, c: u32) -> u32;
+        pub fn journal_lose(s: *mut u64, sn: usize, l: *mut u64, ln: usize, a: u32, b: u32) -> u32;
+        pub fn journal_deliver(s: *mut u64, sn: usize, l: *mut u64, ln: usize, a: u32, b: u32) -> u32;
+        pub fn journal_holds(
+            s: *const u64, sn: usize, l: *const u64, ln: usize, c: u32, k: u32, left: u32, right: u32,
+        ) -> u32;
+        pub fn journal_own_recover(
+            row: *mut u64, rn: usize, out: *mut u64, on: usize, to: *mut u32,
+            n: u32, j: u32, l: u32, epoch: u32, present: u32, me: u32,
+        ) -> u32;
+        pub fn journal_own_collect(
+            row: *mut u64, rn: usize, out: *mut u64, on: usize, to: *mut u32,
+            n: u32, j: u32, l: u32, epoch: u32, present: u32, me: u32,
+        ) -> u32;
+        pub fn journal_own_ready(
+            row: *mut u64, rn: usize, out: *mut u64, on: usize, to: *mut u32,
+            n: u32, j: u32, l: u32, epoch: u32, present: u32, me: u32,
+        ) -> u32;
+        pub fn journal_own_offer(
+            row: *mut u64, rn: usize, out: *mut u64, on: usize, to: *mut u32,
+            n: u32, j: u32, l: u32, epoch: u32, present: u32, me: u32, left: u32, right: u32,
+        ) -> u32;
+        pub fn journal_own_propose(
+            row: *mut u64, rn: usize, out: *mut u64, on: usize, to: *mut u32,
+            n: u32, j: u32, l: u32, epoch: u32, present: u32, me: u32,
+        ) -> u32;
+        pub fn journal_own_agree(
+            row: *mut u64, rn: usize, out: *mut u64, on: usize, to: *mut u32,
+            n: u32, j: u32, l: u32, epoch: u32, present: u32, me: u32,
+        ) -> u32;
+        pub fn journal_own_finish(
+            row: *mut u64, rn: usize, out: *mut u64, on: usize, to: *mut u32,
+            n: u32, j: u32, l: u32, epoch: u32, present: u32, me: u32,
+        ) -> u32;
+        pub fn journal_own_mail(
+            row: *mut u64, rn: usize, letter: *const u64, len: usize, out: *mut u64, on: usize, to: *mut u32,
+            n: u32, j: u32, l: u32, epoch: u32, present: u32, me: u32, sender: u32,
+        ) -> u32;
+    }
+}
+
+/// How many boxes, loads in the book, and mails on a link.
+#[derive(Clone, Copy, Debug, PartialEq, Eq)]
+pub struct Sizes {
+    pub boxes: u32,
+    pub loads: u32,
+    pub mails: u32,
+}
+
+impl Sizes {
+    /// The words that `site` and `links` need; `None` for sizes outside their ranges.
+    pub fn words(self) -> Option<(usize, usize)> {
+        // SAFETY: numbers in, a number out.
+        let (site, links) = unsafe {
+            (
+                c::journal_site_words(self.boxes, self.loads, self.mails),
+                c::journal_links_words(self.boxes, self.loads, self.mails),
+            )
+        };
+        (site != 0).then_some((site, links))
+    }
+}
+
+/// A site in lent words. Nobody else can read or write them while it is used.
+pub struct Site<'a> {
+    site: &'a mut [u64],
+    links: &'a mut [u64],
+}
+
+/// Declares a call: its parts are the two slices and the numbers that follow.
+macro_rules! calls {
+    ($($(#[$doc:meta])* $name:ident = $symbol:ident($($x:ident),*) -> $answer:ty, $by:ident;)*) => {
+        impl Site<'_> {
+            $(
+                $(#[$doc])*
+                pub fn $name(&mut self, $($x: u32),*) -> Result<$answer, Refusal> {
+                    // SAFETY: two slices, each with its own length, that do not overlap.
+                    $by(unsafe {
+                        c::$symbol(
+                            self.site.as_mut_ptr(), self.site.len(),
+                            self.links.as_mut_ptr(), self.links.len(), $($x),*
+                        )
+                    })
+                }
+            )*
+        }
+    };
+}
+
+calls! {
+    /// c alone leads.
+    elect = journal_elect(c) -> (), done;
+    /// Leader c takes a new proposal number.
+    recover = journal_recover(c) -> (), done;
+    /// Leader c asks the others for what they hold.
+    collect = journal_collect(c) -> (), done;
+    /// All present have answered.
+    ready = journal_ready(c) -> (), done;
+    /// A pair of frames waits at leader c.
+    offer = journal_offer(c, left, right) -> (), done;
+    /// Leader c starts the waiting pair.
+    propose = journal_propose(c) -> (), done;
+    /// All present have accepted.
+    agree = journal_agree(c) -> (), done;
+    /// Leader c is active again.
+    finish = journal_finish(c) -> (), done;
+    /// Box c is switched off.
+    stop = journal_stop(c) -> (), done;
+    /// Box c comes back. (`return` is a word of Rust.)
+    come_back = journal_return(c) -> (), done;
+    /// Box c misses its leader.
+    timeout = journal_timeout(c) -> (), done;
+    /// The head of the link from a to b is dropped.
+    lose = journal_lose(a, b) -> (), done;
+    /// The head of the link from a to b is handed over.
+    deliver = journal_deliver(a, b) -> Mail, mailed;
+}
+
+impl<'a> Site<'a> {
+    /// A fresh site in words that may hold anything.
+    pub fn fresh(site: &'a mut [u64], links: &'a mut [u64], z: Sizes) -> Result<Self, Refusal> {
+        // SAFETY: two slices, each with its own length, that do not overlap.
+        done(unsafe {
+            c::journal_fresh(
+                site.as_mut_ptr(), site.len(), links.as_mut_ptr(), links.len(), z.boxes, z.loads, z.mails,
+            )
+        })?;
+        Ok(Site { site, links })
+    }
+
+    /// Words that hold a site already; where they do not, every call is refused with `Form`.
+    pub fn of(site: &'a mut [u64], links: &'a mut [u64]) -> Self {
+        Site { site, links }
+    }
+
+    /// Load k is agreed at box c with these frames. `Err(Untrue)` where it is not.
+    pub fn holds(&self, c: u32, k: u32, left: u32, right: u32) -> Result<(), Refusal> {
+        // SAFETY: two slices, each with its own length, that are only read.
+        done(unsafe {
+            c::journal_holds(
+                self.site.as_ptr(), self.site.len(), self.links.as_ptr(), self.links.len(), c, k, left, right,
+            )
+        })
+    }
+}
+
+/// What a box is told of its site: sizes, epoch, the present set (box k as 2^(k−1)), its own number.
+#[derive(Clone, Copy, Debug, PartialEq, Eq)]
+pub struct Setting {
+    pub sizes: Sizes,
+    pub epoch: u32,
+    pub present: u32,
+    pub me: u32,
+}
+
+/// A step that a leader takes by itself.
+#[derive(Clone, Copy, Debug, PartialEq, Eq)]
+pub enum Act {
+    Recover,
+    Collect,
+    Ready,
+    Offer(u32, u32),
+    Propose,
+    Agree,
+    Finish,
+}
+
+/// A box by itself: a step. The set that the letter in `out` goes to, 0 where there is none.
+pub fn own_act(row: &mut [u64], out: &mut [u64], s: Setting, act: Act) -> Result<u32, Refusal> {
+    let (r, rn, o, on) = (row.as_mut_ptr(), row.len(), out.as_mut_ptr(), out.len());
+    let Setting { sizes: Sizes { boxes: n, loads: j, mails: l }, epoch, present, me } = s;
+    let mut set = 0u32;
+    let to: *mut u32 = &mut set;
+    // SAFETY: two slices, each with its own length, and a number, that do not overlap.
+    done(unsafe {
+        match act {
+            Act::Recover => c::journal_own_recover(r, rn, o, on, to, n, j, l, epoch, present, me),
+            Act::Collect => c::journal_own_collect(r, rn, o, on, to, n, j, l, epoch, present, me),
+            Act::Ready => c::journal_own_ready(r, rn, o, on, to, n, j, l, epoch, present, me),
+            Act::Offer(a, b) => c::journal_own_offer(r, rn, o, on, to, n, j, l, epoch, present, me, a, b),
+            Act::Propose => c::journal_own_propose(r, rn, o, on, to, n, j, l, epoch, present, me),
+            Act::Agree => c::journal_own_agree(r, rn, o, on, to, n, j, l, epoch, present, me),
+            Act::Finish => c::journal_own_finish(r, rn, o, on, to, n, j, l, epoch, present, me),
+        }
+    })?;
+    Ok(set)
+}
+
+/// A box by itself: the letter of a sender. What became of it, and the set that `out` goes to.
+pub fn own_mail(
+    row: &mut [u64],
+    letter: &[u64],
+    out: &mut [u64],
+    s: Setting,
+    sender: u32,
+) -> Result<(Mail, u32), Refusal> {
+    let Setting { sizes: Sizes { boxes: n, loads: j, mails: l }, epoch, present, me } = s;
+    let mut set = 0u32;
+    // SAFETY: three slices, each with its own length, and a number, that do not overlap.
+    let mail = mailed(unsafe {
+        c::journal_own_mail(
+            row.as_mut_ptr(), row.len(), letter.as_ptr(), letter.len(), out.as_mut_ptr(), out.len(), &mut set,
+            n, j, l, epoch, present, me, sender,
+        )
+    })?;
+    Ok((mail, set))
+}
