@@ -9,7 +9,7 @@
  * boxes (1 to 5), book of J loads (1 to 4,096), L mails on a link (1 to 16). An array is passed as
  * a pointer and its length in words; a longer one is allowed, and the words past those needed are
  * never read or written. What C must see to, since no test can: a pointer is not null, not even
- * with the length 0; it is aligned to 8 bytes; the length is no more than is there; two arrays of
+ * with the length 0; words are aligned to 8 bytes; the length is no more than is there; two arrays of
  * one call do not overlap. What the words hold is tested by every call: words that are not by form
  * are refused with 1.
  *
@@ -153,6 +153,23 @@ uint32_t journal_own_mail(uint64_t *row, size_t row_words, const uint64_t *lette
                           size_t letter_words, uint64_t *out, size_t out_words, uint32_t *to,
                           uint32_t n, uint32_t j, uint32_t l, uint32_t epoch, uint32_t present,
                           uint32_t me, uint32_t sender);
+
+/* THE IMAGE of a site, in bytes: one site has one image. image_length and write answer 0 and put the
+ * image's length in bytes into *length; write fills that many bytes from the front of `image`, and
+ * the rest of a longer buffer stays. Both answer 1; write also 12, where the buffer is too short.
+ * read answers 0 where the image_bytes bytes are the image of a site, which the words then hold; 1
+ * where they are no site's image; 12 where the words are too few for its site. A refused call leaves
+ * *length, the buffer and the words. No image is longer than JOURNAL_IMAGE_MOST. */
+#define JOURNAL_IMAGE_MOST(n, J, L)                                                                \
+    (24 + 8 * ((n) + 2) + (n) * (72 + 4 * (n) + 8 * (J)) +                                         \
+     (n) * ((n) - 1) * (4 + (L) * (20 + 8 * (J))))
+
+uint32_t journal_image_length(const uint64_t *site, size_t site_words, const uint64_t *links,
+                              size_t links_words, size_t *length);
+uint32_t journal_write(const uint64_t *site, size_t site_words, const uint64_t *links,
+                       size_t links_words, uint8_t *image, size_t image_bytes, size_t *length);
+uint32_t journal_read(const uint8_t *image, size_t image_bytes, uint64_t *site, size_t site_words,
+                      uint64_t *links, size_t links_words);
 
 /* EXAMPLE. Two boxes agree on one load; tests/c/example.c is this as a whole program.
  *

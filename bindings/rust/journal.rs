@@ -115,6 +115,13 @@ mod c {
         pub fn journal_holds(
             s: *const u64, sn: usize, l: *const u64, ln: usize, c: u32, k: u32, left: u32, right: u32,
         ) -> u32;
+        pub fn journal_image_length(s: *const u64, sn: usize, l: *const u64, ln: usize, length: *mut usize) -> u32;
+        pub fn journal_write(
+            s: *const u64, sn: usize, l: *const u64, ln: usize, image: *mut u8, bytes: usize, length: *mut usize,
+        ) -> u32;
+        pub fn journal_read(
+            image: *const u8, bytes: usize, s: *mut u64, sn: usize, l: *mut u64, ln: usize,
+        ) -> u32;
         pub fn journal_own_recover(
             row: *mut u64, rn: usize, out: *mut u64, on: usize, to: *mut u32,
             n: u32, j: u32, l: u32, epoch: u32, present: u32, me: u32,
@@ -252,6 +259,44 @@ impl<'a> Site<'a> {
                 self.site.as_ptr(), self.site.len(), self.links.as_ptr(), self.links.len(), c, k, left, right,
             )
         })
+    }
+}
+
+impl<'a> Site<'a> {
+    /// How many bytes the image has.
+    pub fn image_length(&self) -> Result<usize, Refusal> {
+        let mut length = 0;
+        // SAFETY: two slices, each with its own length, and a number, that do not overlap.
+        done(unsafe {
+            c::journal_image_length(
+                self.site.as_ptr(), self.site.len(), self.links.as_ptr(), self.links.len(), &mut length,
+            )
+        })?;
+        Ok(length)
+    }
+
+    /// Writes the image to the front of `image`: how many bytes it has.
+    pub fn write(&self, image: &mut [u8]) -> Result<usize, Refusal> {
+        let mut length = 0;
+        // SAFETY: three slices, each with its own length, and a number, that do not overlap.
+        done(unsafe {
+            c::journal_write(
+                self.site.as_ptr(), self.site.len(), self.links.as_ptr(), self.links.len(),
+                image.as_mut_ptr(), image.len(), &mut length,
+            )
+        })?;
+        Ok(length)
+    }
+
+    /// The site of an image, in words that may hold anything.
+    pub fn read(image: &[u8], site: &'a mut [u64], links: &'a mut [u64]) -> Result<Self, Refusal> {
+        // SAFETY: three slices, each with its own length, that do not overlap.
+        done(unsafe {
+            c::journal_read(
+                image.as_ptr(), image.len(), site.as_mut_ptr(), site.len(), links.as_mut_ptr(), links.len(),
+            )
+        })?;
+        Ok(Site { site, links })
     }
 }
 

@@ -40,6 +40,21 @@ fn main() {
     drop(s);
     assert_eq!(Site::of(&mut site, &mut links).holds(1, 1, 71, 72), Ok(()));
 
+    let s = Site::of(&mut site, &mut links);
+    let length = s.image_length().unwrap();
+    let mut image = vec![7u8; length + 1];
+    assert_eq!(s.write(&mut image[..length - 1]), Err(Refusal::Buffer));
+    assert_eq!(s.write(&mut image), Ok(length));
+    assert_eq!(image[length], 7);
+    let (mut site, mut links) = (vec![0u64; 77], vec![0u64; 340]);
+    assert_eq!(Site::read(&image, &mut site, &mut links).err(), Some(Refusal::Form));
+    assert_eq!(Site::read(&image[..length], &mut site, &mut links[1..]).err(), Some(Refusal::Buffer));
+    let s = Site::read(&image[..length], &mut site, &mut links).unwrap();
+    assert_eq!(s.holds(1, 1, 71, 72), Ok(()));
+    let mut again = vec![0u8; length];
+    assert_eq!(s.write(&mut again), Ok(length));
+    assert_eq!(again, image[..length]);
+
     let mut row = [0u64; 24];
     row[14..19].fill(4294967295);
     row[0] = 1;

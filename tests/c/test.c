@@ -397,6 +397,132 @@ static void one_box(void) {
     release_site();
 }
 
+/* The image of the site under test, and what its buffer was before the call. */
+static uint8_t *image, *image_before;
+static size_t bytes;
+
+static void settle_image(int line, const char *what, uint32_t got, uint32_t want, size_t room,
+                         size_t written) {
+    check(line, what, got, want);
+    size_t from = want == JOURNAL_DONE ? written : 0;
+    check(line, "image stays", memcmp(image + from, image_before + from, room - from), 0);
+}
+
+static void write_image(int line, uint32_t want, size_t lent, size_t room) {
+    size_t length = 77;
+    memcpy(image_before, image, room);
+    keep(site), keep(links);
+    uint32_t got = journal_write(ON, image, lent, &length);
+    settle_image(line, "write", got, want, room, bytes);
+    check(line, "length", length, want == JOURNAL_DONE ? bytes : 77);
+    check(line, "site stays", stays(site, 0) && stays(links, 0), 1);
+}
+
+/* The image of the site is read into fresh memory; that is the same site, since its image is the
+ * same. */
+static void read_back(int line, uint32_t n, uint32_t j, uint32_t l) {
+    Array s = site, m = links;
+    lend_site(n, j, l);
+    keep(site), keep(links);
+    settle(line, "read", journal_read(image, bytes, ON), JOURNAL_DONE);
+    write_image(line, JOURNAL_DONE, bytes, bytes);
+    check(line, "the same image", memcmp(image, image_before, bytes), 0);
+    site.lent--;
+    SITE(JOURNAL_BUFFER, journal_read(image, bytes, ON));
+    site.lent++;
+    if (links.lent != 0) {
+        links.lent--;
+        SITE(JOURNAL_BUFFER, journal_read(image, bytes, ON));
+        links.lent++;
+    }
+    release_site();
+    site = s, links = m;
+}
+
+static void measure(int line, uint32_t want, size_t length) {
+    bytes = 77;
+    check(line, "image_length", journal_image_length(ON, &bytes), want);
+    check(line, "length", bytes, length);
+}
+
+static void images(void) {
+    image = malloc(1024), image_before = malloc(1024);
+    lend_site(1, 1, 1);
+    measure(__LINE__, JOURNAL_FORM, 77);
+    SITE(JOURNAL_DONE, journal_fresh(ON, 1, 1, 1));
+    measure(__LINE__, JOURNAL_DONE, 124);
+    write_image(__LINE__, JOURNAL_DONE, 1024, 1024);
+    read_back(__LINE__, 1, 1, 1);
+    release_site();
+    lend_site(3, 4, 2);
+    write_image(__LINE__, JOURNAL_FORM, 0, 1024);
+    SITE(JOURNAL_DONE, journal_fresh(ON, 3, 4, 2));
+    measure(__LINE__, JOURNAL_DONE, 340);
+    write_image(__LINE__, JOURNAL_BUFFER, 339, 1024);
+    write_image(__LINE__, JOURNAL_BUFFER, 0, 1024);
+    write_image(__LINE__, JOURNAL_DONE, 340, 1024);
+    read_back(__LINE__, 3, 4, 2);
+    /* Every shorter or longer piece is no image, and a changed byte gives none or another site's. */
+    for (size_t k = 0; k < 400; k++)
+        if (k != 340) SITE(JOURNAL_FORM, journal_read(image, k, ON));
+    SITE(JOURNAL_DONE, journal_elect(ON, 2));
+    SITE(JOURNAL_DONE, journal_recover(ON, 2));
+    SITE(JOURNAL_DONE, journal_collect(ON, 2));
+    measure(__LINE__, JOURNAL_DONE, 340 + 2 * 20);
+    write_image(__LINE__, JOURNAL_DONE, bytes, 1024);
+    read_back(__LINE__, 3, 4, 2);
+    int others = 0, larger = 0;
+    for (size_t k = 0; k < bytes; k++)
+        for (int bit = 0; bit < 8; bit++) {
+            image[k] ^= 1 << bit;
+            keep(site), keep(links);
+            uint32_t got = journal_read(image, bytes, ON);
+            if (got == JOURNAL_DONE) {
+                others++;
+                write_image(__LINE__, JOURNAL_DONE, bytes, bytes);
+                check(__LINE__, "another image", memcmp(image, image_before, bytes), 0);
+            } else {
+                larger += got == JOURNAL_BUFFER;
+                settle(__LINE__, "a changed byte", got,
+                       got == JOURNAL_BUFFER ? JOURNAL_BUFFER : JOURNAL_FORM);
+            }
+            image[k] ^= 1 << bit;
+        }
+    check(__LINE__, "some changes give another site", 100 < others && others < 2000, 1);
+    /* J = 4 becomes 5, 6, 12, 20 and so on to 2,052, and L = 2 becomes 3, 6, 10: too few words. */
+    check(__LINE__, "some give a larger site", larger, 11 + 3);
+    release_site();
+    free(image), free(image_before);
+}
+
+/* The longest image: every book full, and on every link sixteen Commits of the whole book. */
+static void longest_image(void) {
+    bytes = JOURNAL_IMAGE_MOST(5, 4096, 16);
+    image = malloc(bytes), image_before = malloc(bytes);
+    lend_site(5, 4096, 16);
+    SITE(JOURNAL_DONE, journal_fresh(ON, 5, 4096, 16));
+    for (uint32_t c = 1; c <= 5; c++) put_book(4096, c, 4096);
+    for (uint32_t k = 0; k < 20; k++) {
+        uint64_t *link = links.words + (size_t)k * (2 + 16 * JOURNAL_PLACE_WORDS(4096));
+        link[0] = k % 16, link[1] = 16;
+        for (uint32_t i = 0; i < 16; i++) {
+            uint64_t *place = link + 2 + i * JOURNAL_PLACE_WORDS(4096);
+            uint64_t commit[] = {5, 100 * k + i, 4096, 0, 4096};
+            memcpy(place, commit, sizeof commit);
+            memcpy(place + 5, site.words + 5 + 20, 4096 * sizeof(uint64_t));
+        }
+    }
+    measure(__LINE__, JOURNAL_DONE, JOURNAL_IMAGE_MOST(5, 4096, 16));
+    check(__LINE__, "longest image", bytes, 10656620);
+    write_image(__LINE__, JOURNAL_BUFFER, bytes - 1, bytes);
+    write_image(__LINE__, JOURNAL_DONE, bytes, bytes);
+    read_back(__LINE__, 5, 4096, 16);
+    image[bytes - 1] = image[bytes - 2] = image[bytes - 3] = image[bytes - 4] = 0; /* a left frame */
+    SITE(JOURNAL_FORM, journal_read(image, bytes, ON));
+    release_site();
+    free(image), free(image_before);
+}
+
 int main(void) {
     word_counts();
     short_arrays();
@@ -406,6 +532,8 @@ int main(void) {
     own_boxes();
     largest();
     one_box();
+    images();
+    longest_image();
     printf("%d checks, %d failures\n", checks, failures);
     return failures != 0;
 }
