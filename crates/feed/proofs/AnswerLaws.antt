@@ -21,7 +21,8 @@ use Rattle.trace.specs.Replay.{Run, ended, Told, done, told, opened, judged, mo
 use Rattle.trace.specs.Replay.{lasts, toldText, toldNext, lineText, lineNext}
 use Rattle.trace.specs.Stops.{accepted}
 use Rattle.trace.proofs.FirstRefused.{told-accepted}
-use Rattle.feed.specs.State.{runOf, feedingOf, Lent}
+use Rattle.feed.specs.State.{Course, toldSite, lineSite, courseNext, courseText, runOf}
+use Rattle.feed.specs.State.{courseOf, feedingOf, Lent}
 use Rattle.feed.specs.Says.{Rowed, Answers, Finishes, Keeps, Turns, answerMost}
 use Rattle.feed.specs.declared.state.Feed.{Feed}
 use Rattle.feed.specs.declared.state.Stage.{Stage}
@@ -32,19 +33,16 @@ pub keeps-is : (f g : Feed) (p : List ℕ) → g .stage ≡ f .stage → g .k �
 keeps-is f g p e k h =
     record {
       next = λ xs ls.
-          ap (λ (t : Stage). record {
-            run = runOf t (g .k) (siteOf xs ls);
-            held = take (g .len) (g
-                .line);
-          })
+          ap
+          (λ (t : Stage).
+          record { run = courseOf t (g .k) (siteOf xs ls); held = take (g .len) (g .line) })
           e
-          ∙ (ap (λ (x : ℕ). record {
-            run = runOf (f .stage) x (siteOf xs ls);
-            held = take (g .len) (g
-                .line);
-          })
+          ∙ (ap
+          (λ (x : ℕ).
+          record { run = courseOf (f .stage) x (siteOf xs ls); held = take (g .len) (g .line) })
           k
-          ∙ ap (λ (l : List ℕ). record { run = runOf (f .stage) (f .k) (siteOf xs ls); held = l }) h);
+          ∙ ap
+          (λ (l : List ℕ). record { run = courseOf (f .stage) (f .k) (siteOf xs ls); held = l }) h);
       stage = e;
     }
 
@@ -59,8 +57,10 @@ unfolding toldText toldNext siteOf
 finish-done k next a xs line e n w =
     record {
       next = λ ls.
-          ap (λ (i : ℕ). record { run = runOf Stage.Going i (siteOf xs ls); held = [] }) n
-          ∙ ap (λ (t : Told). record { run = toldNext k t; held = [] })
+          ap (λ (i : ℕ). record { run = courseOf Stage.Going i (siteOf xs ls); held = [] }) n
+          ∙ ap
+          (λ (t : Told).
+          record { run = record { run = toldNext k t; site = siteOf xs ls }; held = [] })
           (sym (told-accepted a (siteOf xs ls) e));
       wrote = λ ls. spelled (ap (toldText k) (sym (told-accepted a (siteOf xs ls) e))) w;
       form = λ ls h. h e;
@@ -81,8 +81,8 @@ pub finish-refused : (k c : ℕ) (a : Answer) (xs line : List ℕ) {x y : List �
 finish-refused k c a xs line e n w =
     record {
       next = λ ls.
-          ap (λ (r : Run). record { run = r; held = [] }) (sym (refused-text k a (siteOf xs ls) e
-          .1));
+          ap (λ (r : Run). record { run = record { run = r; site = siteOf xs ls }; held = [] })
+          (sym (refused-text k a (siteOf xs ls) e .1));
       wrote = λ ls.
           at-most (omega arith)
           (spelled (ap (refusedText k) n ∙ sym (refused-text k a (siteOf xs ls) e .0)) w);
@@ -120,19 +120,33 @@ pub answer-turn : (f : Feed) (xs ls xs' ls' : List ℕ) {x y : List ℕ} {at : �
     (a : Answer) (t : Turn) (k : ℕ) (q : Told)
     → lineText (runOf (f .stage) (f .k) (siteOf xs ls)) l ≡ toldText k q
     → lineNext (runOf (f .stage) (f .k) (siteOf xs ls)) l ≡ toldNext k q
+    → lineSite (runOf (f .stage) (f .k) (siteOf xs ls)) (siteOf xs ls) l ≡ toldSite (siteOf xs ls) q
     → l ≡ readLine (take (f .len) (f .line)) → Answers q xs ls xs' ls' a
     → Finishes k a xs' x y at t → Lent (f .stage) xs ls
-    → Turns (answered lineNext (feedingOf f xs ls))
+    → Turns (answered courseNext (feedingOf f xs ls))
     (lineText (runOf (f .stage) (f .k) (siteOf xs ls)) (readLine (take (f .len) (f .line))))
     xs ls xs' ls' x y at t
-answer-turn f xs ls xs' ls' l a t k q et en r w v h =
+answer-turn f xs ls xs' ls' l a t k q et en es r w v h =
     let run = runOf (f .stage) (f .k) (siteOf xs ls) in
+    let now = siteOf xs ls in
     record {
       next =
           v .next ls'
-          ∙ (ap (λ (z : Told). record { run = toldNext k z; held = [] }) (w .answer)
-          ∙ (ap (λ (z : Run). record { run = z; held = [] }) (sym en)
-          ∙ ap (λ (z : Line). record { run = lineNext run z; held = [] }) r));
+          ∙ (ap
+          (λ (z : Told).
+          record { run = record { run = toldNext k z; site = siteOf xs' ls' }; held = [] })
+          (w .answer)
+          ∙ (ap (λ (z : Run). record { run = record { run = z; site = siteOf xs' ls' }; held = [] })
+          (sym en)
+          ∙ (ap
+          (λ (z : Site). record { run = record { run = lineNext run l; site = z }; held = [] })
+          (w .holds ∙ sym es)
+          ∙ ap
+          (λ (z : Line). record {
+            run = record { run = lineNext run z; site = lineSite run now z };
+            held = [];
+          })
+          r)));
       wrote = spelled (ap (toldText k) (w .answer) ∙ (sym et ∙ ap (lineText run) r)) (v .wrote ls');
       lent = record {
         site = subst (λ (n : ℕ). siteWords 5 32 ≤ n) (sym (w .site)) (h .site);
@@ -147,42 +161,46 @@ answer-turn f xs ls xs' ls' l a t k q et en r w v h =
 pub answer-first : (f : Feed) (xs ls xs' ls' : List ℕ) {x y : List ℕ} {at : ℕ} (l : Line)
     (a : Answer) (t : Turn) → f .stage ≡ Stage.First → l ≡ readLine (take (f .len) (f .line))
     → Answers (opened l) xs ls xs' ls' a → Finishes 1 a xs' x y at t → Lent (f .stage) xs ls
-    → Turns (answered lineNext (feedingOf f xs ls))
+    → Turns (answered courseNext (feedingOf f xs ls))
     (lineText (runOf (f .stage) (f .k) (siteOf xs ls)) (readLine (take (f .len) (f .line))))
     xs ls xs' ls' x y at t
-unfolding lineText lineNext
+unfolding lineText lineNext lineSite
 answer-first f xs ls xs' ls' l a t e r w v h =
     answer-turn f xs ls xs' ls' l a t 1 (opened l)
     (ap (λ (s : Stage). lineText (runOf s (f .k) (siteOf xs ls)) l) e)
     (ap (λ (s : Stage). lineNext (runOf s (f .k) (siteOf xs ls)) l) e)
+    (ap (λ (s : Stage). lineSite (runOf s (f .k) (siteOf xs ls)) (siteOf xs ls) l) e)
     r w v h
 
 pub answer-going : (f : Feed) (xs ls xs' ls' : List ℕ) {x y : List ℕ} {at : ℕ} (l : Line)
     (a : Answer) (t : Turn) → f .stage ≡ Stage.Going → l ≡ readLine (take (f .len) (f .line))
     → Answers (judged (f .k) (siteOf xs ls) l) xs ls xs' ls' a → Finishes (f .k) a xs' x y at t
     → Lent (f .stage) xs ls
-    → Turns (answered lineNext (feedingOf f xs ls))
+    → Turns (answered courseNext (feedingOf f xs ls))
     (lineText (runOf (f .stage) (f .k) (siteOf xs ls)) (readLine (take (f .len) (f .line))))
     xs ls xs' ls' x y at t
-unfolding lineText lineNext
+unfolding lineText lineNext lineSite
 answer-going f xs ls xs' ls' l a t e r w v h =
     answer-turn f xs ls xs' ls' l a t (f .k) (judged (f .k) (siteOf xs ls) l)
     (ap (λ (s : Stage). lineText (runOf s (f .k) (siteOf xs ls)) l) e)
     (ap (λ (s : Stage). lineNext (runOf s (f .k) (siteOf xs ls)) l) e)
+    (ap (λ (s : Stage). lineSite (runOf s (f .k) (siteOf xs ls)) (siteOf xs ls) l) e)
     r w v h
 
 pub answer-ended : (f : Feed) (xs ls x line : List ℕ) (k at : ℕ) → f .stage ≡ Stage.Ended
     → Lent (f .stage) xs ls
-    → Turns (answered lineNext (feedingOf f xs ls))
+    → Turns (answered courseNext (feedingOf f xs ls))
     (lineText (runOf (f .stage) (f .k) (siteOf xs ls)) (readLine (take (f .len) (f .line))))
     xs ls xs ls x x at
     (record { feed = record { stage = Stage.Ended; k = k; len = 0; line = line }; at = at })
-unfolding lineText lineNext
+unfolding lineText lineNext lineSite
 answer-ended f xs ls x line k at e h =
     let l = readLine (take (f .len) (f .line)) in
     record {
       next =
-          ap (λ (s : Stage). record { run = lineNext (runOf s (f .k) (siteOf xs ls)) l; held = [] })
+          ap
+          (λ (s : Stage).
+          record { run = courseNext (courseOf s (f .k) (siteOf xs ls)) l; held = [] })
           (sym e);
       wrote =
           spelled (ap (λ (s : Stage). lineText (runOf s (f .k) (siteOf xs ls)) l) (sym e)) nothing;
@@ -197,15 +215,15 @@ lent-as {s} {t} {xs} {ls} e h = subst (λ (u : Stage). Lent u xs ls) e h
 -- the line went on before its end
 pub line-turn : (f g : Feed) (p xs ls xs' ls' : List ℕ) {x y : List ℕ} {at : ℕ} (t : Turn)
     → Keeps f p g
-    → Turns (answered lineNext (feedingOf g xs ls))
+    → Turns (answered courseNext (feedingOf g xs ls))
     (lineText (runOf (g .stage) (g .k) (siteOf xs ls)) (readLine (take (g .len) (g .line))))
     xs ls xs' ls' x y at t
-    → Turns (answered lineNext (holding (feedingOf f xs ls) p))
+    → Turns (answered courseNext (holding (feedingOf f xs ls) p))
     (lineText (runOf (f .stage) (f .k) (siteOf xs ls)) (readLine (hold (take (f .len) (f .line))
     p)))
     xs ls xs' ls' x y at t
 line-turn f g p xs ls xs' ls' {x} {y} {at} t w v =
     subst
-    (λ (s : Feeding Run).
-    Turns (answered lineNext s) (lineText (s .run) (readLine (s .held))) xs ls xs' ls' x y at t)
+    (λ (s : Feeding Course).
+    Turns (answered courseNext s) (courseText (s .run) (readLine (s .held))) xs ls xs' ls' x y at t)
     (w .next xs ls) v

@@ -11,9 +11,10 @@ use Rattle.rules.specs.declared.model.Answer.{Answer}
 use Rattle.memory.specs.Memory.{siteWords, siteOf, memoryForm}
 use Rattle.print.specs.Text.{Wrote}
 use Rattle.trace.specs.Feeding.{Feeding, plain, holding, feedNext, feedText}
-use Rattle.trace.specs.Replay.{Run, Told, told, toldText, toldNext, lineNext, lineText}
+use Rattle.trace.specs.Replay.{Told, told, toldText, toldNext}
 use Rattle.trace.specs.Stops.{accepted}
-use Rattle.feed.specs.State.{feedingOf, formed, Lent}
+use Rattle.feed.specs.State.{Course, toldSite, courseNext, courseText, feedingOf, formed}
+use Rattle.feed.specs.State.{Lent}
 use Rattle.feed.specs.declared.state.Feed.{Feed}
 use Rattle.feed.specs.declared.state.Fed.{Fed}
 use Rattle.feed.specs.declared.state.Turn.{Turn}
@@ -38,6 +39,7 @@ pub record Rowed (xs : List ℕ) : Type 0 where
 -- the answer a to a line of which the rules say t
 pub record Answers (t : Told) (xs ls xs' ls' : List ℕ) (a : Answer) : Type 0 where
   pub answer : told a (siteOf xs' ls') ≡ t
+  pub holds : siteOf xs' ls' ≡ toldSite (siteOf xs ls) t
   pub form : accepted a ≡ true → memoryForm xs' ls' ≡ true
   pub site : length xs' ≡ length xs
   pub links : length ls' ≡ length ls
@@ -46,7 +48,10 @@ pub record Answers (t : Told) (xs ls xs' ls' : List ℕ) (a : Answer) : Type 0 w
 pub record Finishes (k : ℕ) (a : Answer) (xs before after : List ℕ) (at : ℕ) (t : Turn) : Type 0
   where
     pub next : (ls : List ℕ) → feedingOf (t .feed) xs ls
-        ≡ record { run = toldNext k (told a (siteOf xs ls)); held = [] }
+        ≡ record {
+          run = record { run = toldNext k (told a (siteOf xs ls)); site = siteOf xs ls };
+          held = [];
+        }
     pub wrote : (ls : List ℕ)
         → Wrote answerMost before after at (t .at) (toldText k (told a (siteOf xs ls)))
     pub form : (ls : List ℕ) → (accepted a ≡ true → memoryForm xs ls ≡ true)
@@ -58,7 +63,7 @@ pub record Keeps (f : Feed) (p : List ℕ) (g : Feed) : Type 0 where
   pub stage : g .stage ≡ f .stage
 
 -- the state after a line is s, and its text was written
-pub record Turns (s : Feeding Run) (text xs ls xs' ls' before after : List ℕ) (at : ℕ) (t : Turn)
+pub record Turns (s : Feeding Course) (text xs ls xs' ls' before after : List ℕ) (at : ℕ) (t : Turn)
     : Type 0 where
   pub next : feedingOf (t .feed) xs' ls' ≡ s
   pub wrote : Wrote answerMost before after at (t .at) text
@@ -68,13 +73,14 @@ pub record Turns (s : Feeding Run) (text xs ls xs' ls' before after : List ℕ) 
 
 -- as much of a piece as the buffer has room for was fed
 pub record Feeds (f : Feed) (piece xs ls xs' ls' before after : List ℕ) (g : Fed) : Type 0 where
+  pub answer : g .answer ≡ Answer.Done
   pub took : g .took ≡ min (length piece) (length before / answerMost)
   pub next : feedingOf (g .feed) xs' ls'
-      ≡ feedNext lineNext (feedingOf f xs ls) (take (g .took) piece)
+      ≡ feedNext courseNext (feedingOf f xs ls) (take (g .took) piece)
   pub bytes : after
-      ≡ sets before 0 (feedText lineNext lineText (feedingOf f xs ls) (take (g .took) piece))
+      ≡ sets before 0 (feedText courseNext courseText (feedingOf f xs ls) (take (g .took) piece))
   pub end : g .at
-      ≡ length (feedText lineNext lineText (feedingOf f xs ls) (take (g .took) piece))
+      ≡ length (feedText courseNext courseText (feedingOf f xs ls) (take (g .took) piece))
   pub fits : g .at ≤ length after
   pub lent : Lent (g .feed .stage) xs' ls'
   pub site : length xs' ≡ length xs

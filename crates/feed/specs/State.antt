@@ -2,23 +2,54 @@
 use Prim.Native.Nat.{ℕ, _≤_}
 use mathlib.Core.Path.{_≡_}
 use mathlib.Core.Bool.{Bool, true}
-use mathlib.Core.List.{List}
+use mathlib.Core.List.{List, []}
 use lib.ListN.{length, take}
 use Rattle.rules.specs.Site.{Site}
 use Rattle.memory.specs.Memory.{siteWords, linksWords, siteOf, memoryForm}
+use Rattle.lines.specs.declared.Line.{Line}
 use Rattle.trace.specs.Feeding.{Feeding}
-use Rattle.trace.specs.Replay.{Run, first, going, ended}
+use Rattle.trace.specs.Replay.{Run, first, going, ended, Told, done, refused, opened, judged}
+use Rattle.trace.specs.Replay.{lineNext, lineText}
 use Rattle.feed.specs.declared.state.Feed.{Feed}
 use Rattle.feed.specs.declared.state.Stage.{Stage}
+
+-- a run, and the site that the lent words hold: it is there after the run's end too
+pub record Course : Type 0 where
+  pub run : Run
+  pub site : Site
+
+-- "A refusal returns its number and nothing else; site, links and lent buffers stay."
+unfoldable pub toldSite : Site → Told → Site
+toldSite s (done t) = t
+toldSite s (refused why) = s
+
+unfoldable pub lineSite : Run → Site → Line → Site
+lineSite first s l = toldSite s (opened l)
+lineSite (going k t) s l = toldSite s (judged k t l)
+lineSite ended s l = s
+
+-- a line of the replay, with the site that it leaves
+abbrev pub courseNext : Course → Line → Course
+courseNext c l = record { run = lineNext (c .run) l; site = lineSite (c .run) (c .site) l }
+
+abbrev pub courseText : Course → Line → List ℕ
+courseText c l = lineText (c .run) l
+
+-- before the first byte, with any words
+abbrev pub begun : Site → Feeding Course
+begun s = record { run = record { run = first; site = s }; held = [] }
 
 abbrev pub runOf : Stage → ℕ → Site → Run
 runOf Stage.First k s = first
 runOf Stage.Going k s = going k s
 runOf Stage.Ended k s = ended
 
-abbrev pub feedingOf : Feed → List ℕ → List ℕ → Feeding Run
+abbrev pub courseOf : Stage → ℕ → Site → Course
+courseOf t k s = record { run = runOf t k s; site = s }
+
+abbrev pub feedingOf : Feed → List ℕ → List ℕ → Feeding Course
 feedingOf f xs ls = record {
-  run = runOf (f .stage) (f .k) (siteOf xs ls);
+  run = courseOf (f .stage) (f .k) (siteOf xs ls);
   held = take (f .len) (f .line);
 }
 

@@ -5,11 +5,13 @@ ghost use Prim.Native.Nat.{ℕ, _≤_};
 ghost use lib.ListN.{length};
 ghost use Rattle.print.specs.Text.{Wrote};
 ghost use Rattle.trace.specs.Feeding.{endText};
-ghost use Rattle.trace.specs.Replay.{lineText, start as starting};
-ghost use Rattle.feed.specs.State.{feedingOf};
+ghost use Rattle.memory.specs.Memory.{siteOf};
+ghost use Rattle.feed.specs.State.{begun, courseText, feedingOf};
 ghost use Rattle.feed.specs.Says.{answerMost};
 
+mod answer;
 mod held;
+mod piece;
 mod settle;
 pub mod state;
 mod tell;
@@ -19,7 +21,7 @@ use state::Stage;
 
 // Before the first byte.
 pub fn start() -> Feed
-    ensures { λ f. ⌜ ((xs ls : List ℕ) → feedingOf f xs ls ≡ starting) ⌝ }
+    ensures { λ f. ⌜ ((xs ls : List ℕ) → feedingOf f xs ls ≡ begun (siteOf xs ls)) ⌝ }
 {
     Feed {
         stage: Stage::First,
@@ -34,7 +36,7 @@ pub fn feed_end(f: Feed, out: &mut [u8]) -> usize
     requires { ⌜ answerMost ≤ length (now out) ⌝ }
     ensures { λ r.
         ⌜ ((xs ls : List ℕ) → Wrote answerMost (now (out .entry)) (now (out .exit)) 0 r
-        (endText lineText (feedingOf f xs ls))) ⌝ }
+        (endText courseText (feedingOf f xs ls))) ⌝ }
 {
     let stage = f.stage;
     let k = f.k;

@@ -1,4 +1,5 @@
 // The state of a feeding between two pieces, and what the feeding gives back.
+use rules::model::Answer;
 
 // No line yet, lines on a site, or the end of the run.
 pub enum Stage {
@@ -27,8 +28,10 @@ pub struct Turn {
     pub at: usize,
 }
 
-// The state after a piece, how many bytes of it were taken, and the place past the answers.
+// The state after a piece, how many bytes of it were taken, and the place past the answers to its
+// lines. answer is Done, or why nothing was fed.
 pub struct Fed {
+    pub answer: Answer,
     pub feed: Feed,
     pub took: usize,
     pub at: usize,

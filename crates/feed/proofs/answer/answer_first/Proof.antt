@@ -1,0 +1,56 @@
+-- `feed::answer::answer_first` meets its contract.
+use mathlib.Core.Path.{ap}
+use Rattle.trace.specs.Stops.{opens}
+use Rattle.feed.proofs.EngineLaws.{open-first, other-first}
+use borrow.Author.Needs.{needs}
+use Rattle.feed.proofs.answer.answer_first.Statement.{statement}
+use Rattle.feed.proofs.answer.answer_first.Tie as tie
+
+enum-known-line : tie.Need-enum-known-line
+enum-known-line c = search needs
+
+open-site-requires : tie.Need-open-site-requires
+open-site-requires c κs = search needs
+
+enum-told : tie.Need-enum-told
+enum-told c = search needs
+
+enum-told-2 : tie.Need-enum-told-2
+enum-told-2 c = search needs
+
+enum-told-3 : tie.Need-enum-told-3
+enum-told-3 c = search needs
+
+same-length : tie.Need-same-length
+same-length c = search needs
+
+same-length-2 : tie.Need-same-length-2
+same-length-2 c = search needs
+
+returns : tie.Need-returns
+returns c = open-first _ _ _ _ (c .before .before .before .before .before .before .before .before .line .given .1) (c .before .before .before .before .open-site .ensures)
+
+returns-2 : tie.Need-returns-2
+returns-2 c = other-first _ _ _ (ap opens (c .enum-told .given .1))
+
+returns-3 : tie.Need-returns-3
+returns-3 c = other-first _ _ _ (ap opens (c .enum-told2 .given .1))
+
+returns-4 : tie.Need-returns-4
+returns-4 c = other-first _ _ _ (ap opens (c .enum-told3 .given .1))
+
+pub answer-first-spec : {M : Type 1} → statement M
+answer-first-spec =
+    tie.close
+    (tie.spec
+    enum-known-line
+    open-site-requires
+    enum-told
+    enum-told-2
+    enum-told-3
+    same-length
+    same-length-2
+    returns
+    returns-2
+    returns-3
+    returns-4)
