@@ -4,3 +4,5 @@ pub mod TellLaws
 pub mod EngineLaws
 pub mod AnswerLaws
 pub mod FeedLaws
+pub mod EntryLaws
+pub mod WholeLaws

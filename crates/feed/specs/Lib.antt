@@ -2,3 +2,5 @@
 pub mod State
 pub mod Rows
 pub mod Says
+pub mod Entries
+pub mod Whole

@@ -36,3 +36,9 @@ pub struct Fed {
     pub took: usize,
     pub at: usize,
 }
+
+// The place past what the end of the input says. answer is Done, or why nothing was said.
+pub struct End {
+    pub answer: Answer,
+    pub at: usize,
+}

@@ -1,13 +1,17 @@
 // The answer to a line, printed from the site's words.
-ghost use mathlib.Core.List.{[]};
-ghost use Prim.Native.Nat.{_+_, _*_, _≤_};
+ghost use mathlib.Core.List.{List, []};
+ghost use Prim.Native.Nat.{ℕ, _+_, _*_, _≤_};
 ghost use lib.ListN.{length};
 ghost use Rattle.memory.specs.Memory.{siteOf};
 ghost use Rattle.print.specs.Decimal.{spaced};
 ghost use Rattle.print.specs.Text.{Wrote, doneText};
+ghost use Rattle.trace.specs.Feeding.{endText};
 ghost use Rattle.trace.specs.Replay.{lasts};
 ghost use Rattle.feed.specs.Rows.{lastsAt};
+ghost use Rattle.feed.specs.State.{courseText, feedingOf};
 ghost use Rattle.feed.specs.Says.{Rowed, answerMost};
+use crate::state::Feed;
+use crate::state::Stage;
 
 // The last of each of n boxes, whose rows are w words wide, after a space.
 fn put_lasts(out: &mut [u8], at: usize, site: &[u64], n: usize, w: usize) -> usize
@@ -40,4 +44,24 @@ pub(crate) fn put_done(out: &mut [u8], at: usize, k: u64, site: &[u64]) -> usize
     let p = print::put_next(out, p, site[3]);
     let p = put_lasts(out, p, site, n, w);
     print::put_byte(out, p, 10)
+}
+
+// The answer to a line that has begun and that no newline ended.
+pub(crate) fn put_end(f: Feed, out: &mut [u8]) -> usize
+    requires { ⌜ answerMost ≤ length (now out) ⌝ }
+    ensures { λ r.
+        ⌜ ((xs ls : List ℕ) → Wrote answerMost (now (out .entry)) (now (out .exit)) 0 r
+        (endText courseText (feedingOf f xs ls))) ⌝ }
+{
+    let stage = f.stage;
+    let k = f.k;
+    let n = f.len;
+    if n == 0 {
+        return 0;
+    }
+    match stage {
+        Stage::First => print::put_refused(out, 0, 1, 11),
+        Stage::Going => print::put_refused(out, 0, k, 11),
+        Stage::Ended => 0,
+    }
 }

@@ -1,3 +1,4 @@
+-- `feed::held::read_held` meets its contract.
 use mathlib.Core.Path.{_≡_, _∙_, ap}
 use native.Mathlib.Omega.{arith}
 use lib.ListN.{length}

@@ -1,3 +1,4 @@
+-- `feed::settle::keep` meets its contract.
 use mathlib.Core.Path.{refl}
 use borrow.Author.Needs.{needs}
 use Rattle.feed.proofs.AnswerLaws.{keeps-is}

@@ -1,3 +1,4 @@
+-- `feed::tell::put_done` meets its contract.
 use native.Mathlib.Omega.{arith}
 use borrow.Author.Needs.{needs}
 use Rattle.print.proofs.WriteLaws.{then}

@@ -1,3 +1,4 @@
+-- `feed::tell::put_lasts` meets its contract.
 use Prim.Native.Nat.{_≤_, _-_, _*_}
 use native.Mathlib.Omega.{arith}
 use Rattle.print.specs.Decimal.{spaced}

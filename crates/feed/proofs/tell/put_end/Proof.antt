@@ -1,9 +1,10 @@
+-- `feed::tell::put_end` meets its contract.
 use mathlib.Core.Path.{_≡_}
 use lib.ListN.{length}
 use borrow.Author.Needs.{needs}
 use Rattle.feed.proofs.FeedLaws.{end-none, end-first, end-going, end-ended}
-use Rattle.feed.proofs.feed_end.Statement.{statement}
-use Rattle.feed.proofs.feed_end.Tie as tie
+use Rattle.feed.proofs.tell.put_end.Statement.{statement}
+use Rattle.feed.proofs.tell.put_end.Tie as tie
 
 line-length : (s : tie.Start) → length (s .args .f .line) ≡ 65
 line-length s = search needs
@@ -28,8 +29,8 @@ returns-4 c = λ xs ls. end-ended ((c .before .before .before .before) .args .f)
     .enum-told3 .given .1) (line-length (c .before .before .before .before)) (c .before .before
     .if1 .left)
 
-pub feed-end-spec : {M : Type 1} → statement M
-feed-end-spec =
+pub put-end-spec : {M : Type 1} → statement M
+put-end-spec =
     tie.close
     (tie.spec
     returns

@@ -1,0 +1,135 @@
+-- A whole feeding says the replay of its input; and what an entry's contract leaves open.
+use Prim.Native.Nat.{ℕ, _+_, _<_, _≤_}
+use mathlib.Core.Path.{_≡_, refl, ap, sym, _∙_, subst}
+use mathlib.Core.Bool.{Bool, true, false}
+use mathlib.Core.List.{List, [], _∷_, _++_, append-nil, append-assoc}
+use native.Mathlib.Omega.{arith}
+use lib.ListN.{length, take, drop}
+use lib.Seq.{sets, sets-eq, length-sets, take-append-seam}
+use Rattle.rules.specs.Site.{Site}
+use Rattle.rules.specs.declared.model.Answer.{Answer}
+use Rattle.laws.proofs.Logic.{Or, decide, both-no}
+use Rattle.memory.specs.Memory.{siteOf}
+use Rattle.lines.specs.declared.Line.{Line}
+use Rattle.trace.specs.Feeding.{Feeding, feedNext, feedText, endText}
+use Rattle.trace.specs.Lines.{linesOf, texts}
+use Rattle.trace.specs.Replay.{first, lineNext, lineText, replay}
+use Rattle.trace.specs.Stops.{accepted}
+use Rattle.trace.proofs.Pieces.{next-append, text-append, fed-from}
+use Rattle.feed.specs.State.{Course, courseNext, courseText, begun, feedingOf}
+use Rattle.feed.specs.Says.{Feeds}
+use Rattle.feed.specs.Entries.{Unfed, PieceFed, EndSaid}
+use Rattle.feed.specs.Whole.{Went, Whole}
+use Rattle.feed.specs.declared.state.End.{End}
+use Rattle.feed.specs.declared.state.Fed.{Fed}
+use Rattle.feed.specs.declared.state.Feed.{Feed}
+use Rattle.feed.proofs.EntryLaws.{end-room}
+
+-- ---- the site beside the run changes no text
+
+course-texts : (ls : List Line) (c : Course)
+    → texts courseNext courseText c ls ≡ texts lineNext lineText (c .run) ls
+unfolding texts
+course-texts [] c = refl
+course-texts (l ∷ ls) c =
+    ap (λ (t : List ℕ). lineText (c .run) l ++ t) (course-texts ls (courseNext c l))
+
+course-replay : (s : Site) (input : List ℕ)
+    → feedText courseNext courseText (begun s) input
+    ++ endText courseText (feedNext courseNext (begun s) input) ≡ replay input
+unfolding replay
+course-replay s input =
+    fed-from courseNext courseText (record { run = first; site = s }) [] input
+    ∙ course-texts (linesOf input) (record { run = first; site = s })
+
+-- ---- the text at the front of a buffer
+
+pub front : (x y t : List ℕ) (at : ℕ) → y ≡ sets x 0 t → at ≡ length t → at ≤ length y
+    → take at y ≡ t
+front x y t at e l h =
+    let long : length y ≡ length x = ap length e ∙ length-sets x 0 t in
+    let zero : 0 + length t ≡ length t = omega arith in
+    ap (λ (n : ℕ). take n y) l
+    ∙ (ap (λ (b : List ℕ). take (length t) b) (e ∙ sets-eq t x 0 (omega arith))
+    ∙ take-append-seam t (drop (0 + length t) x))
+
+-- ---- what has been fed, and said of it
+
+record Since (input output : List ℕ) (f : Feed) (xs ls : List ℕ) : Type 0 where
+  site : Site
+  next : feedingOf f xs ls ≡ feedNext courseNext (begun site) input
+  text : output ≡ feedText courseNext courseText (begun site) input
+
+since-fed : {input output : List ℕ} {f : Feed} {xs ls piece xs' ls' before after : List ℕ}
+    {g : Fed} → Since input output f xs ls → Feeds f piece xs ls xs' ls' before after g
+    → Since (input ++ take (g .took) piece) (output ++ take (g .at) after) (g .feed) xs' ls'
+since-fed {input} {output} {f} {xs} {ls} {piece} {xs'} {ls'} {before} {after} {g} w v =
+    let s = begun (w .site) in
+    let p = take (g .took) piece in
+    record {
+      site = w .site;
+      next =
+          v .next
+          ∙ (ap (λ (q : Feeding Course). feedNext courseNext q p) (w .next)
+          ∙ sym (next-append courseNext courseText s input p));
+      text =
+          ap (λ (t : List ℕ). output ++ t) (front before after _ (g .at) (v .bytes) (v .end) (v .fits))
+          ∙ (ap (λ (t : List ℕ). t ++ feedText courseNext courseText (feedingOf f xs ls) p) (w .text)
+          ∙ (ap
+          (λ (q : Feeding Course).
+          feedText courseNext courseText s input ++ feedText courseNext courseText q p)
+          (w .next)
+          ∙ sym (text-append courseNext courseText s input p)));
+    }
+
+since-unfed : {input output : List ℕ} {f : Feed} {xs ls xs' ls' before after : List ℕ}
+    (piece : List ℕ) {g : Fed} → Since input output f xs ls → Unfed f xs ls xs' ls' before after g
+    → Since (input ++ take (g .took) piece) (output ++ take (g .at) after) (g .feed) xs' ls'
+since-unfed {input} {output} {f} {xs} {ls} {xs'} {ls'} {before} {after} piece {g} w u =
+    let i : input ++ take (g .took) piece ≡ input =
+    ap (λ (n : ℕ). input ++ take n piece) (u .took) ∙ append-nil input in
+    let o : output ++ take (g .at) after ≡ output =
+    ap (λ (n : ℕ). output ++ take n after) (u .end) ∙ append-nil output in
+    record {
+      site = w .site;
+      next =
+          ap (λ (h : Feed). feedingOf h xs' ls') (u .feed)
+          ∙ (ap (λ (y : List ℕ). feedingOf f y ls') (u .site)
+          ∙ (ap (λ (y : List ℕ). feedingOf f xs y) (u .links)
+          ∙ (w .next ∙ ap (feedNext courseNext (begun (w .site))) (sym i))));
+      text = o ∙ (w .text ∙ ap (feedText courseNext courseText (begun (w .site))) (sym i));
+    }
+
+since-piece : {input output : List ℕ} {f : Feed} {xs ls piece xs' ls' before after : List ℕ}
+    {g : Fed} → Since input output f xs ls → PieceFed f piece xs ls xs' ls' before after g
+    → Since (input ++ take (g .took) piece) (output ++ take (g .at) after) (g .feed) xs' ls'
+since-piece {input} {output} {f} {xs} {ls} {piece} {xs'} {ls'} {before} {after} {g} w v =
+    go (decide (accepted (g .answer)))
+  where
+    go : Or (accepted (g .answer) ≡ true) (accepted (g .answer) ≡ false)
+        → Since (input ++ take (g .took) piece) (output ++ take (g .at) after) (g .feed) xs' ls'
+    go (Or.left e) = since-fed w (v .fed e)
+    go (Or.right e) = since-unfed piece w (v .kept e)
+
+since : {input output : List ℕ} {f : Feed} {xs ls : List ℕ} → Went input output f xs ls
+    → Since input output f xs ls
+unfolding feedNext feedText
+since (Went.begins {f} {xs} {ls} e) = record { site = siteOf xs ls; next = e; text = refl }
+since (Went.goes w v) = since-piece (since w) v
+
+pub whole : Whole
+whole = record {
+  replays = λ {input} {output} {f} {xs} {ls} {before} {after} {e} w v a.
+      let z = since w in
+      let s = v .said a xs ls in
+      let t = endText courseText (feedingOf f xs ls) in
+      let room = end-room before (subst (λ (b : Answer). accepted b ≡ true) (v .answer) a) in
+      ap (λ (u : List ℕ). output ++ u)
+      (front before after t (e .at) (s .bytes) (omega (arith, s .end)) (omega (arith, s .few, s .room, room)))
+      ∙ (ap (λ (u : List ℕ). u ++ t) (z .text)
+      ∙ (ap
+      (λ (q : Feeding Course).
+      feedText courseNext courseText (begun (z .site)) input ++ endText courseText q)
+      (z .next)
+      ∙ course-replay (z .site) input));
+}
