@@ -1,16 +1,19 @@
 -- What each function of the feeding says.
-use Prim.Native.Nat.{ℕ, _-_, _/_, _≤_, _<_, min}
+use Prim.Native.Nat.{ℕ, suc, _-_, _≤_, _<_}
 use mathlib.Core.Path.{_≡_}
-use mathlib.Core.Bool.{true}
-use mathlib.Core.List.{List, []}
+use mathlib.Core.Bool.{true, _&&_}
+use mathlib.Core.List.{List, [], _∷_}
+use lib.Dec.{eqb, ltb}
 use lib.ListN.{length, take, getD}
 use lib.Seq.{sets}
 use Rattle.words.specs.Rows.{part}
+use Rattle.rules.specs.Pick.{pick}
 use Rattle.rules.specs.Sizes.{mostBoxes, mostLoads}
 use Rattle.rules.specs.declared.model.Answer.{Answer}
 use Rattle.memory.specs.Memory.{siteWords, siteOf, memoryForm}
 use Rattle.print.specs.Text.{Wrote}
-use Rattle.trace.specs.Feeding.{Feeding, plain, holding, feedNext, feedText}
+use Rattle.trace.specs.Feeding.{Feeding, plain, holding, byteNext, byteText, feedNext}
+use Rattle.trace.specs.Feeding.{feedText}
 use Rattle.trace.specs.Replay.{Told, told, toldText, toldNext}
 use Rattle.trace.specs.Stops.{accepted}
 use Rattle.feed.specs.State.{Course, toldSite, courseNext, courseText, feedingOf, formed}
@@ -22,6 +25,14 @@ use Rattle.feed.specs.declared.state.Turn.{Turn}
 -- the longest answer: two numbers and five lasts, each of at most 20 digits, spaces and a newline
 abbrev pub answerMost : ℕ
 answerMost = 147
+
+-- how many bytes of a piece are taken where this many bytes of the buffer are free: a newline waits
+-- where there is no room for the longest answer
+unfoldable pub taken : ℕ → Feeding Course → List ℕ → ℕ
+taken room s [] = 0
+taken room s (b ∷ p) =
+    pick (eqb b 10 && ltb room answerMost) 0
+    (suc (taken (room - length (byteText courseText s b)) (byteNext courseNext s b) p))
 
 -- e is the place of the first newline from i on and below n, or n where there is none
 pub record LineEnd (piece : List ℕ) (i n e : ℕ) : Type 0 where
@@ -74,7 +85,7 @@ pub record Turns (s : Feeding Course) (text xs ls xs' ls' before after : List �
 -- as much of a piece as the buffer has room for was fed
 pub record Feeds (f : Feed) (piece xs ls xs' ls' before after : List ℕ) (g : Fed) : Type 0 where
   pub answer : g .answer ≡ Answer.Done
-  pub took : g .took ≡ min (length piece) (length before / answerMost)
+  pub took : g .took ≡ taken (length before) (feedingOf f xs ls) piece
   pub next : feedingOf (g .feed) xs' ls'
       ≡ feedNext courseNext (feedingOf f xs ls) (take (g .took) piece)
   pub bytes : after

@@ -1,5 +1,4 @@
 -- `feed::entries::has_room` meets its contract.
-use borrow.Author.Needs.{needs}
 use mathlib.Core.Path.{refl}
 use Rattle.feed.specs.Entries.{hasRoom}
 use Rattle.feed.proofs.entries.has_room.Statement.{statement}

@@ -1,17 +1,16 @@
 -- `feed::piece::feed_formed` meets its contract.
-use Prim.Native.Nat.{_≤_, _-_, _*_}
-use mathlib.Core.Path.{_≡_}
+use Prim.Native.Nat.{_≤_, _-_}
+use mathlib.Core.Path.{_≡_, refl}
 use native.Mathlib.Omega.{arith}
 use lib.ListN.{length, take}
 use borrow.Author.Needs.{needs}
 use Rattle.feed.specs.State.{feedingOf}
-use Rattle.feed.specs.Says.{answerMost}
-use Rattle.feed.proofs.FeedLaws.{Kept, short-held, kept-none, kept-more, kept-all}
+use Rattle.feed.proofs.FeedLaws.{Kept, short-held, goes-on, kept-none, kept-more, kept-all}
 use Rattle.feed.proofs.piece.feed_formed.Statement.{statement}
 use Rattle.feed.proofs.piece.feed_formed.Tie as tie
 
 abbrev Inv-loop : tie.InvT-loop
-Inv-loop piece site₀ links₀ out₀ n g₀ at₀ i₀ e₀ site links out g at i e = (n ≤ length piece) × (answerMost * n ≤ length out₀) × (length (take (g₀ .len) (g₀ .line)) ≤ 65) × Kept (feedingOf g₀ site₀ links₀) piece site₀ links₀ site links out₀ out n i e g at
+Inv-loop piece site₀ links₀ out₀ n g₀ at₀ i₀ e₀ site links out g at i e = (n ≡ length piece) × (length (take (g₀ .len) (g₀ .line)) ≤ 65) × Kept (feedingOf g₀ site₀ links₀) piece site₀ links₀ site links out₀ out n i e g at
 
 abbrev μ-loop : tie.MeasureT-loop
 μ-loop piece site₀ links₀ out₀ n g₀ at₀ i₀ e₀ site links out g at i e = n - e
@@ -19,44 +18,44 @@ abbrev μ-loop : tie.MeasureT-loop
 line-length : (s : tie.Start Inv-loop μ-loop) → length (s .args .f .line) ≡ 65
 line-length s = search needs
 
-allowed-requires : tie.Need-allowed-requires Inv-loop μ-loop
-allowed-requires c κs = search needs
-
 line-end-requires : tie.Need-line-end-requires Inv-loop μ-loop
-line-end-requires c κs = (omega arith, omega (arith, c .allowed .ensures))
+line-end-requires c κs = search needs
 
 loop-holds : tie.Need-loop-holds Inv-loop μ-loop
-loop-holds c = (omega (arith, c .before .allowed .ensures), omega (arith, c .before .allowed .ensures), short-held ((c .before .before .before .before .before .before) .args .f .line) ((c .before .before .before .before .before .before) .args .f .len) (line-length (c .before .before .before .before .before .before)), kept-none ((c .before .before .before .before .before .before) .args .f) _ _ _ _ _ _ (c .line-end .ensures) ((c .before .before .before .before .before .before) .pre))
+loop-holds c = (refl, short-held ((c .before .before .before .before .before) .args .f .line) ((c .before .before .before .before .before) .args .f .len) (line-length (c .before .before .before .before .before)), kept-none ((c .before .before .before .before .before) .args .f) _ _ _ _ _ _ (c .line-end .ensures) ((c .before .before .before .before .before) .pre))
+
+sub-loop : tie.Need-sub-loop Inv-loop μ-loop
+sub-loop c = omega (arith, c .loop .inv .2 .wrote .few, c .loop .inv .2 .wrote .room)
 
 answer-line-requires : tie.Need-answer-line-requires Inv-loop μ-loop
-answer-line-requires c κs = (c .before .before .before .before .loop .inv .3 .end .from, omega (arith, c .before .before .before .before .loop .inv .0, c .before .before .before .loop-test .taken), omega (arith, c .before .before .before .before .loop .inv .1, c .before .before .before .before .loop .inv .3 .end .from, c .before .before .before .before .loop .inv .3 .wrote .few, c .before .before .before .before .loop .inv .3 .wrote .room, c .before .before .before .loop-test .taken), c .before .before .before .before .loop .inv .3 .lent)
+answer-line-requires c κs = let on = goes-on (c .before .before .before .before .loop .e) (length ((c .before .before .before .before .before .before .before .before .before .before) .args .piece .now)) (length (c .before .before .before .before .loop .out) - c .before .before .before .before .loop .at) (c .before .before .before .loop-test .taken) in (c .before .before .before .before .loop .inv .2 .end .from, omega (arith, c .before .before .before .before .loop .inv .0, c .before .before .before .before .loop .inv .2 .end .to), omega (arith, on .1), c .before .before .before .before .loop .inv .2 .lent)
 
 add-i : tie.Need-add-i Inv-loop μ-loop
 add-i c = search needs
 
 line-end-requires-2 : tie.Need-line-end-requires-2 Inv-loop μ-loop
-line-end-requires-2 c κs = (omega (arith, c .before .before .before .before .before .before .before .before .before .before .before .loop-test .taken), c .before .before .before .before .before .before .before .before .before .before .before .before .loop .inv .0)
+line-end-requires-2 c κs = let on = goes-on (c .before .before .before .before .before .before .before .before .before .before .before .before .loop .e) (length ((c .before .before .before .before .before .before .before .before .before .before .before .before .before .before .before .before .before .before) .args .piece .now)) (length (c .before .before .before .before .before .before .before .before .before .before .before .before .loop .out) - c .before .before .before .before .before .before .before .before .before .before .before .before .loop .at) (c .before .before .before .before .before .before .before .before .before .before .before .loop-test .taken) in (omega (arith, on .0), omega (arith, c .before .before .before .before .before .before .before .before .before .before .before .before .loop .inv .0))
 
 loop-less : tie.Need-loop-less Inv-loop μ-loop
-loop-less c = omega (arith, c .before .before .before .before .before .before .before .before .before .before .before .before .loop-test .taken, c .line-end2 .ensures .from, c .line-end2 .ensures .to)
+loop-less c = let on = goes-on (c .before .before .before .before .before .before .before .before .before .before .before .before .before .loop .e) (length ((c .before .before .before .before .before .before .before .before .before .before .before .before .before .before .before .before .before .before .before) .args .piece .now)) (length (c .before .before .before .before .before .before .before .before .before .before .before .before .before .loop .out) - c .before .before .before .before .before .before .before .before .before .before .before .before .before .loop .at) (c .before .before .before .before .before .before .before .before .before .before .before .before .loop-test .taken) in omega (arith, on .0, c .line-end2 .ensures .from, c .line-end2 .ensures .to)
 
 loop-again : tie.Need-loop-again Inv-loop μ-loop
-loop-again c = (c .before .before .before .before .before .before .before .before .before .before .before .before .before .loop .inv .0, c .before .before .before .before .before .before .before .before .before .before .before .before .before .loop .inv .1, c .before .before .before .before .before .before .before .before .before .before .before .before .before .loop .inv .2, kept-more _ _ _ _ _ _ _ _ _ _ _ _ _ (c .before .before .before .before .before .before .before .before .answer-line .result) (c .before .before .before .before .before .before .before .before .before .before .before .before .before .loop .inv .2) (c .before .before .before .before .before .before .before .before .before .before .before .before .before .loop .inv .0) (c .before .before .before .before .before .before .before .before .before .before .before .before .loop-test .taken) (c .before .before .before .before .before .before .before .before .before .before .before .before .before .loop .inv .3) (c .before .before .before .before .before .before .before .before .answer-line .ensures) (c .line-end2 .ensures))
+loop-again c = let on = goes-on (c .before .before .before .before .before .before .before .before .before .before .before .before .before .loop .e) (length ((c .before .before .before .before .before .before .before .before .before .before .before .before .before .before .before .before .before .before .before) .args .piece .now)) (length (c .before .before .before .before .before .before .before .before .before .before .before .before .before .loop .out) - c .before .before .before .before .before .before .before .before .before .before .before .before .before .loop .at) (c .before .before .before .before .before .before .before .before .before .before .before .before .loop-test .taken) in (c .before .before .before .before .before .before .before .before .before .before .before .before .before .loop .inv .0, c .before .before .before .before .before .before .before .before .before .before .before .before .before .loop .inv .1, kept-more _ _ _ _ _ _ _ _ _ _ _ _ _ (c .before .before .before .before .before .before .before .before .answer-line .result) (c .before .before .before .before .before .before .before .before .before .before .before .before .before .loop .inv .1) (c .before .before .before .before .before .before .before .before .before .before .before .before .before .loop .inv .0) (on .0) (omega (arith, on .1, c .before .before .before .before .before .before .before .before .before .before .before .before .before .loop .inv .2 .wrote .room)) (c .before .before .before .before .before .before .before .before .before .before .before .before .before .loop .inv .2) (c .before .before .before .before .before .before .before .before .answer-line .ensures) (c .line-end2 .ensures))
 
 keep-requires : tie.Need-keep-requires Inv-loop μ-loop
-keep-requires c κs = (omega (arith, c .before .loop .inv .3 .end .from, c .before .loop .inv .3 .end .to), c .before .loop .inv .0)
+keep-requires c κs = (c .before .loop .inv .2 .end .from, omega (arith, c .before .loop .inv .0, c .before .loop .inv .2 .end .to))
 
 same-length : tie.Need-same-length Inv-loop μ-loop
-same-length c = c .before .before .loop .inv .3 .site
+same-length c = c .before .before .loop .inv .2 .site
 
 same-length-2 : tie.Need-same-length-2 Inv-loop μ-loop
-same-length-2 c = c .before .before .loop .inv .3 .links
+same-length-2 c = c .before .before .loop .inv .2 .links
 
 same-length-3 : tie.Need-same-length-3 Inv-loop μ-loop
-same-length-3 c = c .before .before .loop .inv .3 .wrote .room
+same-length-3 c = c .before .before .loop .inv .2 .wrote .room
 
 returns : tie.Need-returns Inv-loop μ-loop
-returns c = kept-all _ _ _ _ _ _ _ _ _ _ _ (c .before .before .loop .inv .2) (c .before .before .before .before .allowed .ensures) (c .before .before .loop .inv .1) (c .before .loop-test .left) (c .before .before .loop .inv .3) (c .keep .ensures)
+returns c = kept-all _ _ _ _ _ _ _ _ _ _ _ (c .before .before .loop .inv .1) (c .before .before .loop .inv .0) (c .before .loop-test .left) (c .before .before .loop .inv .2) (c .keep .ensures)
 
 pub feed-formed-spec : {M : Type 1} → statement M
 feed-formed-spec =
@@ -64,9 +63,9 @@ feed-formed-spec =
     (tie.spec
     Inv-loop
     μ-loop
-    allowed-requires
     line-end-requires
     loop-holds
+    sub-loop
     answer-line-requires
     add-i
     line-end-requires-2
