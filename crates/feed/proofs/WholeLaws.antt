@@ -1,23 +1,26 @@
--- A whole feeding says the replay of its input; and what an entry's contract leaves open.
-use Prim.Native.Nat.{ℕ, _+_, _<_, _≤_}
+-- A whole feeding says the replay of its input; an entry has one result; and what loops need.
+use Prim.Native.Nat.{ℕ, _+_, _-_, _<_, _≤_}
 use mathlib.Core.Path.{_≡_, refl, ap, sym, _∙_, subst}
-use mathlib.Core.Bool.{Bool, true, false}
+use mathlib.Core.Bool.{Bool, true, false, _&&_}
 use mathlib.Core.List.{List, [], _∷_, _++_, append-nil, append-assoc}
 use native.Mathlib.Omega.{arith}
+use lib.Dec.{eqb, ltb}
 use lib.ListN.{length, take, drop}
 use lib.Seq.{sets, sets-eq, length-sets, take-append-seam}
+use borrow.Author.Tests.{le-ltb}
+use Rattle.rules.specs.Pick.{pick-false}
 use Rattle.rules.specs.Site.{Site}
 use Rattle.rules.specs.declared.model.Answer.{Answer}
-use Rattle.laws.proofs.Logic.{Or, decide, both-no}
+use Rattle.laws.proofs.Logic.{Or, decide, pick-elim}
 use Rattle.memory.specs.Memory.{siteOf}
 use Rattle.lines.specs.declared.Line.{Line}
-use Rattle.trace.specs.Feeding.{Feeding, feedNext, feedText, endText}
+use Rattle.trace.specs.Feeding.{Feeding, byteNext, byteText, feedNext, feedText, endText}
 use Rattle.trace.specs.Lines.{linesOf, texts}
 use Rattle.trace.specs.Replay.{first, lineNext, lineText, replay}
 use Rattle.trace.specs.Stops.{accepted}
 use Rattle.trace.proofs.Pieces.{next-append, text-append, fed-from}
 use Rattle.feed.specs.State.{Course, courseNext, courseText, begun, feedingOf}
-use Rattle.feed.specs.Says.{Feeds}
+use Rattle.feed.specs.Says.{Feeds, taken, answerMost}
 use Rattle.feed.specs.Entries.{Unfed, PieceFed, EndSaid}
 use Rattle.feed.specs.Whole.{Went, Whole}
 use Rattle.feed.specs.declared.state.End.{End}
@@ -82,6 +85,13 @@ since-fed {input} {output} {f} {xs} {ls} {piece} {xs'} {ls'} {before} {after} {g
           ∙ sym (text-append courseNext courseText s input p)));
     }
 
+unfed-is : {f : Feed} {xs ls xs' ls' x y : List ℕ} {g : Fed} → Unfed f xs ls xs' ls' x y g
+    → feedingOf (g .feed) xs' ls' ≡ feedingOf f xs ls
+unfed-is {f} {xs} {ls} {xs'} {ls'} u =
+    ap (λ (k : Feed). feedingOf k xs' ls') (u .feed)
+    ∙ (ap (λ (m : List ℕ). feedingOf f m ls') (u .site)
+    ∙ ap (λ (m : List ℕ). feedingOf f xs m) (u .links))
+
 since-unfed : {input output : List ℕ} {f : Feed} {xs ls xs' ls' before after : List ℕ}
     (piece : List ℕ) {g : Fed} → Since input output f xs ls → Unfed f xs ls xs' ls' before after g
     → Since (input ++ take (g .took) piece) (output ++ take (g .at) after) (g .feed) xs' ls'
@@ -93,10 +103,7 @@ since-unfed {input} {output} {f} {xs} {ls} {xs'} {ls'} {before} {after} piece {g
     record {
       site = w .site;
       next =
-          ap (λ (h : Feed). feedingOf h xs' ls') (u .feed)
-          ∙ (ap (λ (y : List ℕ). feedingOf f y ls') (u .site)
-          ∙ (ap (λ (y : List ℕ). feedingOf f xs y) (u .links)
-          ∙ (w .next ∙ ap (feedNext courseNext (begun (w .site))) (sym i))));
+          unfed-is u ∙ (w .next ∙ ap (feedNext courseNext (begun (w .site))) (sym i));
       text = o ∙ (w .text ∙ ap (feedText courseNext courseText (begun (w .site))) (sym i));
     }
 
@@ -114,7 +121,8 @@ since-piece {input} {output} {f} {xs} {ls} {piece} {xs'} {ls'} {before} {after} 
 since : {input output : List ℕ} {f : Feed} {xs ls : List ℕ} → Went input output f xs ls
     → Since input output f xs ls
 unfolding feedNext feedText
-since (Went.begins {f} {xs} {ls} e) = record { site = siteOf xs ls; next = e; text = refl }
+since (Went.begins {f} {xs} {ls} b) =
+    record { site = siteOf xs ls; next = b .next xs ls; text = refl }
 since (Went.goes w v) = since-piece (since w) v
 
 pub whole : Whole
@@ -133,3 +141,102 @@ whole = record {
       (z .next)
       ∙ course-replay (z .site) input));
 }
+
+-- ---- what a loop over a piece needs: no more than the piece is taken, and some of it
+
+pub taken-part : (p : List ℕ) (r : ℕ) (s : Feeding Course) → taken r s p ≤ length p
+unfolding taken
+taken-part [] r s = omega arith
+taken-part (b ∷ p) r s =
+    pick-elim (λ (n : ℕ). n ≤ length (b ∷ p)) (eqb b 10 && ltb r answerMost) (λ e. omega arith)
+    (λ e.
+    omega (
+      arith,
+      taken-part p (r - length (byteText courseText s b)) (byteNext courseNext s b),
+    ))
+
+and-false : (b : Bool) → (b && false) ≡ false
+and-false true = refl
+and-false false = refl
+
+pub taken-some : (p : List ℕ) (r : ℕ) (s : Feeding Course) → answerMost ≤ r → 0 < length p
+    → 0 < taken r s p
+unfolding taken
+taken-some [] r s h l = absurd (omega arith)
+taken-some (b ∷ p) r s h l =
+    let no : (eqb b 10 && ltb r answerMost) ≡ false =
+    ap (λ (c : Bool). eqb b 10 && c) (le-ltb r answerMost h) ∙ and-false (eqb b 10) in
+    subst (λ (n : ℕ). 0 < n) (sym (pick-false _ _ _ no)) (omega arith)
+
+pub piece-fits : {f : Feed} {piece xs ls xs' ls' x y : List ℕ} {g : Fed}
+    → PieceFed f piece xs ls xs' ls' x y g → (g .at ≤ length y) × (g .took ≤ length piece)
+piece-fits {f} {piece} {xs} {ls} {xs'} {ls'} {x} {y} {g} w = go (decide (accepted (g .answer)))
+  where
+    go : Or (accepted (g .answer) ≡ true) (accepted (g .answer) ≡ false)
+        → (g .at ≤ length y) × (g .took ≤ length piece)
+    go (Or.left e) =
+        let v = w .fed e in
+        (v .fits, omega (arith, v .took, taken-part piece (length x) (feedingOf f xs ls)))
+    go (Or.right e) = let v = w .kept e in (omega (arith, v .end), omega (arith, v .took))
+
+pub end-fits : {f : Feed} {x y : List ℕ} {e : End} → EndSaid f x y e → e .at ≤ length y
+end-fits {f} {x} {y} {e} w = go (decide (accepted (e .answer)))
+  where
+    go : Or (accepted (e .answer) ≡ true) (accepted (e .answer) ≡ false) → e .at ≤ length y
+    go (Or.left h) =
+        let v = w .said h [] [] in
+        let room = end-room x (subst (λ (b : Answer). accepted b ≡ true) (w .answer) h) in
+        omega (arith, v .few, v .room, room)
+    go (Or.right h) = omega (arith, w .kept h .1)
+
+-- ---- one result: what two results of a call can differ in says nothing
+
+-- the same answer, as much taken, the same bytes; and the same run, so the same from there on
+pub record Same (xs ls x : List ℕ) (g : Fed) (ys ms y : List ℕ) (h : Fed) : Type 0 where
+  pub answer : g .answer ≡ h .answer
+  pub took : g .took ≡ h .took
+  pub end : g .at ≡ h .at
+  pub bytes : x ≡ y
+  pub next : feedingOf (g .feed) xs ls ≡ feedingOf (h .feed) ys ms
+
+pub once : {f : Feed} {piece xs ls xs' ls' ys ms x y z : List ℕ} {g h : Fed}
+    → PieceFed f piece xs ls xs' ls' x y g → PieceFed f piece xs ls ys ms x z h
+    → Same xs' ls' y g ys ms z h
+once {f} {piece} {xs} {ls} {xs'} {ls'} {ys} {ms} {x} {y} {z} {g} {h} v w =
+    go (decide (accepted (g .answer)))
+  where
+    a : g .answer ≡ h .answer
+    a = v .answer ∙ sym (w .answer)
+
+    go : Or (accepted (g .answer) ≡ true) (accepted (g .answer) ≡ false)
+        → Same xs' ls' y g ys ms z h
+    go (Or.left e) =
+        let p = v .fed e in
+        let q = w .fed (subst (λ (b : Answer). accepted b ≡ true) a e) in
+        let s = feedingOf f xs ls in
+        let t : g .took ≡ h .took = p .took ∙ sym (q .took) in
+        record {
+          answer = a;
+          took = t;
+          end =
+              p .end
+              ∙ (ap (λ (n : ℕ). length (feedText courseNext courseText s (take n piece))) t
+              ∙ sym (q .end));
+          bytes =
+              p .bytes
+              ∙ (ap (λ (n : ℕ). sets x 0 (feedText courseNext courseText s (take n piece))) t
+              ∙ sym (q .bytes));
+          next =
+              p .next
+              ∙ (ap (λ (n : ℕ). feedNext courseNext s (take n piece)) t ∙ sym (q .next));
+        }
+    go (Or.right e) =
+        let p = v .kept e in
+        let q = w .kept (subst (λ (b : Answer). accepted b ≡ false) a e) in
+        record {
+          answer = a;
+          took = p .took ∙ sym (q .took);
+          end = p .end ∙ sym (q .end);
+          bytes = p .bytes ∙ sym (q .bytes);
+          next = unfed-is p ∙ sym (unfed-is q);
+        }

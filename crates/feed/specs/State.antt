@@ -1,7 +1,7 @@
 -- The state of a feeding, and the run that it and the lent words stand for.
 use Prim.Native.Nat.{ℕ, _≤_}
 use mathlib.Core.Path.{_≡_}
-use mathlib.Core.Bool.{Bool, true}
+use mathlib.Core.Bool.{Bool, true, false}
 use mathlib.Core.List.{List, []}
 use lib.ListN.{length, take}
 use Rattle.rules.specs.Site.{Site}
@@ -52,6 +52,17 @@ feedingOf f xs ls = record {
   run = courseOf (f .stage) (f .k) (siteOf xs ls);
   held = take (f .len) (f .line);
 }
+
+-- a state before the first byte, whatever the words are
+pub record Begins (f : Feed) : Type 0 where
+  pub stage : f .stage ≡ Stage.First
+  pub next : (xs ls : List ℕ) → feedingOf f xs ls ≡ begun (siteOf xs ls)
+
+-- "A refused line .. ends the run."
+abbrev pub isEnded : Stage → Bool
+isEnded Stage.First = false
+isEnded Stage.Going = false
+isEnded Stage.Ended = true
 
 -- a run that goes has a site by form in the words
 abbrev pub formed : Stage → List ℕ → List ℕ → Bool

@@ -5,10 +5,9 @@ use mathlib.Core.Path.{_≡_}
 use mathlib.Core.Bool.{true}
 use mathlib.Core.List.{List, [], _++_}
 use lib.ListN.{take}
-use Rattle.memory.specs.Memory.{siteOf}
 use Rattle.trace.specs.Replay.{replay}
 use Rattle.trace.specs.Stops.{accepted}
-use Rattle.feed.specs.State.{begun, feedingOf}
+use Rattle.feed.specs.State.{Begins}
 use Rattle.feed.specs.Entries.{PieceFed, EndSaid}
 use Rattle.feed.specs.declared.state.End.{End}
 use Rattle.feed.specs.declared.state.Fed.{Fed}
@@ -18,8 +17,7 @@ use Rattle.feed.specs.declared.state.Feed.{Feed}
 -- `start` and `feed_piece` a program that calls them has just this: nothing is asked of how the
 -- input was cut, of the buffers, or of what the words held at first; a refused piece counts too.
 pub data Went : List ℕ → List ℕ → Feed → List ℕ → List ℕ → Type 0 where
-  begins : {f : Feed} {xs ls : List ℕ} → feedingOf f xs ls ≡ begun (siteOf xs ls)
-      → Went [] [] f xs ls
+  begins : {f : Feed} {xs ls : List ℕ} → Begins f → Went [] [] f xs ls
   goes : {input output : List ℕ} {f : Feed} {xs ls piece xs' ls' before after : List ℕ} {g : Fed}
       → Went input output f xs ls → PieceFed f piece xs ls xs' ls' before after g
       → Went (input ++ take (g .took) piece) (output ++ take (g .at) after) (g .feed) xs' ls'

@@ -1,11 +1,7 @@
 // What a caller calls. No entry requires anything: what does not suit the state is refused.
 ghost use mathlib.Core.Path.{_≡_};
-ghost use mathlib.Core.List.{List};
-ghost use Prim.Native.Nat.{ℕ};
-ghost use lib.ListN.{length};
-ghost use Rattle.memory.specs.Memory.{siteOf};
-ghost use Rattle.feed.specs.State.{begun, feedingOf, formed};
-ghost use Rattle.feed.specs.Entries.{hasRoom, Unfed, PieceFed, EndSaid};
+ghost use Rattle.feed.specs.State.{Begins, formed, isEnded};
+ghost use Rattle.feed.specs.Entries.{hasRoom, PieceFed, EndSaid};
 use crate::piece::feed_formed;
 use crate::state::End;
 use crate::state::Fed;
@@ -17,13 +13,25 @@ use rules::model::Refusal;
 
 // Before the first byte.
 pub fn start() -> Feed
-    ensures { λ f. ⌜ ((xs ls : List ℕ) → feedingOf f xs ls ≡ begun (siteOf xs ls)) ⌝ }
+    ensures { λ f. ⌜ Begins f ⌝ }
 {
     Feed {
         stage: Stage::First,
         k: 1,
         len: 0,
         line: [0; 65],
+    }
+}
+
+// The run is at its end: whatever more is fed, nothing more is said.
+pub fn is_ended(f: Feed) -> bool
+    ensures { λ r. ⌜ r ≡ isEnded (f .stage) ⌝ }
+{
+    let stage = f.stage;
+    match stage {
+        Stage::First => false,
+        Stage::Going => false,
+        Stage::Ended => true,
     }
 }
 

@@ -9,5 +9,6 @@ mod tell;
 
 pub use entries::feed_end;
 pub use entries::feed_piece;
+pub use entries::is_ended;
 pub use entries::start;
 pub use piece::feed_formed;
