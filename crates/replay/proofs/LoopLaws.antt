@@ -1,0 +1,104 @@
+-- Laws of the loop that feeds a whole piece.
+use Prim.Native.Nat.{ℕ, _+_, _-_, _<_, _≤_}
+use mathlib.Core.Path.{_≡_, refl, ap, sym, _∙_, subst}
+use mathlib.Core.Bool.{true, false}
+use mathlib.Core.List.{List, [], _++_}
+use native.Mathlib.Omega.{arith}
+use lib.ListN.{length, take, drop, length-drop}
+use lib.Seq.{take-all, take-add, length-sets}
+use Rattle.memory.specs.Memory.{siteWords, linksWords}
+use Rattle.trace.specs.Feeding.{Feeding, feedNext, feedText}
+use Rattle.trace.proofs.Pieces.{next-append}
+use Rattle.feed.specs.State.{Course, courseNext, courseText, feedingOf, Begins, formed, Lent}
+use Rattle.feed.specs.Says.{Feeds, taken, answerMost}
+use Rattle.feed.specs.declared.state.Fed.{Fed}
+use Rattle.feed.specs.declared.state.Feed.{Feed}
+use Rattle.feed.specs.declared.state.Stage.{Stage}
+use Rattle.feed.proofs.WholeLaws.{taken-part, taken-some}
+use Rattle.replay.specs.Fed.{FedAll}
+
+-- the first i bytes of a piece have been fed
+pub record Kept (s : Feeding Course) (piece xs₀ ls₀ xs ls before after : List ℕ) (i : ℕ) (g : Feed)
+    : Type 0 where
+  pub within : i ≤ length piece
+  pub next : feedingOf g xs ls ≡ feedNext courseNext s (take i piece)
+  pub lent : Lent (g .stage) xs ls
+  pub site : length xs ≡ length xs₀
+  pub links : length ls ≡ length ls₀
+  pub out : length after ≡ length before
+
+pub kept-none : (f : Feed) (piece xs ls x : List ℕ) → Lent (f .stage) xs ls
+    → Kept (feedingOf f xs ls) piece xs ls xs ls x x 0 f
+unfolding feedNext
+kept-none f piece xs ls x h = record {
+  within = omega arith;
+  next = refl;
+  lent = h;
+  site = refl;
+  links = refl;
+  out = refl;
+}
+
+rest : (piece : List ℕ) (i : ℕ) → take (length piece - i) (drop i piece) ≡ drop i piece
+rest piece i = take-all (length piece - i) (drop i piece) (rw length-drop (omega arith))
+
+-- some more of it is fed at each turn, and never more than is left
+pub goes-on : (piece xs ls xs' ls' x y : List ℕ) (i : ℕ) (g : Feed) (t : Fed) → i < length piece
+    → answerMost ≤ length x
+    → Feeds g (take (length piece - i) (drop i piece)) xs ls xs' ls' x y t
+    → (0 < t .took) × (i + t .took ≤ length piece)
+goes-on piece xs ls xs' ls' x y i g t l room w =
+    let s = feedingOf g xs ls in
+    let long : length (drop i piece) ≡ length piece - i = length-drop i piece in
+    let took : t .took ≡ taken (length x) s (drop i piece) =
+    w .took ∙ ap (taken (length x) s) (rest piece i) in (
+      subst (λ (n : ℕ). 0 < n) (sym took)
+          (taken-some (drop i piece) (length x) s room (omega arith)),
+      omega (arith, took, taken-part (drop i piece) (length x) s),
+    )
+
+pub kept-more : (s : Feeding Course) (piece xs₀ ls₀ xs ls xs' ls' : List ℕ) {x y z : List ℕ} (i : ℕ)
+    (g : Feed) (t : Fed) → i < length piece → answerMost ≤ length y
+    → Kept s piece xs₀ ls₀ xs ls x y i g
+    → Feeds g (take (length piece - i) (drop i piece)) xs ls xs' ls' y z t
+    → Kept s piece xs₀ ls₀ xs' ls' x z (i + t .took) (t .feed)
+kept-more s piece xs₀ ls₀ xs ls xs' ls' {x} {y} {z} i g t l room k w =
+    let p = take (t .took) (drop i piece) in
+    record {
+      within = goes-on piece xs ls xs' ls' y z i g t l room w .1;
+      next =
+          w .next
+          ∙ (ap (λ (u : List ℕ). feedNext courseNext (feedingOf g xs ls) (take (t .took) u))
+          (rest piece i)
+          ∙ (ap (λ (u : Feeding Course). feedNext courseNext u p) (k .next)
+          ∙ (sym (next-append courseNext courseText s (take i piece) p)
+          ∙ ap (feedNext courseNext s) (sym (take-add i (t .took) piece)))));
+      lent = w .lent;
+      site = w .site ∙ k .site;
+      links = w .links ∙ k .links;
+      out =
+          ap length (w .bytes)
+          ∙ (length-sets y 0
+          (feedText courseNext courseText (feedingOf g xs ls)
+          (take (t .took) (take (length piece - i) (drop i piece))))
+          ∙ k .out);
+    }
+
+pub kept-all : (f : Feed) (piece xs₀ ls₀ xs ls : List ℕ) {x y : List ℕ} (i : ℕ) (g : Feed)
+    → length piece ≤ i → Kept (feedingOf f xs₀ ls₀) piece xs₀ ls₀ xs ls x y i g
+    → FedAll f piece xs₀ ls₀ xs ls g
+kept-all f piece xs₀ ls₀ xs ls i g l k = record {
+  next = k .next ∙ ap (feedNext courseNext (feedingOf f xs₀ ls₀)) (take-all i piece l);
+  lent = k .lent;
+  site = k .site;
+  links = k .links;
+}
+
+-- words enough suit a state before the first byte
+pub lent-first : (f : Feed) (xs ls : List ℕ) → Begins f → siteWords 5 32 ≤ length xs
+    → linksWords 5 32 8 ≤ length ls → Lent (f .stage) xs ls
+lent-first f xs ls b hs hl = record {
+  site = hs;
+  links = hl;
+  form = ap (λ (t : Stage). formed t xs ls) (b .stage);
+}
