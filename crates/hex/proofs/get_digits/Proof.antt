@@ -1,0 +1,86 @@
+-- `hex::get_digits` meets its contract.
+use Prim.Native.Nat.{_≤_, _-_, _+_, _*_}
+use mathlib.Core.Path.{_≡_, refl, _∙_}
+use native.Mathlib.Omega.{arith}
+use lib.ListN.{length, take, length-set}
+use Rattle.hex.specs.Hex.{digitsOf}
+use Rattle.hex.proofs.CodeLaws.{got-none, got-more, got-all}
+use borrow.Author.Needs.{needs}
+use Rattle.hex.proofs.get_digits.Statement.{statement}
+use Rattle.hex.proofs.get_digits.Tie as tie
+
+abbrev Inv-loop : tie.InvT-loop
+Inv-loop text out₀ i₀ out i =
+    (i ≤ length out₀) × (length out ≡ length out₀) × (digitsOf (take i out) ≡ take (2 * i) text)
+
+abbrev μ-loop : tie.MeasureT-loop
+μ-loop text out₀ i₀ out i = length out₀ - i
+
+loop-holds : tie.Need-loop-holds Inv-loop μ-loop
+loop-holds c = (
+  omega arith,
+  refl,
+  got-none ((c .before .before) .args .text .now) ((c .before
+      .before) .args .out .now),
+)
+
+mul-out : tie.Need-mul-out Inv-loop μ-loop
+mul-out c =
+    omega (
+      arith,
+      c .before .before .before .before .before .before .before .before .pre .0 .each (2 * c
+          .before .before .before .before .before .loop .i) (omega arith),
+      c .before .before .value .ensures,
+    )
+
+add-out : tie.Need-add-out Inv-loop μ-loop
+add-out c =
+    omega (
+      arith,
+      c .before .before .before .before .before .before .before .before .pre .0 .each (2 * c
+          .before .before .before .before .before .loop .i) (omega arith),
+      c .before .before .before .before .before .before .before .before .pre .0 .each (2 * c
+          .before .before .before .before .before .loop .i + 1) (omega arith),
+      c .before .before .value .ensures,
+      c .value2 .ensures,
+    )
+
+loop-again : tie.Need-loop-again Inv-loop μ-loop
+loop-again c = (
+  omega arith,
+  length-set (c .before .before .before .before .before .loop .out) (c .before .before .before
+      .before .before .loop .i) _ ∙ c .before .before .before .before .before .loop .inv .1,
+  got-more ((c .before .before .before .before .before .before .before .before) .args .text .now)
+      (c .before .before .before .before .before .loop .out) (c .before .before .before .before
+      .before .loop .i) (c .before .before .value .result) (c .value2 .result) (omega arith) (c
+      .before .before .before .before .before .before .before .before .pre .0) (omega arith) (c
+      .before .before .value .ensures .0) (c .value2 .ensures .0) (c .before .before .before
+      .before .before .loop .inv .2),
+)
+
+returns : tie.Need-returns Inv-loop μ-loop
+returns c = got-all ((c .before .before .before .before) .args .text .now) (c .before .loop .out)
+    (c .before .loop .i) (omega arith) (omega arith) (c .before .loop .inv .2)
+
+pub get-digits-spec : {M : Type 1} → statement M
+get-digits-spec =
+    tie.close
+    (tie.spec
+    Inv-loop
+    μ-loop
+    loop-holds
+    (λ c. search needs)
+    (λ c. search needs)
+    (λ c κs. search needs)
+    (λ c. search needs)
+    (λ c. search needs)
+    (λ c. search needs)
+    (λ c κs. search needs)
+    mul-out
+    add-out
+    (λ c. search needs)
+    (λ c. search needs)
+    (λ c. search needs)
+    loop-again
+    (λ c. search needs)
+    returns)

@@ -1,0 +1,62 @@
+-- `hex::read_hex` meets its contract.
+use Prim.Native.Nat.{_-_, _/_}
+use lib.ListN.{length}
+use borrow.Author.Tests.{not-true, not-false}
+use Rattle.hex.specs.Hex.{Paired}
+use Rattle.hex.proofs.CodeLaws.{tells-yes, tells-no, read-none, read-bad, read-long, read-all, pairs-fill}
+use native.Mathlib.Omega.{arith}
+use mathlib.Core.Path.{refl}
+use borrow.Author.Needs.{needs}
+use Rattle.hex.proofs.read_hex.Statement.{statement}
+use Rattle.hex.proofs.read_hex.Tie as tie
+
+returns : tie.Need-returns
+returns c = read-none _ _ (tells-yes _ (c .if1 .taken) (c .before .is-no-bytes .ensures))
+
+returns-2 : tie.Need-returns-2
+returns-2 c = read-bad _ _ (tells-no _ (c .before .before .if1 .left) (c .before .before .before
+    .is-no-bytes .ensures)) (tells-no (c .before .is-paired .result) (not-true (c .before
+    .is-paired .result) (c .if2 .taken)) (c .before .is-paired .ensures))
+
+returns-3 : tie.Need-returns-3
+returns-3 c = read-long _ _ _ (tells-no _ (c .before .before .before .if1 .left) (c .before .before
+    .before .before .is-no-bytes .ensures)) refl (c .if3 .taken)
+
+get-digits-requires : tie.Need-get-digits-requires
+get-digits-requires c κs =
+    let text = (c .before .before .before .before .before .before .before .before) .args .text .now
+    in
+    let p : Paired text =
+    tells-yes (c .before .before .before .is-paired .result) (not-false (c .before .before .before
+    .is-paired .result) (c .before .before .if2 .left)) (c .before .before .before .is-paired
+    .ensures) in (
+      p .digits,
+      pairs-fill text ((c .before .before .before .before .before .before .before
+          .before) .args .out .now) (length text / 2 - 0) p (omega arith) (omega arith),
+    )
+
+returns-4 : tie.Need-returns-4
+returns-4 c =
+    let text = (c .before .before .before .before .before .before .before .before .before .before
+    .before) .args .text .now in
+    read-all _ _ _ _ (length text / 2 - 0) (tells-yes (c .before .before .before .before .before
+    .before .is-paired .result) (not-false (c .before .before .before .before .before .before
+    .is-paired .result) (c .before .before .before .before .before .if2 .left)) (c .before
+    .before .before .before .before .before .is-paired .ensures)) refl (omega arith) (c .before
+    .before .before .before .if3 .left) (c .before .before .get-digits .ensures)
+
+pub read-hex-spec : {M : Type 1} → statement M
+read-hex-spec =
+    tie.close
+    (tie.spec
+    (λ c κs. search needs)
+    returns
+    (λ c κs. search needs)
+    returns-2
+    returns-3
+    (λ c. search needs)
+    (λ c. search needs)
+    (λ c. search needs)
+    get-digits-requires
+    (λ c. search needs)
+    returns-4)
