@@ -1,0 +1,264 @@
+//! The site: sizes, boxes, links and mails; a fresh one; what is by form.
+
+use std::collections::VecDeque;
+
+/// left × 4,294,967,296 + right; 0 means no record.
+pub type Record = u64;
+
+pub const UNKNOWN: u32 = u32::MAX;
+pub const LAST_EPOCH: u32 = 1_000_000;
+pub const HIGHEST_PN: u32 = 999_999_999;
+
+#[derive(Clone, Copy, PartialEq, Eq, Debug)]
+pub enum State {
+    Recovering,
+    Active,
+    Updating,
+    UpdatingPrevious,
+    Refresh,
+}
+pub const STATES: [State; 5] =
+    [State::Recovering, State::Active, State::Updating, State::UpdatingPrevious, State::Refresh];
+
+#[derive(Clone, Copy, PartialEq, Eq, Debug)]
+pub enum Phase {
+    Election,
+    SendCollect,
+    Collect,
+    Lease,
+    Begin,
+    Commit,
+}
+pub const PHASES: [Phase; 6] = [
+    Phase::Election,
+    Phase::SendCollect,
+    Phase::Collect,
+    Phase::Lease,
+    Phase::Begin,
+    Phase::Commit,
+];
+
+#[derive(Clone, Copy, PartialEq, Eq, Debug)]
+pub enum Kind {
+    Collect = 1,
+    Last,
+    Begin,
+    Accept,
+    Commit,
+    Lease,
+}
+pub const KINDS: [Kind; 6] =
+    [Kind::Collect, Kind::Last, Kind::Begin, Kind::Accept, Kind::Commit, Kind::Lease];
+
+#[derive(Clone, Copy, PartialEq, Eq, Debug)]
+pub struct Sizes {
+    pub n: u32,
+    pub j: u32,
+    pub l: u32,
+}
+
+/// The best unagreed record heard; cleared, all three are 0.
+#[derive(Clone, Copy, PartialEq, Eq, Debug, Default)]
+pub struct Best {
+    pub pn: u32,
+    pub number: u32,
+    pub record: Record,
+}
+
+/// A box of the site (`Box` is a word of Rust's own).
+#[derive(Clone, PartialEq, Eq, Debug)]
+pub struct Camera {
+    pub leads: bool,
+    pub state: State,
+    pub phase: Phase,
+    pub pn: u32,
+    pub last: u32,
+    pub stored_pn: u32,
+    pub stored_number: u32,
+    pub best: Best,
+    pub replies: u32,
+    pub accepts: u32,
+    pub waiting: Record,
+    pub agreeing: Record,
+    pub peers: Vec<u32>,
+    pub records: Vec<Record>,
+}
+
+#[derive(Clone, PartialEq, Eq, Debug)]
+pub struct Mail {
+    pub kind: Kind,
+    pub pn: u32,
+    pub last: u32,
+    pub unagreed_pn: u32,
+    pub records: Vec<Record>,
+}
+
+#[derive(Clone, PartialEq, Eq, Debug)]
+pub struct Site {
+    pub sizes: Sizes,
+    pub epoch: u32,
+    /// Box k is the value 2^(k−1), here and in every other set.
+    pub present: u32,
+    boxes: Vec<Camera>,
+    links: Vec<VecDeque<Mail>>,
+}
+
+pub fn member(set: u32, k: u32) -> bool {
+    set >> (k - 1) & 1 == 1
+}
+
+pub fn only(k: u32) -> u32 {
+    1 << (k - 1)
+}
+
+pub fn everyone(n: u32) -> u32 {
+    (1 << n) - 1
+}
+
+pub fn majority(n: u32) -> u32 {
+    n / 2 + 1
+}
+
+pub fn proper(r: Record) -> bool {
+    r >> 32 != 0 && r & 0xffff_ffff != 0
+}
+
+impl Sizes {
+    pub fn in_range(&self) -> bool {
+        (1..=5).contains(&self.n) && (1..=4096).contains(&self.j) && (1..=16).contains(&self.l)
+    }
+}
+
+impl Camera {
+    pub fn fresh(n: u32) -> Camera {
+        Camera {
+            leads: false,
+            state: State::Recovering,
+            phase: Phase::Election,
+            pn: 0,
+            last: 0,
+            stored_pn: 0,
+            stored_number: 0,
+            best: Best::default(),
+            replies: 0,
+            accepts: 0,
+            waiting: 0,
+            agreeing: 0,
+            peers: vec![UNKNOWN; n as usize],
+            records: vec![],
+        }
+    }
+
+    /// The record at last+1, where it is held.
+    pub fn unagreed(&self) -> Option<Record> {
+        self.records.get(self.last as usize).copied()
+    }
+
+    /// Records 1 to last.
+    pub fn agreed(&self) -> &[Record] {
+        &self.records[..self.last as usize]
+    }
+}
+
+impl Site {
+    /// A fresh site: epoch 1, all present, links empty.
+    pub fn fresh(sizes: Sizes) -> Site {
+        let n = sizes.n;
+        Site {
+            sizes,
+            epoch: 1,
+            present: everyone(n),
+            boxes: vec![Camera::fresh(n); n as usize],
+            links: vec![VecDeque::new(); (n * n) as usize],
+        }
+    }
+
+    pub fn numbers(&self) -> std::ops::RangeInclusive<u32> {
+        1..=self.sizes.n
+    }
+
+    pub fn at(&self, c: u32) -> &Camera {
+        &self.boxes[c as usize - 1]
+    }
+
+    pub fn at_mut(&mut self, c: u32) -> &mut Camera {
+        &mut self.boxes[c as usize - 1]
+    }
+
+    fn place(&self, a: u32, b: u32) -> usize {
+        ((a - 1) * self.sizes.n + b - 1) as usize
+    }
+
+    pub fn link(&self, a: u32, b: u32) -> &VecDeque<Mail> {
+        &self.links[self.place(a, b)]
+    }
+
+    pub fn link_mut(&mut self, a: u32, b: u32) -> &mut VecDeque<Mail> {
+        let p = self.place(a, b);
+        &mut self.links[p]
+    }
+
+    /// Ordered pairs of different boxes, by sender and then receiver.
+    pub fn pairs(&self) -> Vec<(u32, u32)> {
+        let n = self.sizes.n;
+        (1..=n).flat_map(|a| (1..=n).filter(move |b| *b != a).map(move |b| (a, b))).collect()
+    }
+
+    pub fn clear_links(&mut self) {
+        self.links.iter_mut().for_each(VecDeque::clear);
+    }
+
+    pub fn leader(&self) -> Option<u32> {
+        self.numbers().find(|c| self.at(*c).leads)
+    }
+
+    pub fn by_form(&self) -> bool {
+        self.sizes.in_range()
+            && (1..=LAST_EPOCH).contains(&self.epoch)
+            && self.present <= everyone(self.sizes.n)
+            && self.boxes.iter().filter(|b| b.leads).count() <= 1
+            && self.numbers().all(|c| self.box_by_form(c))
+            && self.pairs().iter().all(|(a, b)| self.link_by_form(self.link(*a, *b)))
+    }
+
+    fn box_by_form(&self, c: u32) -> bool {
+        let Sizes { n, j, .. } = self.sizes;
+        let b = self.at(c);
+        let held = b.records.len() as u32;
+        [b.pn, b.stored_pn, b.best.pn].iter().all(|pn| *pn <= HIGHEST_PN)
+            && [b.last, b.stored_number, b.best.number].iter().all(|number| *number <= j)
+            && b.replies <= n
+            && b.accepts <= everyone(n)
+            && [b.best.record, b.waiting, b.agreeing].iter().all(|r| *r == 0 || proper(*r))
+            && self.numbers().all(|k| {
+                let last = b.peers[k as usize - 1];
+                last == UNKNOWN || (k != c && last <= j)
+            })
+            && (held == b.last || held == b.last + 1)
+            && held <= j
+            && b.records.iter().all(|r| proper(*r))
+    }
+
+    fn link_by_form(&self, link: &VecDeque<Mail>) -> bool {
+        link.len() <= self.sizes.l as usize && link.iter().all(|m| self.mail_by_form(m))
+    }
+
+    fn mail_by_form(&self, m: &Mail) -> bool {
+        let j = self.sizes.j;
+        let count = m.records.len() as u32;
+        let told = m.kind == Kind::Last && count == m.last + 1;
+        m.pn <= HIGHEST_PN
+            && m.last <= j
+            && m.unagreed_pn <= HIGHEST_PN
+            && (m.unagreed_pn == 0 || told)
+            && count <= j
+            && m.records.iter().all(|r| proper(*r))
+            && match m.kind {
+                Kind::Last => count == m.last || told,
+                Kind::Commit => count == m.last,
+                Kind::Begin => count == 1 && m.last < j,
+                Kind::Lease => count == 0 && m.pn == 0,
+                Kind::Collect | Kind::Accept => count == 0,
+            }
+    }
+}

@@ -1,0 +1,169 @@
+//! Trace lines, the replayer, and `apply`: one step on an image.
+
+use crate::image;
+use crate::rules::*;
+use crate::site::*;
+
+pub enum Line {
+    Site(Sizes),
+    Call(Call),
+    Holds(u32, u32, u32, u32),
+}
+
+const LONGEST_LINE: usize = 64;
+const LONGEST_IMAGE: usize = 65_536;
+
+fn decimal(word: &[u8]) -> Option<u32> {
+    let plain =
+        word.iter().all(u8::is_ascii_digit) && (word.len() == 1 || word.first() != Some(&b'0'));
+    if plain { std::str::from_utf8(word).ok()?.parse().ok() } else { None }
+}
+
+/// A line without its newline; None where it is unreadable.
+pub fn read_line(line: &[u8]) -> Option<Line> {
+    if line.len() > LONGEST_LINE {
+        return None;
+    }
+    let mut words = line.split(|byte| *byte == b' ');
+    let name = words.next()?;
+    let numbers: Vec<u32> = words.map(decimal).collect::<Option<_>>()?;
+    Some(match (name, &numbers[..]) {
+        (b"site", &[n, j, l]) => Line::Site(Sizes { n, j, l }),
+        (b"holds", &[c, k, left, right]) => Line::Holds(c, k, left, right),
+        (b"elect", &[c]) => Line::Call(Call::Elect(c)),
+        (b"recover", &[c]) => Line::Call(Call::Recover(c)),
+        (b"collect", &[c]) => Line::Call(Call::Collect(c)),
+        (b"ready", &[c]) => Line::Call(Call::Ready(c)),
+        (b"offer", &[c, left, right]) => Line::Call(Call::Offer(c, left, right)),
+        (b"propose", &[c]) => Line::Call(Call::Propose(c)),
+        (b"agree", &[c]) => Line::Call(Call::Agree(c)),
+        (b"finish", &[c]) => Line::Call(Call::Finish(c)),
+        (b"stop", &[c]) => Line::Call(Call::Stop(c)),
+        (b"return", &[c]) => Line::Call(Call::Return(c)),
+        (b"timeout", &[c]) => Line::Call(Call::Timeout(c)),
+        (b"lose", &[a, b]) => Line::Call(Call::Lose(a, b)),
+        (b"mail", &[a, b]) => Line::Call(Call::Deliver(a, b)),
+        _ => return None,
+    })
+}
+
+pub fn call_text(call: Call) -> String {
+    match call {
+        Call::Elect(c) => format!("elect {c}"),
+        Call::Recover(c) => format!("recover {c}"),
+        Call::Collect(c) => format!("collect {c}"),
+        Call::Ready(c) => format!("ready {c}"),
+        Call::Offer(c, left, right) => format!("offer {c} {left} {right}"),
+        Call::Propose(c) => format!("propose {c}"),
+        Call::Agree(c) => format!("agree {c}"),
+        Call::Finish(c) => format!("finish {c}"),
+        Call::Stop(c) => format!("stop {c}"),
+        Call::Return(c) => format!("return {c}"),
+        Call::Timeout(c) => format!("timeout {c}"),
+        Call::Lose(a, b) => format!("lose {a} {b}"),
+        Call::Deliver(a, b) => format!("mail {a} {b}"),
+    }
+}
+
+/// The lines of an input; the last is None where no newline ends it.
+fn lines(input: &[u8]) -> impl Iterator<Item = Option<&[u8]>> {
+    input.split_inclusive(|byte| *byte == b'\n').map(|line| line.strip_suffix(b"\n"))
+}
+
+fn replay_line(site: &mut Option<Site>, line: Option<&[u8]>, fault: Fault) -> Result<(), Refusal> {
+    let line = line.and_then(read_line).ok_or(11u32)?;
+    match (site, line) {
+        (site @ None, Line::Site(sizes)) => {
+            if !sizes.in_range() || sizes.j > 32 || sizes.l > 8 {
+                return Err(13);
+            }
+            *site = Some(Site::fresh(sizes));
+        }
+        (Some(site), Line::Call(call)) => {
+            step_with(site, call, fault)?;
+        }
+        (Some(site), Line::Holds(c, k, left, right)) => {
+            holds(site, c, k, left, right)?;
+        }
+        _ => return Err(11),
+    }
+    Ok(())
+}
+
+/// What a replay of this input prints.
+pub fn replay(input: &[u8], fault: Fault) -> Vec<u8> {
+    let mut out = String::new();
+    let mut site = None;
+    for (k, line) in (1u64..).zip(lines(input)) {
+        let line = if k > u32::MAX as u64 { None } else { line };
+        if let Err(refusal) = replay_line(&mut site, line, fault) {
+            out += &format!("{k} refused {refusal}\n");
+            break;
+        }
+        let site = site.as_ref().unwrap();
+        out += &format!("{k} {}", site.epoch);
+        site.numbers().for_each(|c| out += &format!(" {}", site.at(c).last));
+        out += "\n";
+    }
+    out.into_bytes()
+}
+
+pub fn hex(bytes: &[u8]) -> String {
+    if bytes.is_empty() {
+        return "-".into();
+    }
+    bytes.iter().map(|byte| format!("{byte:02x}")).collect()
+}
+
+fn unhex(text: &[u8]) -> Option<Vec<u8>> {
+    if text == b"-" {
+        return Some(vec![]);
+    }
+    let digit = |d: u8| match d {
+        b'0'..=b'9' => Some(d - b'0'),
+        b'a'..=b'f' => Some(d - b'a' + 10),
+        _ => None,
+    };
+    if text.is_empty() || text.len() % 2 == 1 || text.len() > 2 * LONGEST_IMAGE {
+        return None;
+    }
+    text.chunks(2).map(|pair| Some(digit(pair[0])? << 4 | digit(pair[1])?)).collect()
+}
+
+fn apply_line(line: Option<&[u8]>, fault: Fault) -> Result<String, Refusal> {
+    let line = line.ok_or(11u32)?;
+    let space = line.iter().position(|byte| *byte == b' ').ok_or(11u32)?;
+    let bytes = unhex(&line[..space]).ok_or(11u32)?;
+    let words = read_line(&line[space + 1..]).ok_or(11u32)?;
+    if matches!(words, Line::Site(_)) {
+        return Err(11);
+    }
+    let mut site = image::read(&bytes).ok_or(1u32)?;
+    let answer = match words {
+        Line::Site(_) => unreachable!(),
+        Line::Call(call) => step_with(&mut site, call, fault)?,
+        Line::Holds(c, k, left, right) => holds(&site, c, k, left, right)?,
+    };
+    let word = match answer {
+        Answer::Done => "done",
+        Answer::Taken => "taken",
+        Answer::Discarded(Cause::Role) => "discarded role",
+        Answer::Discarded(Cause::Phase) => "discarded phase",
+        Answer::Discarded(Cause::Number) => "discarded number",
+        Answer::Discarded(Cause::Place) => "discarded place",
+    };
+    Ok(format!("{word} {}", hex(&image::write(&site))))
+}
+
+/// What `apply` prints for this input: one line for each line.
+pub fn apply(input: &[u8], fault: Fault) -> Vec<u8> {
+    let mut out = String::new();
+    for line in lines(input) {
+        match apply_line(line, fault) {
+            Ok(text) => out += &text,
+            Err(refusal) => out += &format!("refused {refusal}"),
+        }
+        out += "\n";
+    }
+    out.into_bytes()
+}
