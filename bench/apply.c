@@ -1,0 +1,57 @@
+/* `apply` in plain C: one step on an image, a line each. It shows that the plain engine, writer and
+   reader keep the paper's rules: bench/run compares them before it measures them. */
+#include "lines.h"
+
+#define LONGEST_IMAGE 65536
+
+static struct site site;
+static u8 image[LONGEST_IMAGE + 4 * (20 + 8 * J_MAX)];
+
+static void refuse(u32 refusal) {
+    put_text("refused ");
+    put_number(refusal);
+    put_byte('\n');
+}
+
+static int digit(u8 d) {
+    if (d >= '0' && d <= '9') return d - '0';
+    return d >= 'a' && d <= 'f' ? d - 'a' + 10 : -1;
+}
+
+static u32 apply_line(const u8 *p, u64 length, u64 number) {
+    struct line line;
+    u64 space = 0, bytes = 0;
+    (void)number;
+    while (p && space < length && p[space] != ' ') space++;
+    u32 readable = p && space < length && space && read_line(&line, p + space + 1, length - space - 1);
+    if (readable && line.call == SITE) readable = 0;
+    if (readable && !(space == 1 && p[0] == '-')) {
+        if (space % 2 || space > 2 * LONGEST_IMAGE) readable = 0;
+        for (; readable && bytes < space / 2; bytes++) {
+            int high = digit(p[2 * bytes]), low = digit(p[2 * bytes + 1]);
+            if (high < 0 || low < 0) readable = 0;
+            image[bytes] = (u8)(high << 4 | low);
+        }
+    }
+    if (!readable) return refuse(11), 1;
+    if (image_read(&site, image, bytes)) return refuse(1), 1;
+    u32 answer = answer_line(&site, &line);
+    if (is_refusal(answer)) return refuse(answer), 1;
+    static const char *const WORD[] = {"taken ", "discarded role ", "discarded phase ",
+                                       "discarded number ", "discarded place "};
+    put_text(answer == DONE ? "done " : WORD[answer - TAKEN]);
+    u64 after = image_length(&site);
+    image_write(&site, image);
+    for (u64 i = 0; i < after; i++) {
+        put_byte((u8)"0123456789abcdef"[image[i] >> 4]);
+        put_byte((u8)"0123456789abcdef"[image[i] & 15]);
+    }
+    put_byte('\n');
+    return 1;
+}
+
+int main(void) {
+    each_line(apply_line);
+    flush();
+    return 0;
+}

@@ -1,0 +1,39 @@
+/* The replayer in plain C. */
+#include "lines.h"
+
+static struct site site;
+
+/* 1 while the replay goes on. */
+static u32 replay_line(const u8 *p, u64 length, u64 number) {
+    struct line line;
+    u32 answer = 11;
+    if (read_line(&line, p, length) && number <= 4294967295u && (number == 1) == (line.call == SITE)) {
+        if (line.call != SITE)
+            answer = answer_line(&site, &line);
+        else if (line.a < 1 || line.a > 5 || line.b < 1 || line.b > 32 || line.c < 1 || line.c > 8)
+            answer = 13;
+        else
+            fresh(&site, line.a, line.b, line.c), answer = DONE;
+    }
+    put_number(number);
+    if (is_refusal(answer)) {
+        put_text(" refused ");
+        put_number(answer);
+        put_byte('\n');
+        return 0;
+    }
+    put_byte(' ');
+    put_number(site.epoch);
+    for (u32 c = 0; c < site.n; c++) {
+        put_byte(' ');
+        put_number(site.boxes[c].last);
+    }
+    put_byte('\n');
+    return 1;
+}
+
+int main(void) {
+    each_line(replay_line);
+    flush();
+    return 0;
+}
