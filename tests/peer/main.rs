@@ -2,20 +2,29 @@
 //!
 //!     peer replay            the replayer, standard input to standard output
 //!     peer apply             one step on an image, a line each
+//!     peer compare-replay    random traces to this and to another program, command=SHELL
+//!     peer compare-apply     random image steps to both
+//!     peer walk              long random walks with demand 3 looked at, and broken rules noticed
+//!     peer faults            the names of the broken rules
 //!
-//! A word `fault=NAME` breaks one rule on purpose.
+//! `fault=NAME` breaks a rule on purpose; a walk then shows the shortest trace. `seed=N`, and
+//! `count=N` or `walks=N steps=N`, say which random inputs and how many.
 
+mod compare;
 mod image;
+mod random;
 mod rules;
+mod shrink;
 mod site;
 mod trace;
+mod walk;
 
-use rules::{FAULTS, Fault};
+use rules::{Fault, FAULTS};
 use std::io::{Read, Write};
 use std::process::ExitCode;
 
 fn fault_named(name: &str) -> Option<Fault> {
-    FAULTS.iter().find(|(_, n)| *n == name).map(|(fault, _)| *fault)
+    FAULTS.iter().find(|(_, n, _)| *n == name).map(|(fault, ..)| *fault)
 }
 
 fn filter(work: fn(&[u8], Fault) -> Vec<u8>, fault: Fault) -> ExitCode {
@@ -27,18 +36,54 @@ fn filter(work: fn(&[u8], Fault) -> Vec<u8>, fault: Fault) -> ExitCode {
     }
 }
 
+fn status(good: bool) -> ExitCode {
+    if good {
+        ExitCode::SUCCESS
+    } else {
+        ExitCode::FAILURE
+    }
+}
+
+/// The right rules on long walks; each broken rule on many short ones.
+fn walks(seed: u64, walks: u64, steps: u32, fault: Fault) -> ExitCode {
+    let broken = |(fault, name, _), tell| walk::broken(seed, 100_000, 400, fault, name, tell);
+    if let Some(one) = FAULTS.iter().find(|(f, ..)| *f == fault) {
+        return status(broken(*one, true));
+    }
+    let mut good = walk::right(seed, walks, steps);
+    for one in FAULTS {
+        good &= broken(one, false);
+    }
+    status(good)
+}
+
 fn main() -> ExitCode {
     let words: Vec<String> = std::env::args().skip(1).collect();
     let value = |name: &str| {
         words.iter().find_map(|w| w.strip_prefix(name).and_then(|w| w.strip_prefix('=')))
     };
+    let number = |name, usual| value(name).map_or(usual, |text| text.parse().expect("a number"));
     let fault =
         value("fault").map_or(Fault::None, |name| fault_named(name).expect("a fault's name"));
-    match words.first().map(String::as_str) {
-        Some("replay") => filter(trace::replay, fault),
-        Some("apply") => filter(trace::apply, fault),
+    let (command, seed) = (value("command"), number("seed", 1));
+    match (words.first().map(String::as_str), command) {
+        (Some("replay"), _) => filter(trace::replay, fault),
+        (Some("apply"), _) => filter(trace::apply, fault),
+        (Some("compare-replay"), Some(other)) => {
+            status(compare::replays(other, seed, number("count", 300)))
+        }
+        (Some("compare-apply"), Some(other)) => {
+            status(compare::applies(other, seed, number("count", 6000)))
+        }
+        (Some("faults"), _) => {
+            FAULTS.iter().for_each(|(_, name, _)| println!("{name}"));
+            ExitCode::SUCCESS
+        }
+        (Some("walk"), _) => walks(seed, number("walks", 2000), number("steps", 500) as u32, fault),
         _ => {
-            eprintln!("usage: peer replay|apply [fault=NAME]");
+            eprintln!(
+                "usage: peer replay|apply|walk|faults|compare-replay|compare-apply [NAME=VALUE ..]"
+            );
             ExitCode::FAILURE
         }
     }

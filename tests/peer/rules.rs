@@ -48,13 +48,17 @@ pub enum Fault {
     FirstHeard,
     SharedBeforeStored,
 }
-pub const FAULTS: [(Fault, &str); 6] = [
-    (Fault::MajorityOfPresent, "majority-of-present"),
-    (Fault::MajorityOfSite, "majority-of-site"),
-    (Fault::PromiseClearedAtStop, "promise-cleared-at-stop"),
-    (Fault::PromisedInLast, "promised-in-last"),
-    (Fault::FirstHeard, "first-heard"),
-    (Fault::SharedBeforeStored, "shared-before-stored"),
+
+/// Each fault, its name, and whether it breaks demand 3 itself. Two do not: with a majority of all n
+/// the accepts still meet every later election, and a box that was told late is told at the next
+/// one. What they break is the rule's own sentence, and that is looked at instead.
+pub const FAULTS: [(Fault, &str, bool); 6] = [
+    (Fault::MajorityOfPresent, "majority-of-present", true),
+    (Fault::MajorityOfSite, "majority-of-site", false),
+    (Fault::PromiseClearedAtStop, "promise-cleared-at-stop", true),
+    (Fault::PromisedInLast, "promised-in-last", true),
+    (Fault::FirstHeard, "first-heard", true),
+    (Fault::SharedBeforeStored, "shared-before-stored", false),
 ];
 
 /// What a box sees of its site.
@@ -82,12 +86,20 @@ fn taken(next: Camera, out: Vec<(u32, Mail)>) -> Result<Turn, Refusal> {
 }
 
 fn needs(condition: bool) -> Result<(), Refusal> {
-    if condition { Ok(()) } else { Err(3) }
+    if condition {
+        Ok(())
+    } else {
+        Err(3)
+    }
 }
 
 pub fn new_pn(old: u32, rank: u32) -> Result<u32, Refusal> {
     let new = (old / 100 + 1) * 100 + rank;
-    if new > HIGHEST_PN { Err(6) } else { Ok(new) }
+    if new > HIGHEST_PN {
+        Err(6)
+    } else {
+        Ok(new)
+    }
 }
 
 impl Around {
@@ -95,7 +107,7 @@ impl Around {
         self.present.count_ones()
     }
 
-    fn others(&self, c: u32) -> impl Iterator<Item = u32> + use<> {
+    fn others(&self, c: u32) -> impl Iterator<Item = u32> {
         let present = self.present;
         (1..=self.n).filter(move |k| *k != c && member(present, *k))
     }
@@ -154,7 +166,11 @@ impl Camera {
     /// The pn under which the record at last+1 was stored; 0 where there is none.
     fn unagreed_pn(&self) -> u32 {
         let stored = self.unagreed().is_some() && self.stored_number == self.last + 1;
-        if stored { self.stored_pn } else { 0 }
+        if stored {
+            self.stored_pn
+        } else {
+            0
+        }
     }
 
     fn take_records(&mut self, mail: &Mail) {
@@ -387,7 +403,11 @@ impl Camera {
     }
 }
 
-/// One step of a site by form, under a fault or none; a refusal leaves the site as it was.
+/// One step of a site by form; a refusal leaves it as it was.
+pub fn step(site: &mut Site, call: Call) -> Result<Answer, Refusal> {
+    step_with(site, call, Fault::None)
+}
+
 pub fn step_with(site: &mut Site, call: Call, fault: Fault) -> Result<Answer, Refusal> {
     let n = site.sizes.n;
     let on_site = |c: u32| (1..=n).contains(&c);
@@ -472,7 +492,11 @@ fn next_epoch(site: &mut Site) -> Result<Answer, Refusal> {
 }
 
 fn next_epoch_if_even(site: &mut Site) -> Result<Answer, Refusal> {
-    if site.epoch % 2 == 0 { next_epoch(site) } else { Ok(Answer::Done) }
+    if site.epoch % 2 == 0 {
+        next_epoch(site)
+    } else {
+        Ok(Answer::Done)
+    }
 }
 
 fn deliver(site: &mut Site, a: u32, b: u32, around: Around) -> Result<Answer, Refusal> {
@@ -491,5 +515,9 @@ pub fn holds(site: &Site, c: u32, k: u32, left: u32, right: u32) -> Result<Answe
     }
     let r = (left as u64) << 32 | right as u64;
     let agreed = site.at(c).agreed();
-    if k >= 1 && agreed.get(k as usize - 1) == Some(&r) { Ok(Answer::Done) } else { Err(14) }
+    if k >= 1 && agreed.get(k as usize - 1) == Some(&r) {
+        Ok(Answer::Done)
+    } else {
+        Err(14)
+    }
 }

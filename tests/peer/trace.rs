@@ -16,7 +16,11 @@ const LONGEST_IMAGE: usize = 65_536;
 fn decimal(word: &[u8]) -> Option<u32> {
     let plain =
         word.iter().all(u8::is_ascii_digit) && (word.len() == 1 || word.first() != Some(&b'0'));
-    if plain { std::str::from_utf8(word).ok()?.parse().ok() } else { None }
+    if plain {
+        std::str::from_utf8(word).ok()?.parse().ok()
+    } else {
+        None
+    }
 }
 
 /// A line without its newline; None where it is unreadable.
@@ -65,7 +69,12 @@ pub fn call_text(call: Call) -> String {
     }
 }
 
-/// The lines of an input; the last is None where no newline ends it.
+/// The lines of an input, each with its newline.
+pub fn lines_of(input: &[u8]) -> Vec<Vec<u8>> {
+    input.split_inclusive(|byte| *byte == b'\n').map(<[u8]>::to_vec).collect()
+}
+
+/// The lines without their newlines; the last is None where no newline ends it.
 fn lines(input: &[u8]) -> impl Iterator<Item = Option<&[u8]>> {
     input.split_inclusive(|byte| *byte == b'\n').map(|line| line.strip_suffix(b"\n"))
 }
@@ -115,7 +124,7 @@ pub fn hex(bytes: &[u8]) -> String {
     bytes.iter().map(|byte| format!("{byte:02x}")).collect()
 }
 
-fn unhex(text: &[u8]) -> Option<Vec<u8>> {
+pub fn unhex(text: &[u8]) -> Option<Vec<u8>> {
     if text == b"-" {
         return Some(vec![]);
     }

@@ -1,0 +1,193 @@
+//! Long random walks with demand 3 looked at after every step, and the same walks under broken
+//! rules: each of them must be noticed.
+
+use crate::random::*;
+use crate::rules::*;
+use crate::shrink::fewest;
+use crate::site::*;
+use crate::trace::call_text;
+use std::collections::HashSet;
+
+/// What has been agreed so far, over all boxes, and which offers were accepted.
+#[derive(Default)]
+struct Journal {
+    agreed: Vec<Record>,
+    offers: HashSet<Record>,
+    lasts: Vec<u32>,
+}
+
+impl Journal {
+    /// Demand 3: the same record at every box, numbers from 1 without a hole that never shrink and
+    /// never change, each from one accepted offer, and no offer at two numbers.
+    fn look(&mut self, site: &Site) -> Result<(), String> {
+        self.lasts.resize(site.sizes.n as usize, 0);
+        for c in site.numbers() {
+            let (own, before) = (site.at(c).agreed(), &mut self.lasts[c as usize - 1]);
+            if site.at(c).last < *before {
+                return Err(format!("box {c}: {before} were agreed, now {}", own.len()));
+            }
+            *before = site.at(c).last;
+            for (k, r) in own.iter().enumerate() {
+                let name = format_args!("{} {}", r >> 32, *r as u32).to_string();
+                match self.agreed.get(k) {
+                    Some(known) if known == r => {}
+                    Some(_) => return Err(format!("two records agreed as number {}", k + 1)),
+                    None if !self.offers.contains(r) => {
+                        return Err(format!("{name} is agreed, and no offer"));
+                    }
+                    None if self.agreed.contains(r) => {
+                        return Err(format!("offer {name} fills two numbers"));
+                    }
+                    None => self.agreed.push(*r),
+                }
+            }
+        }
+        Ok(())
+    }
+}
+
+/// What a step's own rule makes visible, beyond demand 3: a record is agreed once all present hold
+/// it, and a Last leaves no present box behind that is known to lag.
+fn look_at_rule(site: &Site, call: Call, answer: Answer, last: u32) -> Result<(), String> {
+    let c = match call {
+        Call::Agree(c) | Call::Deliver(_, c) => c,
+        _ => return Ok(()),
+    };
+    let own = site.at(c);
+    let present = || site.numbers().filter(|k| *k != c && member(site.present, *k));
+    if matches!(call, Call::Agree(_)) {
+        let r = own.records[own.last as usize - 1];
+        if present().any(|k| site.at(k).records.get(own.last as usize - 1) != Some(&r)) {
+            return Err(format!(
+                "number {} is agreed, and a present box does not hold it",
+                own.last
+            ));
+        }
+    } else if answer == Answer::Taken && own.leads && own.last > last {
+        let shared = |k: u32| site.link(c, k).back().is_some_and(|m| m.records == own.agreed());
+        let lags = |k: u32| own.peers[k as usize - 1] < own.last;
+        if present().any(|k| lags(k) && !shared(k)) {
+            return Err("a box is known to lag, and the new records are not on their way".into());
+        }
+    }
+    Ok(())
+}
+
+#[derive(Default)]
+pub struct Told {
+    steps: u64,
+    agreed: u64,
+    elections: u64,
+    recovered: u64,
+    shared: u64,
+}
+
+/// Plays calls from a fresh site until something is wrong; refused calls leave the site.
+fn play(
+    sizes: Sizes,
+    calls: impl FnMut(&Site) -> Option<Call>,
+    fault: Fault,
+) -> (Told, Option<String>) {
+    let mut calls = calls;
+    let mut site = Site::fresh(sizes);
+    let mut journal = Journal::default();
+    let mut told = Told::default();
+    let demand_alone = FAULTS.iter().any(|(f, _, breaks)| *f == fault && *breaks);
+    while let Some(call) = calls(&site) {
+        let watched = if let Call::Deliver(_, c) = call { site.at(c).last } else { 0 };
+        let Ok(answer) = step_with(&mut site, call, fault) else { continue };
+        if let Call::Offer(_, left, right) = call {
+            journal.offers.insert((left as u64) << 32 | right as u64);
+        }
+        told.steps += 1;
+        told.elections += matches!(call, Call::Elect(_)) as u64;
+        told.recovered +=
+            matches!(call, Call::Ready(c) if site.at(c).state == State::UpdatingPrevious) as u64;
+        told.shared += matches!(call, Call::Deliver(_, c) if site.at(c).last > watched + 1) as u64;
+        let looked = if site.by_form() { Ok(()) } else { Err("not by form".to_string()) };
+        let looked = looked.and_then(|()| journal.look(&site)).and_then(|()| {
+            if demand_alone {
+                Ok(())
+            } else {
+                look_at_rule(&site, call, answer, watched)
+            }
+        });
+        if let Err(wrong) = looked {
+            return (told, Some(wrong));
+        }
+    }
+    told.agreed = journal.agreed.len() as u64;
+    (told, None)
+}
+
+/// One walk of its own seed; the calls that were made, and what was wrong.
+fn walk(seed: u64, steps: u32, fault: Fault) -> (Sizes, Vec<Call>, Told, Option<String>) {
+    let mut r = Random::new(seed);
+    let sizes =
+        Sizes { n: r.pick(&[2, 3, 3, 4, 5, 5]), j: r.pick(&[2, 4, 12]), l: r.pick(&[1, 3, 8]) };
+    let style = Style::random(&mut r, sizes.n);
+    let mut made = vec![];
+    let next = |site: &Site| {
+        let frame = made.len() as u32 + 1;
+        let call = likely_call(site, &mut r, &style, frame);
+        made.push(call);
+        (frame < steps).then_some(call)
+    };
+    let (told, wrong) = play(sizes, next, fault);
+    (sizes, made, told, wrong)
+}
+
+fn replayed(sizes: Sizes, calls: &[Call], fault: Fault) -> Option<String> {
+    let mut calls = calls.iter().copied();
+    play(sizes, |_| calls.next(), fault).1
+}
+
+/// Under the right rules nothing may be wrong.
+pub fn right(seed: u64, walks: u64, steps: u32) -> bool {
+    let mut all = Told::default();
+    for k in 0..walks {
+        let (sizes, calls, told, wrong) = walk(seed + k, steps, Fault::None);
+        if let Some(wrong) = wrong {
+            println!("walk {}: {wrong}", seed + k);
+            show(sizes, &calls, Fault::None);
+            return false;
+        }
+        all.steps += told.steps;
+        all.agreed += told.agreed;
+        all.elections += told.elections;
+        all.recovered += told.recovered;
+        all.shared += told.shared;
+    }
+    let Told { steps, agreed, elections, recovered, shared } = all;
+    println!("{walks} walks from seed {seed}, {steps} steps: demand 3 and form held after each");
+    println!(
+        "  {elections} elections, {agreed} loads agreed, {recovered} started again, {shared} times a box caught up by two or more"
+    );
+    agreed > walks && recovered > walks / 10 && shared > 0
+}
+
+/// Under a broken rule some walk must go wrong.
+pub fn broken(seed: u64, walks: u64, steps: u32, fault: Fault, name: &str, tell: bool) -> bool {
+    for k in 0..walks {
+        let (sizes, calls, _, wrong) = walk(seed + k, steps, fault);
+        if let Some(wrong) = wrong {
+            let fewer =
+                fewest(&calls, |calls| replayed(sizes, calls, fault).as_ref() == Some(&wrong));
+            println!("{name}: noticed in walk {}, {} calls: {wrong}", seed + k, fewer.len());
+            if tell {
+                show(sizes, &fewer, fault);
+            }
+            return true;
+        }
+    }
+    println!("{name}: NOT noticed in {walks} walks from seed {seed}");
+    false
+}
+
+/// The trace, ready for a replay.
+fn show(sizes: Sizes, calls: &[Call], fault: Fault) {
+    let wrong = replayed(sizes, calls, fault);
+    let fewer = fewest(calls, |calls| replayed(sizes, calls, fault) == wrong);
+    println!("site {} {} {}", sizes.n, sizes.j, sizes.l);
+    fewer.iter().for_each(|call| println!("{}", call_text(*call)));
+}
