@@ -23,7 +23,8 @@ static u32 apply_line(const u8 *p, u64 length, u64 number) {
     u64 space = 0, bytes = 0;
     (void)number;
     while (p && space < length && p[space] != ' ') space++;
-    u32 readable = p && space < length && space && read_line(&line, p + space + 1, length - space - 1);
+    u32 readable = p && space && space < length;
+    if (readable) readable = read_line(&line, p + space + 1, length - space - 1);
     if (readable && line.call == SITE) readable = 0;
     if (readable && !(space == 1 && p[0] == '-')) {
         if (space % 2 || space > 2 * LONGEST_IMAGE) readable = 0;

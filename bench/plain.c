@@ -167,7 +167,8 @@ static u32 propose(struct site *s, u32 c, struct camera *b) {
 }
 
 static u32 agree(struct site *s, u32 c, struct camera *b) {
-    if (b->phase != BEGIN_PHASE || (b->state != UPDATING && b->state != UPDATING_PREVIOUS)) return 3;
+    if (b->phase != BEGIN_PHASE) return 3;
+    if (b->state != UPDATING && b->state != UPDATING_PREVIOUS) return 3;
     if ((b->accepts & s->present) != s->present || b->held == b->last) return 3;
     if (full(s, c, others(s, c))) return 8;
     b->last++;

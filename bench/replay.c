@@ -7,7 +7,8 @@ static struct site site;
 static u32 replay_line(const u8 *p, u64 length, u64 number) {
     struct line line;
     u32 answer = 11;
-    if (read_line(&line, p, length) && number <= 4294967295u && (number == 1) == (line.call == SITE)) {
+    u32 readable = read_line(&line, p, length) && number <= 4294967295u;
+    if (readable && (number == 1) == (line.call == SITE)) {
         if (line.call != SITE)
             answer = answer_line(&site, &line);
         else if (line.a < 1 || line.a > 5 || line.b < 1 || line.b > 32 || line.c < 1 || line.c > 8)

@@ -1,4 +1,4 @@
-//! The load journal a second time, from the paper alone: what the proved programs are compared with.
+//! The load journal a second time, from the paper alone: the proved programs are compared with it.
 //!
 //!     peer replay            the replayer, standard input to standard output
 //!     peer apply             one step on an image, a line each

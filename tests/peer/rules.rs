@@ -49,9 +49,9 @@ pub enum Fault {
     SharedBeforeStored,
 }
 
-/// Each fault, its name, and whether it breaks demand 3 itself. Two do not: with a majority of all n
-/// the accepts still meet every later election, and a box that was told late is told at the next
-/// one. What they break is the rule's own sentence, and that is looked at instead.
+/// Each fault, its name, and whether it breaks demand 3 itself. Two do not: with a majority of all
+/// n the accepts still meet every later election, and a box that was told too little is told the
+/// rest at the next one. They break the rule's own sentence, and that is looked at instead.
 pub const FAULTS: [(Fault, &str, bool); 6] = [
     (Fault::MajorityOfPresent, "majority-of-present", true),
     (Fault::MajorityOfSite, "majority-of-site", false),

@@ -160,9 +160,8 @@ pub fn right(seed: u64, walks: u64, steps: u32) -> bool {
     }
     let Told { steps, agreed, elections, recovered, shared } = all;
     println!("{walks} walks from seed {seed}, {steps} steps: demand 3 and form held after each");
-    println!(
-        "  {elections} elections, {agreed} loads agreed, {recovered} started again, {shared} times a box caught up by two or more"
-    );
+    println!("  {elections} elections, {agreed} loads agreed, {recovered} started again,");
+    println!("  {shared} times a box caught up by two or more");
     agreed > walks && recovered > walks / 10 && shared > 0
 }
 

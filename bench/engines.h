@@ -1,0 +1,16 @@
+/* The two engines under one set of names. */
+#ifndef ENGINES_H
+#define ENGINES_H
+#include "plain.h"
+
+struct engine {
+    u32 (*fresh)(u32 n, u32 j, u32 l);
+    u32 (*step)(u32 call, u32 a, u32 b, u32 c);
+    u32 (*write)(u8 *image, u64 length);
+    u32 (*read)(const u8 *image, u64 length);
+};
+
+extern struct site site;
+extern const struct engine PLAIN, JOURNAL;
+
+#endif

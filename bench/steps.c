@@ -1,0 +1,160 @@
+/* Times steps, image writes and image reads of the plain C engine and of the journal library: one
+   line each, 'NAME<tab>UNIT<tab>plain<tab>journal', the medians of rounds in turn. */
+#include "plain.h"
+#include "engines.h"
+
+struct timespec {
+    long seconds, nanoseconds;
+};
+int clock_gettime(int clock, struct timespec *now);
+int printf(const char *format, ...);
+void *malloc(u64 size);
+void exit(int status);
+
+#define ROUNDS 9
+#define ROUND_NANOSECONDS 20000000
+
+static double now(void) {
+    struct timespec t;
+    clock_gettime(1, &t);
+    return (double)t.seconds * 1e9 + (double)t.nanoseconds;
+}
+
+static void must(u32 fine, const char *what) {
+    if (fine) return;
+    printf("steps: %s\n", what);
+    exit(1);
+}
+
+static void calls(const struct engine *e, u32 call, u32 a, u32 b, u32 c) {
+    u32 answer = e->step(call, a, b, c);
+    must(answer == DONE || answer == TAKEN, "a call was not done");
+}
+
+static u32 n;
+
+static void hand_out(const struct engine *e) {
+    for (u32 k = 2; k <= n; k++) calls(e, DELIVER, 1, k, 0);
+}
+
+static void round_trip(const struct engine *e) {
+    for (u32 k = 2; k <= n; k++) calls(e, DELIVER, 1, k, 0), calls(e, DELIVER, k, 1, 0);
+}
+
+/* From an odd epoch until all have the lease: 3n + 1 steps. */
+static void election(const struct engine *e) {
+    calls(e, ELECT, 1, 0, 0), calls(e, RECOVER, 1, 0, 0), calls(e, COLLECT_CALL, 1, 0, 0);
+    round_trip(e);
+    calls(e, READY, 1, 0, 0);
+    hand_out(e);
+}
+
+/* 4n steps. */
+static void load(const struct engine *e, u32 k) {
+    calls(e, OFFER, 1, k, k), calls(e, PROPOSE, 1, 0, 0);
+    round_trip(e);
+    calls(e, AGREE, 1, 0, 0);
+    hand_out(e);
+    calls(e, FINISH, 1, 0, 0);
+    hand_out(e);
+}
+
+static u8 *image;
+static u64 length;
+
+/* A small site from its first step to its full book: 10 steps and 4 loads of 12. */
+static void do_life(const struct engine *e) {
+    must(e->fresh(3, 4, 2) == DONE, "a fresh site");
+    election(e);
+    for (u32 k = 1; k <= 4; k++) load(e, k);
+}
+static void do_election(const struct engine *e) {
+    calls(e, TIMEOUT, 1, 0, 0);
+    election(e);
+}
+static void do_read(const struct engine *e) { must(e->read(image, length) == DONE, "a read"); }
+static void do_write(const struct engine *e) { must(e->write(image, length) == DONE, "a write"); }
+static void do_copy(const struct engine *e) {
+    static u8 *other;
+    if (!other) other = malloc(length);
+    (void)e;
+    __builtin_memcpy(other, image, length);
+    __asm__ volatile("" : : "r"(other) : "memory");
+}
+
+/* Nanoseconds for one doing, over a round. */
+static double round_of(const struct engine *e, void (*act)(const struct engine *)) {
+    double began = now(), ended;
+    u64 count = 0;
+    do act(e), count++, ended = now();
+    while (ended - began < ROUND_NANOSECONDS);
+    return (ended - began) / (double)count;
+}
+
+static double median(double *of) {
+    for (u32 i = 1; i < ROUNDS; i++)
+        for (u32 k = i; k && of[k] < of[k - 1]; k--) {
+            double t = of[k];
+            of[k] = of[k - 1], of[k - 1] = t;
+        }
+    return of[ROUNDS / 2];
+}
+
+static void measure(const char *name, void (*act)(const struct engine *), double per) {
+    double plain[ROUNDS], other[ROUNDS];
+    for (u32 i = 0; i < ROUNDS; i++) {
+        plain[i] = round_of(&PLAIN, act) / per;
+        other[i] = round_of(&JOURNAL, act) / per;
+    }
+    printf("%s\t%.0f\t%.0f\n", name, median(plain), median(other));
+}
+
+static void begin(u32 boxes, u32 j, u32 l, u32 loads) {
+    const struct engine *both[] = {&PLAIN, &JOURNAL};
+    n = boxes;
+    for (u32 i = 0; i < 2; i++) {
+        must(both[i]->fresh(n, j, l) == DONE, "a fresh site");
+        election(both[i]);
+        for (u32 k = 1; k <= loads; k++) load(both[i], k);
+    }
+}
+
+/* Every link full of Commits with the whole book: as large as an image can be. */
+static void fill_links(void) {
+    for (u32 a = 0; a < site.n; a++)
+        for (u32 b = 0; b < site.n; b++) {
+            struct link *link = &site.links[a][b];
+            link->first = 0, link->count = a == b ? 0 : site.l;
+            for (u32 i = 0; i < link->count; i++) {
+                struct mail *m = &link->mails[i];
+                m->kind = COMMIT, m->pn = 101, m->last = m->count = site.j, m->unagreed_pn = 0;
+                for (u32 k = 0; k < site.j; k++) m->records[k] = site.boxes[a].records[k];
+            }
+        }
+}
+
+static void take_image(void) {
+    length = image_length(&site);
+    image = malloc(length);
+    image_write(&site, image);
+    must(JOURNAL.read(image, length) == DONE, "the library does not read the plain image");
+    u8 *again = malloc(length);
+    must(JOURNAL.write(again, length) == DONE, "the library's image has another length");
+    must(__builtin_memcmp(image, again, length) == 0, "the library's image has other bytes");
+}
+
+int main(void) {
+    begin(3, 4, 2, 4);
+    measure("step, 3 boxes, 4 loads", do_life, 58);
+    take_image();
+    measure("image write, 3 boxes, 4 loads", do_write, 1);
+    measure("image read, 3 boxes, 4 loads", do_read, 1);
+    begin(5, 4096, 16, 4096);
+    measure("step, 5 boxes, 4,096 loads", do_election, 17);
+    fill_links();
+    take_image();
+    measure("image write, largest", do_write, 1);
+    measure("image read, largest", do_read, 1);
+    measure("memcpy of the largest image", do_copy, 1);
+    return 0;
+}
