@@ -7,10 +7,11 @@
 static struct site site;
 static u8 image[LONGEST_IMAGE + 4 * (20 + 8 * J_MAX)];
 
-static void refuse(u32 refusal) {
-    put_text("refused ");
-    put_number(refusal);
-    put_byte('\n');
+static u32 refuse(u32 refusal) {
+    u8 *to = put_number(put_text(out_room(32), "refused "), refusal);
+    *to++ = '\n';
+    out_end(to);
+    return 1;
 }
 
 static int digit(u8 d) {
@@ -34,20 +35,21 @@ static u32 apply_line(const u8 *p, u64 length, u64 number) {
             image[bytes] = (u8)(high << 4 | low);
         }
     }
-    if (!readable) return refuse(11), 1;
-    if (image_read(&site, image, bytes)) return refuse(1), 1;
+    if (!readable) return refuse(11);
+    if (image_read(&site, image, bytes)) return refuse(1);
     u32 answer = answer_line(&site, &line);
-    if (is_refusal(answer)) return refuse(answer), 1;
+    if (is_refusal(answer)) return refuse(answer);
     static const char *const WORD[] = {"taken ", "discarded role ", "discarded phase ",
                                        "discarded number ", "discarded place "};
-    put_text(answer == DONE ? "done " : WORD[answer - TAKEN]);
     u64 after = image_length(&site);
+    u8 *to = put_text(out_room(32 + 2 * after), answer == DONE ? "done " : WORD[answer - TAKEN]);
     image_write(&site, image);
     for (u64 i = 0; i < after; i++) {
-        put_byte((u8)"0123456789abcdef"[image[i] >> 4]);
-        put_byte((u8)"0123456789abcdef"[image[i] & 15]);
+        *to++ = (u8)"0123456789abcdef"[image[i] >> 4];
+        *to++ = (u8)"0123456789abcdef"[image[i] & 15];
     }
-    put_byte('\n');
+    *to++ = '\n';
+    out_end(to);
     return 1;
 }
 

@@ -3,9 +3,11 @@
 
 long read(int file, void *to, u64 most);
 long write(int file, const void *from, u64 count);
+void *memchr(const void *in, int byte, u64 count);
+int memcmp(const void *a, const void *b, u64 count);
 
 #define INPUT (2 * 65536 + LONGEST_LINE + 2)
-#define OUTPUT 65536
+#define OUTPUT (1 << 20)
 
 static u8 in[INPUT], out[OUTPUT];
 static u64 out_used;
@@ -19,61 +21,62 @@ void flush(void) {
     out_used = 0;
 }
 
-void put_byte(u8 byte) {
-    if (out_used == OUTPUT) flush();
-    out[out_used++] = byte;
+u8 *out_room(u64 room) {
+    if (OUTPUT - out_used < room) flush();
+    return out + out_used;
 }
 
-void put_text(const char *text) {
-    while (*text) put_byte((u8)*text++);
+void out_end(u8 *end) { out_used = (u64)(end - out); }
+
+u8 *put_text(u8 *p, const char *text) {
+    while (*text) *p++ = (u8)*text++;
+    return p;
 }
 
-void put_number(u64 number) {
-    u8 digits[20];
-    u32 count = 0;
-    do digits[count++] = (u8)('0' + number % 10);
-    while (number /= 10);
-    while (count) put_byte(digits[--count]);
+u8 *put_number(u8 *p, u64 number) {
+    u32 digits = 1;
+    for (u64 rest = number; rest >= 10; rest /= 10) digits++;
+    for (u32 i = digits; i--; number /= 10) p[i] = (u8)('0' + number % 10);
+    return p + digits;
 }
 
+#define WORD(word, call, numbers) {word, sizeof word - 1, call, numbers}
 static const struct {
     const char *word;
-    u32 call, numbers;
+    u32 length, call, numbers;
 } WORDS[] = {
-    {"elect", ELECT, 1},   {"recover", RECOVER, 1}, {"collect", COLLECT_CALL, 1},
-    {"ready", READY, 1},   {"propose", PROPOSE, 1}, {"agree", AGREE, 1},
-    {"finish", FINISH, 1}, {"stop", STOP, 1},       {"return", RETURN, 1},
-    {"timeout", TIMEOUT, 1}, {"offer", OFFER, 3},   {"lose", LOSE, 2},
-    {"mail", DELIVER, 2},  {"holds", HOLDS, 4},     {"site", SITE, 3},
+    WORD("mail", DELIVER, 2),   WORD("holds", HOLDS, 4),     WORD("elect", ELECT, 1),
+    WORD("recover", RECOVER, 1), WORD("collect", COLLECT_CALL, 1), WORD("ready", READY, 1),
+    WORD("offer", OFFER, 3),    WORD("propose", PROPOSE, 1), WORD("agree", AGREE, 1),
+    WORD("finish", FINISH, 1),  WORD("stop", STOP, 1),       WORD("return", RETURN, 1),
+    WORD("timeout", TIMEOUT, 1), WORD("lose", LOSE, 2),      WORD("site", SITE, 3),
 };
+#define WORD_COUNT (sizeof WORDS / sizeof *WORDS)
 
 u32 read_line(struct line *line, const u8 *p, u64 length) {
-    u32 w, numbers[4];
-    u64 i = 0;
+    u32 w, numbers[4] = {0, 0, 0, 0};
     if (!p || length > LONGEST_LINE) return 0;
-    for (w = 0; w < 15; w++) {
-        for (i = 0; WORDS[w].word[i] && i < length && p[i] == (u8)WORDS[w].word[i]; i++) {}
-        if (!WORDS[w].word[i]) break;
-    }
-    if (w == 15) return 0;
+    const u8 *end = p + length, *space = memchr(p, ' ', length);
+    if (!space) return 0;
+    u64 word = (u64)(space - p);
+    for (w = 0; w < WORD_COUNT; w++)
+        if (WORDS[w].length == word && memcmp(WORDS[w].word, p, word) == 0) break;
+    if (w == WORD_COUNT) return 0;
+    p = space;
     for (u32 k = 0; k < WORDS[w].numbers; k++) {
-        if (i == length || p[i++] != ' ') return 0;
-        u64 value = 0, first = i;
-        for (; i < length && p[i] >= '0' && p[i] <= '9'; i++) {
-            value = value * 10 + (p[i] - '0');
+        if (p == end || *p++ != ' ') return 0;
+        const u8 *first = p;
+        u64 value = 0;
+        for (; p < end && *p >= '0' && *p <= '9'; p++) {
+            value = value * 10 + (*p - '0');
             if (value > 4294967295u) return 0;
         }
-        if (i == first || (p[first] == '0' && i > first + 1)) return 0;
+        if (p == first || (*first == '0' && p > first + 1)) return 0;
         numbers[k] = (u32)value;
     }
-    if (i != length) return 0;
-    u32 count = WORDS[w].numbers;
     line->call = WORDS[w].call;
-    line->a = numbers[0];
-    line->b = count > 1 ? numbers[1] : 0;
-    line->c = count > 2 ? numbers[2] : 0;
-    line->d = count > 3 ? numbers[3] : 0;
-    return 1;
+    line->a = numbers[0], line->b = numbers[1], line->c = numbers[2], line->d = numbers[3];
+    return p == end;
 }
 
 u32 answer_line(struct site *s, const struct line *line) {
@@ -86,14 +89,13 @@ u32 is_refusal(u32 answer) { return answer != DONE && answer < TAKEN; }
 void each_line(u32 (*answer)(const u8 *, u64, u64)) {
     u64 used = 0, number = 1, skipping = 0;
     for (long got; (got = read(0, in + used, INPUT - used)) > 0;) {
-        u64 end = used + (u64)got, from = 0;
-        for (u64 i = used; i < end; i++) {
-            if (in[i] != '\n') continue;
-            if (!answer(skipping ? 0 : in + from, i - from, number++)) return;
-            from = i + 1, skipping = 0;
+        u8 *from = in, *look = in + used, *end = look + got, *newline;
+        while ((newline = memchr(look, '\n', (u64)(end - look)))) {
+            if (!answer(skipping ? 0 : from, (u64)(newline - from), number++)) return;
+            from = look = newline + 1, skipping = 0;
         }
-        used = end - from;
-        __builtin_memmove(in, in + from, used);
+        used = (u64)(end - from);
+        __builtin_memmove(in, from, used);
         if (used == INPUT) used = 0, skipping = 1;
     }
     if (used || skipping) answer(0, 0, number);

@@ -9,10 +9,13 @@ struct line {
     u32 call, a, b, c, d;
 };
 
-void put_byte(u8 byte);
-void put_text(const char *text);
-void put_number(u64 number);
+/* Where up to `room` bytes of output may be put, and how far they went. */
+u8 *out_room(u64 room);
+void out_end(u8 *end);
 void flush(void);
+
+u8 *put_text(u8 *p, const char *text);
+u8 *put_number(u8 *p, u64 number);
 
 /* 1 where the bytes are a readable line; no bytes (0) stand for a line too long or unended. */
 u32 read_line(struct line *line, const u8 *p, u64 length);

@@ -16,21 +16,17 @@ static u32 replay_line(const u8 *p, u64 length, u64 number) {
         else
             fresh(&site, line.a, line.b, line.c), answer = DONE;
     }
-    put_number(number);
+    u8 *to = put_number(out_room(128), number);
     if (is_refusal(answer)) {
-        put_text(" refused ");
-        put_number(answer);
-        put_byte('\n');
-        return 0;
+        to = put_number(put_text(to, " refused "), answer);
+    } else {
+        *to++ = ' ';
+        to = put_number(to, site.epoch);
+        for (u32 c = 0; c < site.n; c++) *to++ = ' ', to = put_number(to, site.boxes[c].last);
     }
-    put_byte(' ');
-    put_number(site.epoch);
-    for (u32 c = 0; c < site.n; c++) {
-        put_byte(' ');
-        put_number(site.boxes[c].last);
-    }
-    put_byte('\n');
-    return 1;
+    *to++ = '\n';
+    out_end(to);
+    return !is_refusal(answer);
 }
 
 int main(void) {

@@ -119,6 +119,10 @@ pub fn replays(command: &str, seed: u64, count: u64) -> bool {
             printed += 1;
         }
     }
+    if replay_differs(command, &[], 1) {
+        println!("replay differs: no input, no output");
+        return false;
+    }
     let long = ["site 1 1 1\n", &"elect 1\ntimeout 1\n".repeat(500_000)].concat().into_bytes();
     let expected = trace::replay(&long, Fault::None);
     let got = other(command, &long, 65_536);
@@ -166,6 +170,14 @@ pub fn applies(command: &str, seed: u64, count: u64) -> bool {
             let answer = trace::apply(&[line, &b"\n"[..]].concat(), Fault::None);
             let answer = String::from_utf8_lossy(&answer).into_owned();
             met.count(&answer.trim_end().split(' ').collect::<Vec<_>>());
+        }
+    }
+    for input in [random_image_step(&mut Random::new(seed)), vec![]] {
+        let (ours, theirs) = (trace::apply(&input, Fault::None), other(command, &input, 65_536));
+        if ours != theirs {
+            println!("apply differs where the last line is unended, or where there is none:");
+            show_difference(&ours, &theirs);
+            return false;
         }
     }
     println!("{count} image steps from seed {seed}: the same");
