@@ -89,6 +89,19 @@ fn replay_differs(command: &str, lines: &[Vec<u8>], piece: usize) -> bool {
     other(command, &input, piece) != trace::replay(&input, Fault::None)
 }
 
+/// The lines without those, but the last, that are refused: a run that went on longer.
+fn without_refused(lines: &[Vec<u8>]) -> Vec<Vec<u8>> {
+    let mut kept: Vec<Vec<u8>> = vec![];
+    let mut site = None;
+    for (k, line) in lines.iter().enumerate() {
+        let bare = line.strip_suffix(b"\n");
+        if trace::replay_line(&mut site, bare, Fault::None).is_ok() || k + 1 == lines.len() {
+            kept.push(line.clone());
+        }
+    }
+    kept
+}
+
 /// Of this seed and the next hundred the shortest trace that differs, with what can be left out
 /// left out.
 fn show_replay(command: &str, seed: u64) {
@@ -99,7 +112,9 @@ fn show_replay(command: &str, seed: u64) {
     let best =
         (seed..seed + 100).filter(failing).min_by_key(|k| seeded(*k).0.len()).unwrap_or(seed);
     let (lines, piece) = seeded(best);
-    let short = fewest(&lines, |lines| replay_differs(command, lines, piece)).concat();
+    let goes_on = |lines: &[Vec<u8>]| replay_differs(command, &without_refused(lines), piece);
+    let short = if goes_on(&lines) { without_refused(&fewest(&lines, goes_on)) } else { lines };
+    let short = fewest(&short, |lines| replay_differs(command, lines, piece)).concat();
     println!("replay differs: seed {best}, pieces of {piece}; the shortest input:");
     print!("{}", text(&short));
     show_difference(&trace::replay(&short, Fault::None), &other(command, &short, piece));

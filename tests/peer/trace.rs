@@ -79,7 +79,12 @@ fn lines(input: &[u8]) -> impl Iterator<Item = Option<&[u8]>> {
     input.split_inclusive(|byte| *byte == b'\n').map(|line| line.strip_suffix(b"\n"))
 }
 
-fn replay_line(site: &mut Option<Site>, line: Option<&[u8]>, fault: Fault) -> Result<(), Refusal> {
+/// One line of a replay; a refused one leaves the site.
+pub fn replay_line(
+    site: &mut Option<Site>,
+    line: Option<&[u8]>,
+    fault: Fault,
+) -> Result<(), Refusal> {
     let line = line.and_then(read_line).ok_or(11u32)?;
     match (site, line) {
         (site @ None, Line::Site(sizes)) => {
