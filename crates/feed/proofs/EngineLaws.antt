@@ -19,7 +19,8 @@ use Rattle.laws.proofs.Logic.{Or, decide, and-yes, and-both, or-cases, or-no}
 use Rattle.laws.proofs.Logic.{both-no}
 use Rattle.laws.proofs.FormLaws.{sizes-says}
 use Rattle.memory.specs.Memory.{siteWords, linksWords, siteOf, memoryForm}
-use Rattle.site.specs.Entries.{FormedStep, FreshMade, freshOn, isRefusal}
+use Rattle.rules.specs.Answers.{isRefusal}
+use Rattle.site.specs.Entries.{FormedStep, FreshMade, freshOn}
 use Rattle.site.proofs.AfterLaws.{no-needs, need-met, need-not}
 use Rattle.lines.specs.declared.Line.{Line}
 use Rattle.trace.specs.Replay.{Told, refused, told, traceSizes, opened, played, judged, mostLines}
