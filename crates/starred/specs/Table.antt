@@ -3,15 +3,17 @@ use Prim.Native.Nat.{ℕ}
 use mathlib.Core.Bool.{Bool}
 use mathlib.Core.List.{List, [], _∷_}
 use lib.Dec.{eqb}
-use lib.ListN.{length, getD}
-use Rattle.rules.specs.Sizes.{majorityOf, recordOf}
+use lib.ListN.{length}
+use Rattle.rules.specs.Sizes.{majorityOf}
 use Rattle.rules.specs.Numbers.{answerNumber}
 use Rattle.rules.specs.Fields.{withLeads, withKept, promised}
 use Rattle.rules.specs.Site.{Site, Outcome, fresh, freshHead}
-use Rattle.rules.specs.Step.{step, run}
+use Rattle.rules.specs.Step.{step}
 use Rattle.rules.specs.declared.model.BoxState.{BoxState}
 use Rattle.rules.specs.declared.model.Call.{Call}
 use Rattle.image.specs.Image.{imageOf}
+use Rattle.trace.specs.Replay.{replay}
+use Rattle.trace.specs.Worked.{typed, input, output}
 
 pub record Star : Type 0 where
   pub gives : ℕ
@@ -50,15 +52,11 @@ answerOf s c = answerNumber (step s c .answer)
 abbrev pub noHeads : ℕ → BoxState
 noHeads b = freshHead
 
--- the calls of the paper's worked replay up to its line 14, the latest first
-abbrev pub worked : List Call
-worked =
-    Call.Deliver 1 2 ∷ Call.Agree 1 ∷ Call.Deliver 2 1 ∷ Call.Deliver 1 2 ∷ Call.Deliver 1 2
-    ∷ Call.Propose 1 ∷ Call.Offer 1 71 72 ∷ Call.Ready 1 ∷ Call.Deliver 2 1 ∷ Call.Deliver 1 2
-    ∷ Call.Collect 1 ∷ Call.Recover 1 ∷ Call.Elect 1 ∷ []
-
-abbrev pub workedSite : Site
-workedSite = run (fresh 2 16 8) worked
+-- a text is its bytes, one after another, and no more
+unfoldable pub starBytes : List ℕ → List ℕ → List Star
+starBytes [] ss = star 0 (length ss) ∷ []
+starBytes (g ∷ gs) [] = star (length (g ∷ gs)) 0 ∷ []
+starBytes (g ∷ gs) (s ∷ ss) = star g s ∷ starBytes gs ss
 
 unfoldable pub stars : List Star
 stars =
@@ -80,11 +78,8 @@ stars =
     ∷ star (answerOf (siteAt 3 1000000 7 noHeads) (Call.Timeout 1)) 5
     -- "Offer 0 7: 10."
     ∷ star (answerOf (fresh 3 16 8) (Call.Offer 1 0 7)) 10
-    -- "The replay above": box 2 has load 1 with frames 71 and 72, and the next mail has not come
-    ∷ star (workedSite .box 2 .head .kept .last) 1
-    ∷ star (getD (workedSite .box 2 .records) 0 0) (recordOf 71 72)
-    ∷ star (answerOf workedSite (Call.Deliver 1 2)) 3
-    ∷ []
+    -- "The replay above."
+    ∷ starBytes (replay (typed input)) (typed output)
 
 -- the rules give what the paper says
 abbrev pub told : Star → Bool

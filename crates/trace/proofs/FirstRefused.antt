@@ -7,7 +7,7 @@ use native.Mathlib.Omega.{arith}
 use lib.Dec.{leb}
 use lib.ListN.{length, length-append}
 use borrow.Author.Tests.{le-leb, lt-leb, leb-true, leb-false}
-use Rattle.rules.specs.Pick.{pick-true, pick-false}
+use Rattle.rules.specs.Pick.{pick, pick-true, pick-false}
 use Rattle.rules.specs.Numbers.{refusalNumber}
 use Rattle.rules.specs.Site.{Site}
 use Rattle.rules.specs.Step.{step, holds}
@@ -17,7 +17,7 @@ use Rattle.rules.specs.declared.model.Refusal.{Refusal}
 use Rattle.laws.proofs.Logic.{both-no, pick-elim}
 use Rattle.print.specs.Text.{doneText, refusedText}
 use Rattle.lines.specs.declared.Line.{Line}
-use Rattle.trace.specs.Lines.{linesOf, texts}
+use Rattle.trace.specs.Lines.{linesFrom, linesOf, texts}
 use Rattle.trace.specs.Replay.{Run, first, going, ended, Told, done, refused, told}
 use Rattle.trace.specs.Replay.{traceSizes, opened, played, judged, mostLines, lasts, toldText}
 use Rattle.trace.specs.Replay.{toldNext, lineText, lineNext, replay}
@@ -243,3 +243,8 @@ output-is ls u (stopped before l after {r} {t} {why} e w p o) =
 pub only : (s u : List ℕ) → Output (linesOf s) u → u ≡ replay s
 unfolding replay
 only s u o = output-is (linesOf s) u o
+
+-- "No input, no output."
+pub no-input : replay [] ≡ []
+unfolding replay linesFrom texts pick
+no-input = refl

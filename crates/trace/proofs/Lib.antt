@@ -1,4 +1,3 @@
 -- Theorems of the replay.
 pub mod Pieces
-pub mod Example
 pub mod FirstRefused

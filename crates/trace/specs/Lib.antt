@@ -3,3 +3,4 @@ pub mod Lines
 pub mod Feeding
 pub mod Replay
 pub mod Stops
+pub mod Worked
