@@ -98,12 +98,28 @@ mod c {
     extern "C" {
         pub fn journal_site_words(n: u32, j: u32, l: u32) -> usize;
         pub fn journal_links_words(n: u32, j: u32, l: u32) -> usize;
-        pub fn journal_fresh(s: *mut u64, sn: usize, l: *mut u64, ln: usize, n: u32, j: u32, mails: u32) -> u32;
+        pub fn journal_fresh(
+            s: *mut u64,
+            sn: usize,
+            l: *mut u64,
+            ln: usize,
+            n: u32,
+            j: u32,
+            mails: u32,
+        ) -> u32;
         pub fn journal_elect(s: *mut u64, sn: usize, l: *mut u64, ln: usize, c: u32) -> u32;
         pub fn journal_recover(s: *mut u64, sn: usize, l: *mut u64, ln: usize, c: u32) -> u32;
         pub fn journal_collect(s: *mut u64, sn: usize, l: *mut u64, ln: usize, c: u32) -> u32;
         pub fn journal_ready(s: *mut u64, sn: usize, l: *mut u64, ln: usize, c: u32) -> u32;
-        pub fn journal_offer(s: *mut u64, sn: usize, l: *mut u64, ln: usize, c: u32, left: u32, right: u32) -> u32;
+        pub fn journal_offer(
+            s: *mut u64,
+            sn: usize,
+            l: *mut u64,
+            ln: usize,
+            c: u32,
+            left: u32,
+            right: u32,
+        ) -> u32;
         pub fn journal_propose(s: *mut u64, sn: usize, l: *mut u64, ln: usize, c: u32) -> u32;
         pub fn journal_agree(s: *mut u64, sn: usize, l: *mut u64, ln: usize, c: u32) -> u32;
         pub fn journal_finish(s: *mut u64, sn: usize, l: *mut u64, ln: usize, c: u32) -> u32;
@@ -111,48 +127,156 @@ mod c {
         pub fn journal_return(s: *mut u64, sn: usize, l: *mut u64, ln: usize, c: u32) -> u32;
         pub fn journal_timeout(s: *mut u64, sn: usize, l: *mut u64, ln: usize, c: u32) -> u32;
         pub fn journal_lose(s: *mut u64, sn: usize, l: *mut u64, ln: usize, a: u32, b: u32) -> u32;
-        pub fn journal_deliver(s: *mut u64, sn: usize, l: *mut u64, ln: usize, a: u32, b: u32) -> u32;
-        pub fn journal_holds(
-            s: *const u64, sn: usize, l: *const u64, ln: usize, c: u32, k: u32, left: u32, right: u32,
+        pub fn journal_deliver(
+            s: *mut u64,
+            sn: usize,
+            l: *mut u64,
+            ln: usize,
+            a: u32,
+            b: u32,
         ) -> u32;
-        pub fn journal_image_length(s: *const u64, sn: usize, l: *const u64, ln: usize, length: *mut usize) -> u32;
+        pub fn journal_holds(
+            s: *const u64,
+            sn: usize,
+            l: *const u64,
+            ln: usize,
+            c: u32,
+            k: u32,
+            left: u32,
+            right: u32,
+        ) -> u32;
+        pub fn journal_image_length(
+            s: *const u64,
+            sn: usize,
+            l: *const u64,
+            ln: usize,
+            length: *mut usize,
+        ) -> u32;
         pub fn journal_write(
-            s: *const u64, sn: usize, l: *const u64, ln: usize, image: *mut u8, bytes: usize, length: *mut usize,
+            s: *const u64,
+            sn: usize,
+            l: *const u64,
+            ln: usize,
+            image: *mut u8,
+            bytes: usize,
+            length: *mut usize,
         ) -> u32;
         pub fn journal_read(
-            image: *const u8, bytes: usize, s: *mut u64, sn: usize, l: *mut u64, ln: usize,
+            image: *const u8,
+            bytes: usize,
+            s: *mut u64,
+            sn: usize,
+            l: *mut u64,
+            ln: usize,
         ) -> u32;
         pub fn journal_own_recover(
-            row: *mut u64, rn: usize, out: *mut u64, on: usize, to: *mut u32,
-            n: u32, j: u32, l: u32, epoch: u32, present: u32, me: u32,
+            row: *mut u64,
+            rn: usize,
+            out: *mut u64,
+            on: usize,
+            to: *mut u32,
+            n: u32,
+            j: u32,
+            l: u32,
+            epoch: u32,
+            present: u32,
+            me: u32,
         ) -> u32;
         pub fn journal_own_collect(
-            row: *mut u64, rn: usize, out: *mut u64, on: usize, to: *mut u32,
-            n: u32, j: u32, l: u32, epoch: u32, present: u32, me: u32,
+            row: *mut u64,
+            rn: usize,
+            out: *mut u64,
+            on: usize,
+            to: *mut u32,
+            n: u32,
+            j: u32,
+            l: u32,
+            epoch: u32,
+            present: u32,
+            me: u32,
         ) -> u32;
         pub fn journal_own_ready(
-            row: *mut u64, rn: usize, out: *mut u64, on: usize, to: *mut u32,
-            n: u32, j: u32, l: u32, epoch: u32, present: u32, me: u32,
+            row: *mut u64,
+            rn: usize,
+            out: *mut u64,
+            on: usize,
+            to: *mut u32,
+            n: u32,
+            j: u32,
+            l: u32,
+            epoch: u32,
+            present: u32,
+            me: u32,
         ) -> u32;
         pub fn journal_own_offer(
-            row: *mut u64, rn: usize, out: *mut u64, on: usize, to: *mut u32,
-            n: u32, j: u32, l: u32, epoch: u32, present: u32, me: u32, left: u32, right: u32,
+            row: *mut u64,
+            rn: usize,
+            out: *mut u64,
+            on: usize,
+            to: *mut u32,
+            n: u32,
+            j: u32,
+            l: u32,
+            epoch: u32,
+            present: u32,
+            me: u32,
+            left: u32,
+            right: u32,
         ) -> u32;
         pub fn journal_own_propose(
-            row: *mut u64, rn: usize, out: *mut u64, on: usize, to: *mut u32,
-            n: u32, j: u32, l: u32, epoch: u32, present: u32, me: u32,
+            row: *mut u64,
+            rn: usize,
+            out: *mut u64,
+            on: usize,
+            to: *mut u32,
+            n: u32,
+            j: u32,
+            l: u32,
+            epoch: u32,
+            present: u32,
+            me: u32,
         ) -> u32;
         pub fn journal_own_agree(
-            row: *mut u64, rn: usize, out: *mut u64, on: usize, to: *mut u32,
-            n: u32, j: u32, l: u32, epoch: u32, present: u32, me: u32,
+            row: *mut u64,
+            rn: usize,
+            out: *mut u64,
+            on: usize,
+            to: *mut u32,
+            n: u32,
+            j: u32,
+            l: u32,
+            epoch: u32,
+            present: u32,
+            me: u32,
         ) -> u32;
         pub fn journal_own_finish(
-            row: *mut u64, rn: usize, out: *mut u64, on: usize, to: *mut u32,
-            n: u32, j: u32, l: u32, epoch: u32, present: u32, me: u32,
+            row: *mut u64,
+            rn: usize,
+            out: *mut u64,
+            on: usize,
+            to: *mut u32,
+            n: u32,
+            j: u32,
+            l: u32,
+            epoch: u32,
+            present: u32,
+            me: u32,
         ) -> u32;
         pub fn journal_own_mail(
-            row: *mut u64, rn: usize, letter: *const u64, len: usize, out: *mut u64, on: usize, to: *mut u32,
-            n: u32, j: u32, l: u32, epoch: u32, present: u32, me: u32, sender: u32,
+            row: *mut u64,
+            rn: usize,
+            letter: *const u64,
+            len: usize,
+            out: *mut u64,
+            on: usize,
+            to: *mut u32,
+            n: u32,
+            j: u32,
+            l: u32,
+            epoch: u32,
+            present: u32,
+            me: u32,
+            sender: u32,
         ) -> u32;
     }
 }
@@ -240,7 +364,13 @@ impl<'a> Site<'a> {
         // SAFETY: two slices, each with its own length, that do not overlap.
         done(unsafe {
             c::journal_fresh(
-                site.as_mut_ptr(), site.len(), links.as_mut_ptr(), links.len(), z.boxes, z.loads, z.mails,
+                site.as_mut_ptr(),
+                site.len(),
+                links.as_mut_ptr(),
+                links.len(),
+                z.boxes,
+                z.loads,
+                z.mails,
             )
         })?;
         Ok(Site { site, links })
@@ -256,7 +386,14 @@ impl<'a> Site<'a> {
         // SAFETY: two slices, each with its own length, that are only read.
         done(unsafe {
             c::journal_holds(
-                self.site.as_ptr(), self.site.len(), self.links.as_ptr(), self.links.len(), c, k, left, right,
+                self.site.as_ptr(),
+                self.site.len(),
+                self.links.as_ptr(),
+                self.links.len(),
+                c,
+                k,
+                left,
+                right,
             )
         })
     }
@@ -269,7 +406,11 @@ impl<'a> Site<'a> {
         // SAFETY: two slices, each with its own length, and a number, that do not overlap.
         done(unsafe {
             c::journal_image_length(
-                self.site.as_ptr(), self.site.len(), self.links.as_ptr(), self.links.len(), &mut length,
+                self.site.as_ptr(),
+                self.site.len(),
+                self.links.as_ptr(),
+                self.links.len(),
+                &mut length,
             )
         })?;
         Ok(length)
@@ -281,8 +422,13 @@ impl<'a> Site<'a> {
         // SAFETY: three slices, each with its own length, and a number, that do not overlap.
         done(unsafe {
             c::journal_write(
-                self.site.as_ptr(), self.site.len(), self.links.as_ptr(), self.links.len(),
-                image.as_mut_ptr(), image.len(), &mut length,
+                self.site.as_ptr(),
+                self.site.len(),
+                self.links.as_ptr(),
+                self.links.len(),
+                image.as_mut_ptr(),
+                image.len(),
+                &mut length,
             )
         })?;
         Ok(length)
@@ -293,7 +439,12 @@ impl<'a> Site<'a> {
         // SAFETY: three slices, each with its own length, that do not overlap.
         done(unsafe {
             c::journal_read(
-                image.as_ptr(), image.len(), site.as_mut_ptr(), site.len(), links.as_mut_ptr(), links.len(),
+                image.as_ptr(),
+                image.len(),
+                site.as_mut_ptr(),
+                site.len(),
+                links.as_mut_ptr(),
+                links.len(),
             )
         })?;
         Ok(Site { site, links })
@@ -324,7 +475,16 @@ pub enum Act {
 /// A box by itself: a step. The set that the letter in `out` goes to, 0 where there is none.
 pub fn own_act(row: &mut [u64], out: &mut [u64], s: Setting, act: Act) -> Result<u32, Refusal> {
     let (r, rn, o, on) = (row.as_mut_ptr(), row.len(), out.as_mut_ptr(), out.len());
-    let Setting { sizes: Sizes { boxes: n, loads: j, mails: l }, epoch, present, me } = s;
+    let Setting {
+        sizes: Sizes {
+            boxes: n,
+            loads: j,
+            mails: l,
+        },
+        epoch,
+        present,
+        me,
+    } = s;
     let mut set = 0u32;
     let to: *mut u32 = &mut set;
     // SAFETY: two slices, each with its own length, and a number, that do not overlap.
@@ -333,7 +493,9 @@ pub fn own_act(row: &mut [u64], out: &mut [u64], s: Setting, act: Act) -> Result
             Act::Recover => c::journal_own_recover(r, rn, o, on, to, n, j, l, epoch, present, me),
             Act::Collect => c::journal_own_collect(r, rn, o, on, to, n, j, l, epoch, present, me),
             Act::Ready => c::journal_own_ready(r, rn, o, on, to, n, j, l, epoch, present, me),
-            Act::Offer(a, b) => c::journal_own_offer(r, rn, o, on, to, n, j, l, epoch, present, me, a, b),
+            Act::Offer(a, b) => {
+                c::journal_own_offer(r, rn, o, on, to, n, j, l, epoch, present, me, a, b)
+            }
             Act::Propose => c::journal_own_propose(r, rn, o, on, to, n, j, l, epoch, present, me),
             Act::Agree => c::journal_own_agree(r, rn, o, on, to, n, j, l, epoch, present, me),
             Act::Finish => c::journal_own_finish(r, rn, o, on, to, n, j, l, epoch, present, me),
@@ -350,13 +512,34 @@ pub fn own_mail(
     s: Setting,
     sender: u32,
 ) -> Result<(Mail, u32), Refusal> {
-    let Setting { sizes: Sizes { boxes: n, loads: j, mails: l }, epoch, present, me } = s;
+    let Setting {
+        sizes: Sizes {
+            boxes: n,
+            loads: j,
+            mails: l,
+        },
+        epoch,
+        present,
+        me,
+    } = s;
     let mut set = 0u32;
     // SAFETY: three slices, each with its own length, and a number, that do not overlap.
     let mail = mailed(unsafe {
         c::journal_own_mail(
-            row.as_mut_ptr(), row.len(), letter.as_ptr(), letter.len(), out.as_mut_ptr(), out.len(), &mut set,
-            n, j, l, epoch, present, me, sender,
+            row.as_mut_ptr(),
+            row.len(),
+            letter.as_ptr(),
+            letter.len(),
+            out.as_mut_ptr(),
+            out.len(),
+            &mut set,
+            n,
+            j,
+            l,
+            epoch,
+            present,
+            me,
+            sender,
         )
     })?;
     Ok((mail, set))

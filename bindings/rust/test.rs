@@ -3,15 +3,33 @@ mod journal;
 use journal::*;
 
 fn main() {
-    let z = Sizes { boxes: 2, loads: 16, mails: 8 };
+    let z = Sizes {
+        boxes: 2,
+        loads: 16,
+        mails: 8,
+    };
     assert_eq!(z.words(), Some((77, 340)));
-    assert_eq!(Sizes { boxes: 1, loads: 4096, mails: 16 }.words(), Some((4121, 0)));
+    assert_eq!(
+        Sizes {
+            boxes: 1,
+            loads: 4096,
+            mails: 16
+        }
+        .words(),
+        Some((4121, 0))
+    );
     assert_eq!(Sizes { boxes: 6, ..z }.words(), None);
     let (mut site, mut links) = (vec![0u64; 77], vec![0u64; 340]);
     assert_eq!(Site::of(&mut site, &mut links).elect(1), Err(Refusal::Form));
     assert_eq!(Site::of(&mut [], &mut []).elect(1), Err(Refusal::Form));
-    assert_eq!(Site::fresh(&mut site, &mut links, Sizes { loads: 0, ..z }).err(), Some(Refusal::Sizes));
-    assert_eq!(Site::fresh(&mut site[1..], &mut links, z).err(), Some(Refusal::Buffer));
+    assert_eq!(
+        Site::fresh(&mut site, &mut links, Sizes { loads: 0, ..z }).err(),
+        Some(Refusal::Sizes)
+    );
+    assert_eq!(
+        Site::fresh(&mut site[1..], &mut links, z).err(),
+        Some(Refusal::Buffer)
+    );
     let mut s = Site::fresh(&mut site, &mut links, z).unwrap();
     assert_eq!(s.elect(3), Err(Refusal::Box));
     assert_eq!(s.deliver(1, 2), Err(Refusal::Condition));
@@ -47,8 +65,14 @@ fn main() {
     assert_eq!(s.write(&mut image), Ok(length));
     assert_eq!(image[length], 7);
     let (mut site, mut links) = (vec![0u64; 77], vec![0u64; 340]);
-    assert_eq!(Site::read(&image, &mut site, &mut links).err(), Some(Refusal::Form));
-    assert_eq!(Site::read(&image[..length], &mut site, &mut links[1..]).err(), Some(Refusal::Buffer));
+    assert_eq!(
+        Site::read(&image, &mut site, &mut links).err(),
+        Some(Refusal::Form)
+    );
+    assert_eq!(
+        Site::read(&image[..length], &mut site, &mut links[1..]).err(),
+        Some(Refusal::Buffer)
+    );
     let s = Site::read(&image[..length], &mut site, &mut links).unwrap();
     assert_eq!(s.holds(1, 1, 71, 72), Ok(()));
     let mut again = vec![0u8; length];
@@ -61,26 +85,56 @@ fn main() {
     let mut peer = row;
     peer[0] = 0;
     let (mut letter, mut out) = ([0u64; 9], [0u64; 9]);
-    let own = Setting { sizes: Sizes { boxes: 2, loads: 4, mails: 2 }, epoch: 2, present: 3, me: 1 };
-    assert_eq!(own_act(&mut row, &mut out, Setting { me: 3, ..own }, Act::Recover), Err(Refusal::Box));
+    let own = Setting {
+        sizes: Sizes {
+            boxes: 2,
+            loads: 4,
+            mails: 2,
+        },
+        epoch: 2,
+        present: 3,
+        me: 1,
+    };
+    assert_eq!(
+        own_act(&mut row, &mut out, Setting { me: 3, ..own }, Act::Recover),
+        Err(Refusal::Box)
+    );
     assert_eq!(own_act(&mut row, &mut out, own, Act::Recover), Ok(0));
-    assert_eq!(own_act(&mut row, &mut out[1..], own, Act::Collect), Err(Refusal::Buffer));
+    assert_eq!(
+        own_act(&mut row, &mut out[1..], own, Act::Collect),
+        Err(Refusal::Buffer)
+    );
     assert_eq!(own_act(&mut row, &mut out, own, Act::Collect), Ok(2));
     letter.copy_from_slice(&out);
     let other = Setting { me: 2, ..own };
-    assert_eq!(own_mail(&mut peer, &letter, &mut out, other, 1), Ok((Mail::Taken, 1)));
+    assert_eq!(
+        own_mail(&mut peer, &letter, &mut out, other, 1),
+        Ok((Mail::Taken, 1))
+    );
     letter.copy_from_slice(&out);
-    assert_eq!(own_mail(&mut row, &letter, &mut out, own, 2), Ok((Mail::Taken, 0)));
+    assert_eq!(
+        own_mail(&mut row, &letter, &mut out, own, 2),
+        Ok((Mail::Taken, 0))
+    );
     assert_eq!(own_act(&mut row, &mut out, own, Act::Ready), Ok(2));
     assert_eq!(own_act(&mut row, &mut out, own, Act::Offer(7, 8)), Ok(0));
     assert_eq!(own_act(&mut row, &mut out, own, Act::Propose), Ok(2));
     letter.copy_from_slice(&out);
-    assert_eq!(own_mail(&mut peer, &letter, &mut out, other, 1), Ok((Mail::Taken, 1)));
+    assert_eq!(
+        own_mail(&mut peer, &letter, &mut out, other, 1),
+        Ok((Mail::Taken, 1))
+    );
     letter.copy_from_slice(&out);
-    assert_eq!(own_mail(&mut row, &letter, &mut out, own, 2), Ok((Mail::Taken, 0)));
+    assert_eq!(
+        own_mail(&mut row, &letter, &mut out, own, 2),
+        Ok((Mail::Taken, 0))
+    );
     assert_eq!(own_act(&mut row, &mut out, own, Act::Agree), Ok(2));
     assert_eq!(own_act(&mut row, &mut out, own, Act::Finish), Ok(2));
-    assert_eq!(own_act(&mut row, &mut out, own, Act::Finish), Err(Refusal::Condition));
+    assert_eq!(
+        own_act(&mut row, &mut out, own, Act::Finish),
+        Err(Refusal::Condition)
+    );
     assert_eq!(Refusal::Condition.to_string(), "refused 3");
     println!("Rust: the binding's test passes");
 }

@@ -43,8 +43,8 @@ fn stepped(site: &mut [u64], links: &mut [u64], call: Call) -> u32
 #[no_mangle]
 pub extern "C" fn journal_elect(site: &mut [u64], links: &mut [u64], c: u32) -> u32
     ensures { λ r.
-        ⌜ Stepped (Call.Elect c) (now (site .entry)) (now (links .entry)) (now (site .exit))
-        (now (links .exit)) r ⌝ }
+        ⌜ Stepped (Call.Elect c) (now (site .entry)) (now (links .entry))
+        (now (site .exit)) (now (links .exit)) r ⌝ }
 {
     stepped(site, links, Call::Elect(c))
 }
@@ -53,8 +53,8 @@ pub extern "C" fn journal_elect(site: &mut [u64], links: &mut [u64], c: u32) -> 
 #[no_mangle]
 pub extern "C" fn journal_recover(site: &mut [u64], links: &mut [u64], c: u32) -> u32
     ensures { λ r.
-        ⌜ Stepped (Call.Recover c) (now (site .entry)) (now (links .entry)) (now (site .exit))
-        (now (links .exit)) r ⌝ }
+        ⌜ Stepped (Call.Recover c) (now (site .entry)) (now (links .entry))
+        (now (site .exit)) (now (links .exit)) r ⌝ }
 {
     stepped(site, links, Call::Recover(c))
 }
@@ -63,8 +63,8 @@ pub extern "C" fn journal_recover(site: &mut [u64], links: &mut [u64], c: u32) -
 #[no_mangle]
 pub extern "C" fn journal_collect(site: &mut [u64], links: &mut [u64], c: u32) -> u32
     ensures { λ r.
-        ⌜ Stepped (Call.Collect c) (now (site .entry)) (now (links .entry)) (now (site .exit))
-        (now (links .exit)) r ⌝ }
+        ⌜ Stepped (Call.Collect c) (now (site .entry)) (now (links .entry))
+        (now (site .exit)) (now (links .exit)) r ⌝ }
 {
     stepped(site, links, Call::Collect(c))
 }
@@ -73,8 +73,8 @@ pub extern "C" fn journal_collect(site: &mut [u64], links: &mut [u64], c: u32) -
 #[no_mangle]
 pub extern "C" fn journal_ready(site: &mut [u64], links: &mut [u64], c: u32) -> u32
     ensures { λ r.
-        ⌜ Stepped (Call.Ready c) (now (site .entry)) (now (links .entry)) (now (site .exit))
-        (now (links .exit)) r ⌝ }
+        ⌜ Stepped (Call.Ready c) (now (site .entry)) (now (links .entry))
+        (now (site .exit)) (now (links .exit)) r ⌝ }
 {
     stepped(site, links, Call::Ready(c))
 }
@@ -89,8 +89,8 @@ pub extern "C" fn journal_offer(
     right: u32,
 ) -> u32
     ensures { λ r.
-        ⌜ Stepped (Call.Offer c left right) (now (site .entry)) (now (links .entry)) (now (site .exit))
-        (now (links .exit)) r ⌝ }
+        ⌜ Stepped (Call.Offer c left right) (now (site .entry)) (now (links .entry))
+        (now (site .exit)) (now (links .exit)) r ⌝ }
 {
     stepped(site, links, Call::Offer(c, left, right))
 }
@@ -99,8 +99,8 @@ pub extern "C" fn journal_offer(
 #[no_mangle]
 pub extern "C" fn journal_propose(site: &mut [u64], links: &mut [u64], c: u32) -> u32
     ensures { λ r.
-        ⌜ Stepped (Call.Propose c) (now (site .entry)) (now (links .entry)) (now (site .exit))
-        (now (links .exit)) r ⌝ }
+        ⌜ Stepped (Call.Propose c) (now (site .entry)) (now (links .entry))
+        (now (site .exit)) (now (links .exit)) r ⌝ }
 {
     stepped(site, links, Call::Propose(c))
 }
@@ -109,8 +109,8 @@ pub extern "C" fn journal_propose(site: &mut [u64], links: &mut [u64], c: u32) -
 #[no_mangle]
 pub extern "C" fn journal_agree(site: &mut [u64], links: &mut [u64], c: u32) -> u32
     ensures { λ r.
-        ⌜ Stepped (Call.Agree c) (now (site .entry)) (now (links .entry)) (now (site .exit))
-        (now (links .exit)) r ⌝ }
+        ⌜ Stepped (Call.Agree c) (now (site .entry)) (now (links .entry))
+        (now (site .exit)) (now (links .exit)) r ⌝ }
 {
     stepped(site, links, Call::Agree(c))
 }
@@ -119,8 +119,8 @@ pub extern "C" fn journal_agree(site: &mut [u64], links: &mut [u64], c: u32) -> 
 #[no_mangle]
 pub extern "C" fn journal_finish(site: &mut [u64], links: &mut [u64], c: u32) -> u32
     ensures { λ r.
-        ⌜ Stepped (Call.Finish c) (now (site .entry)) (now (links .entry)) (now (site .exit))
-        (now (links .exit)) r ⌝ }
+        ⌜ Stepped (Call.Finish c) (now (site .entry)) (now (links .entry))
+        (now (site .exit)) (now (links .exit)) r ⌝ }
 {
     stepped(site, links, Call::Finish(c))
 }
@@ -129,8 +129,8 @@ pub extern "C" fn journal_finish(site: &mut [u64], links: &mut [u64], c: u32) ->
 #[no_mangle]
 pub extern "C" fn journal_stop(site: &mut [u64], links: &mut [u64], c: u32) -> u32
     ensures { λ r.
-        ⌜ Stepped (Call.Stop c) (now (site .entry)) (now (links .entry)) (now (site .exit))
-        (now (links .exit)) r ⌝ }
+        ⌜ Stepped (Call.Stop c) (now (site .entry)) (now (links .entry))
+        (now (site .exit)) (now (links .exit)) r ⌝ }
 {
     stepped(site, links, Call::Stop(c))
 }
@@ -139,8 +139,8 @@ pub extern "C" fn journal_stop(site: &mut [u64], links: &mut [u64], c: u32) -> u
 #[no_mangle]
 pub extern "C" fn journal_return(site: &mut [u64], links: &mut [u64], c: u32) -> u32
     ensures { λ r.
-        ⌜ Stepped (Call.Return c) (now (site .entry)) (now (links .entry)) (now (site .exit))
-        (now (links .exit)) r ⌝ }
+        ⌜ Stepped (Call.Return c) (now (site .entry)) (now (links .entry))
+        (now (site .exit)) (now (links .exit)) r ⌝ }
 {
     stepped(site, links, Call::Return(c))
 }
@@ -149,8 +149,8 @@ pub extern "C" fn journal_return(site: &mut [u64], links: &mut [u64], c: u32) ->
 #[no_mangle]
 pub extern "C" fn journal_timeout(site: &mut [u64], links: &mut [u64], c: u32) -> u32
     ensures { λ r.
-        ⌜ Stepped (Call.Timeout c) (now (site .entry)) (now (links .entry)) (now (site .exit))
-        (now (links .exit)) r ⌝ }
+        ⌜ Stepped (Call.Timeout c) (now (site .entry)) (now (links .entry))
+        (now (site .exit)) (now (links .exit)) r ⌝ }
 {
     stepped(site, links, Call::Timeout(c))
 }
@@ -159,8 +159,8 @@ pub extern "C" fn journal_timeout(site: &mut [u64], links: &mut [u64], c: u32) -
 #[no_mangle]
 pub extern "C" fn journal_lose(site: &mut [u64], links: &mut [u64], a: u32, b: u32) -> u32
     ensures { λ r.
-        ⌜ Stepped (Call.Lose a b) (now (site .entry)) (now (links .entry)) (now (site .exit))
-        (now (links .exit)) r ⌝ }
+        ⌜ Stepped (Call.Lose a b) (now (site .entry)) (now (links .entry))
+        (now (site .exit)) (now (links .exit)) r ⌝ }
 {
     stepped(site, links, Call::Lose(a, b))
 }
@@ -169,8 +169,8 @@ pub extern "C" fn journal_lose(site: &mut [u64], links: &mut [u64], a: u32, b: u
 #[no_mangle]
 pub extern "C" fn journal_deliver(site: &mut [u64], links: &mut [u64], a: u32, b: u32) -> u32
     ensures { λ r.
-        ⌜ Stepped (Call.Deliver a b) (now (site .entry)) (now (links .entry)) (now (site .exit))
-        (now (links .exit)) r ⌝ }
+        ⌜ Stepped (Call.Deliver a b) (now (site .entry)) (now (links .entry))
+        (now (site .exit)) (now (links .exit)) r ⌝ }
 {
     stepped(site, links, Call::Deliver(a, b))
 }

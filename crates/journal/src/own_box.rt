@@ -62,7 +62,8 @@ pub extern "C" fn journal_own_recover(
 ) -> u32
     ensures { λ r.
         ⌜ Alone (settingOf n j l epoch present me)
-        (actOn (settingOf n j l epoch present me) (now (row .entry)) Act.Recover (now (out .entry)))
+        (actOn (settingOf n j l epoch present me) (now (row .entry)) Act.Recover
+        (now (out .entry)))
         (now (row .entry)) (now (out .entry)) (now (row .exit)) (now (out .exit))
         (now (to .entry)) (now (to .exit)) r ⌝ }
 {
@@ -91,7 +92,8 @@ pub extern "C" fn journal_own_collect(
 ) -> u32
     ensures { λ r.
         ⌜ Alone (settingOf n j l epoch present me)
-        (actOn (settingOf n j l epoch present me) (now (row .entry)) Act.Collect (now (out .entry)))
+        (actOn (settingOf n j l epoch present me) (now (row .entry)) Act.Collect
+        (now (out .entry)))
         (now (row .entry)) (now (out .entry)) (now (row .exit)) (now (out .exit))
         (now (to .entry)) (now (to .exit)) r ⌝ }
 {
@@ -120,7 +122,8 @@ pub extern "C" fn journal_own_ready(
 ) -> u32
     ensures { λ r.
         ⌜ Alone (settingOf n j l epoch present me)
-        (actOn (settingOf n j l epoch present me) (now (row .entry)) Act.Ready (now (out .entry)))
+        (actOn (settingOf n j l epoch present me) (now (row .entry)) Act.Ready
+        (now (out .entry)))
         (now (row .entry)) (now (out .entry)) (now (row .exit)) (now (out .exit))
         (now (to .entry)) (now (to .exit)) r ⌝ }
 {
@@ -151,7 +154,8 @@ pub extern "C" fn journal_own_offer(
 ) -> u32
     ensures { λ r.
         ⌜ Alone (settingOf n j l epoch present me)
-        (actOn (settingOf n j l epoch present me) (now (row .entry)) (Act.Offer left right) (now (out .entry)))
+        (actOn (settingOf n j l epoch present me) (now (row .entry)) (Act.Offer left right)
+        (now (out .entry)))
         (now (row .entry)) (now (out .entry)) (now (row .exit)) (now (out .exit))
         (now (to .entry)) (now (to .exit)) r ⌝ }
 {
@@ -180,7 +184,8 @@ pub extern "C" fn journal_own_propose(
 ) -> u32
     ensures { λ r.
         ⌜ Alone (settingOf n j l epoch present me)
-        (actOn (settingOf n j l epoch present me) (now (row .entry)) Act.Propose (now (out .entry)))
+        (actOn (settingOf n j l epoch present me) (now (row .entry)) Act.Propose
+        (now (out .entry)))
         (now (row .entry)) (now (out .entry)) (now (row .exit)) (now (out .exit))
         (now (to .entry)) (now (to .exit)) r ⌝ }
 {
@@ -209,7 +214,8 @@ pub extern "C" fn journal_own_agree(
 ) -> u32
     ensures { λ r.
         ⌜ Alone (settingOf n j l epoch present me)
-        (actOn (settingOf n j l epoch present me) (now (row .entry)) Act.Agree (now (out .entry)))
+        (actOn (settingOf n j l epoch present me) (now (row .entry)) Act.Agree
+        (now (out .entry)))
         (now (row .entry)) (now (out .entry)) (now (row .exit)) (now (out .exit))
         (now (to .entry)) (now (to .exit)) r ⌝ }
 {
@@ -238,7 +244,8 @@ pub extern "C" fn journal_own_finish(
 ) -> u32
     ensures { λ r.
         ⌜ Alone (settingOf n j l epoch present me)
-        (actOn (settingOf n j l epoch present me) (now (row .entry)) Act.Finish (now (out .entry)))
+        (actOn (settingOf n j l epoch present me) (now (row .entry)) Act.Finish
+        (now (out .entry)))
         (now (row .entry)) (now (out .entry)) (now (row .exit)) (now (out .exit))
         (now (to .entry)) (now (to .exit)) r ⌝ }
 {

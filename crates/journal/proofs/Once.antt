@@ -1,0 +1,65 @@
+-- Nothing else could satisfy the statements: two results of one exported call are the same.
+use Prim.Native.Nat.{ℕ}
+use mathlib.Core.Path.{_≡_, refl, sym, ap, _∙_}
+use mathlib.Core.List.{List}
+use Rattle.rules.specs.Numbers.{answerNumber}
+use Rattle.rules.specs.Own.{OwnOutcome}
+use Rattle.rules.specs.declared.model.Call.{Call}
+use Rattle.rules.specs.declared.model.Setting.{Setting}
+use Rattle.site.specs.Entries.{stepOn, freshOn}
+use Rattle.site.proofs.Once.{Same, once}
+use Rattle.own.proofs.Firm.{Alike, alike}
+use Rattle.writer.specs.declared.Written.{Written}
+use Rattle.writer.proofs.Once.{write-once, length-once}
+use Rattle.reader.proofs.Once.{read-once}
+use Rattle.reader.proofs.Once as reader
+use Rattle.journal.specs.Numbered.{Stepped, Freshened, Alone}
+use Rattle.journal.specs.Images.{writtenNumber, writtenLength}
+use Rattle.journal.specs.Images.{LengthAnswered, WriteAnswered, ReadAnswered}
+
+pub stepped-once : {d : Call} {xs ls ys ms zs ns : List ℕ} {r q : ℕ}
+    → Stepped d xs ls ys ms r → Stepped d xs ls zs ns q
+    → (r ≡ q) × Same ys ms zs ns (stepOn xs ls d .answer) (stepOn xs ls d .answer)
+stepped-once p q = (p .number ∙ sym (q .number), once (p .after) (q .after))
+
+pub fresh-once : {n J L : ℕ} {xs ls ys ms zs ns : List ℕ} {r q : ℕ}
+    → Freshened n J L xs ls ys ms r → Freshened n J L xs ls zs ns q
+    → (r ≡ q) × Same ys ms zs ns (freshOn xs ls n J L .answer) (freshOn xs ls n J L .answer)
+fresh-once p q = (p .number ∙ sym (q .number), once (p .made .after) (q .made .after))
+
+pub alone-once : {s : Setting} {o : OwnOutcome} {x out y ot z op : List ℕ} {to t u r q : ℕ}
+    → Alone s o x out y ot to t r → Alone s o x out z op to u q
+    → (r ≡ q) × (t ≡ u) × Alike s y ot (o .answer) (o .to) z op (o .answer) (o .to)
+alone-once {s} {o} p q = (
+  p .number ∙ sym (q .number),
+  p .set ∙ sym (q .set),
+  alike s o o refl (p .owned) (q .owned),
+)
+
+-- the number and the length of one answer
+same-written : {a b : Written} (len : ℕ) {t u r q : ℕ} → a ≡ b → r ≡ writtenNumber a
+    → q ≡ writtenNumber b → t ≡ writtenLength a len → u ≡ writtenLength b len
+    → (r ≡ q) × (t ≡ u)
+same-written len e f g h k = (
+  f ∙ ap writtenNumber e ∙ sym g,
+  h ∙ ap (λ w. writtenLength w len) e ∙ sym k,
+)
+
+pub image-length-once : {xs ls : List ℕ} {len t u r q : ℕ} → LengthAnswered xs ls len t r
+    → LengthAnswered xs ls len u q → (r ≡ q) × (t ≡ u)
+image-length-once {len = len} p q =
+    same-written len (length-once (p .is) (q .is)) (p .number) (q .number) (p .length) (q .length)
+
+pub written-once : {xs ls o y z : List ℕ} {len t u r q : ℕ} → WriteAnswered xs ls o y len t r
+    → WriteAnswered xs ls o z len u q → (y ≡ z) × (r ≡ q) × (t ≡ u)
+written-once {len = len} p q =
+    let e = write-once (p .is) (q .is) in
+    let w = same-written len (e .0) (p .number) (q .number) (p .length) (q .length) in
+    (e .1, w .0, w .1)
+
+pub read-answered-once : {bytes xs ls ys ks zs ms : List ℕ} {r q : ℕ}
+    → (p : ReadAnswered bytes xs ls ys ks r) → (h : ReadAnswered bytes xs ls zs ms q)
+    → (r ≡ q) × reader.Same (p .answer) (h .answer) ys ks zs ms
+read-answered-once p h =
+    let e = read-once (p .is) (h .is) in
+    (p .number ∙ ap answerNumber (e .answer) ∙ sym (h .number), e)
