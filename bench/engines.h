@@ -11,6 +11,7 @@ struct engine {
 };
 
 extern struct site site;
-extern const struct engine PLAIN, JOURNAL;
+/* FORMED is the plain engine that looks at form before each step, as the library does. */
+extern const struct engine PLAIN, FORMED, JOURNAL;
 
 #endif

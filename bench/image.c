@@ -1,4 +1,4 @@
-/* The site image in plain C: its length, writer and reader. */
+/* The site image in plain C: its length, writer and reader; and what is by form. */
 #include "plain.h"
 
 static u64 link_length(const struct link *link, u32 l) {
@@ -92,13 +92,12 @@ static u32 get(struct rest *r) {
     return word;
 }
 
-static u32 get_to(struct rest *r, u32 most) {
-    u32 word = get(r);
-    if (word > most) r->bad = 1, word = 0;
-    return word;
+/* A count that the room has to hold. */
+static u32 get_count(struct rest *r, u32 most) {
+    u32 count = get(r);
+    if (count > most) r->bad = 1, count = 0;
+    return count;
 }
-
-static u32 proper(u64 record) { return record >> 32 != 0 && (record & 4294967295u) != 0; }
 
 static void get_records(struct rest *r, u64 *records, u32 count) {
     if (r->left < 8 * (u64)count) {
@@ -107,82 +106,112 @@ static void get_records(struct rest *r, u64 *records, u32 count) {
     }
     __builtin_memcpy(records, r->p, 8 * (u64)count);
     r->p += 8 * (u64)count, r->left -= 8 * (u64)count;
-    u32 all = 1;
-    for (u32 i = 0; i < count; i++) all &= proper(records[i]);
-    r->bad |= !all;
 }
 
-static u64 get_record(struct rest *r) {
-    u64 record = 0;
-    if (r->left < 8) return r->bad = 1, 0;
-    __builtin_memcpy(&record, r->p, 8);
-    r->p += 8, r->left -= 8;
-    if (record && !proper(record)) r->bad = 1;
-    return record;
-}
-
-static void get_box(struct rest *r, struct site *s, u32 c) {
-    struct camera *b = &s->boxes[c];
-    b->leads = get_to(r, 1), b->state = get_to(r, REFRESH), b->phase = get_to(r, COMMIT_PHASE);
-    b->pn = get_to(r, HIGHEST_PN), b->last = get_to(r, s->j);
-    b->stored_pn = get_to(r, HIGHEST_PN), b->stored_number = get_to(r, s->j);
-    b->best_pn = get_to(r, HIGHEST_PN), b->best_number = get_to(r, s->j);
-    b->replies = get_to(r, s->n), b->accepts = get_to(r, (1u << s->n) - 1);
-    b->best = get_record(r), b->waiting = get_record(r), b->agreeing = get_record(r);
-    for (u32 k = 0; k < s->n; k++) {
-        b->peers[k] = get(r);
-        if (b->peers[k] != UNKNOWN && (k == c || b->peers[k] > s->j)) r->bad = 1;
-    }
-    b->held = get_to(r, s->j);
-    if (b->held != b->last && b->held != b->last + 1) r->bad = 1;
+static void get_box(struct rest *r, const struct site *s, struct camera *b) {
+    b->leads = get(r), b->state = get(r), b->phase = get(r), b->pn = get(r), b->last = get(r);
+    b->stored_pn = get(r), b->stored_number = get(r), b->best_pn = get(r), b->best_number = get(r);
+    b->replies = get(r), b->accepts = get(r);
+    get_records(r, &b->best, 1), get_records(r, &b->waiting, 1), get_records(r, &b->agreeing, 1);
+    for (u32 k = 0; k < s->n; k++) b->peers[k] = get(r);
+    b->held = get_count(r, s->j);
     get_records(r, b->records, b->held);
 }
 
-static void get_mail(struct rest *r, struct site *s, struct mail *m) {
-    m->kind = get_to(r, LEASE), m->pn = get_to(r, HIGHEST_PN), m->last = get_to(r, s->j);
-    m->unagreed_pn = get_to(r, HIGHEST_PN), m->count = get_to(r, s->j);
-    u32 told = m->kind == LAST && m->count == m->last + 1;
-    if (m->unagreed_pn && !told) r->bad = 1;
-    switch (m->kind) {
-    case 0: r->bad = 1; break;
-    case LAST: r->bad |= m->count != m->last && !told; break;
-    case COMMIT: r->bad |= m->count != m->last; break;
-    case BEGIN: r->bad |= m->count != 1 || m->last >= s->j; break;
-    case LEASE: r->bad |= m->count != 0 || m->pn != 0; break;
-    default: r->bad |= m->count != 0; break;
-    }
+static void get_mail(struct rest *r, const struct site *s, struct mail *m) {
+    m->kind = get(r), m->pn = get(r), m->last = get(r), m->unagreed_pn = get(r);
+    m->count = get_count(r, s->j);
     get_records(r, m->records, m->count);
+}
+
+/* An entry of the table of contents against where its body began and ended. */
+static void look_at_entry(struct rest *table, struct rest *r, const u8 *image, const u8 *body) {
+    r->bad |= get(table) != (u64)(body - image);
+    r->bad |= get(table) != (u64)(r->p - body);
 }
 
 u32 image_read(struct site *s, const u8 *image, u64 length) {
     struct rest r = {image, length, 0}, table;
-    u32 bodies = get(&r), leaders = 0;
-    if (r.bad || bodies < 3 || bodies > 7) return 1;
+    u32 bodies = get(&r);
+    if (r.bad || bodies < 3 || bodies > 7 || length < 4 + 8 * (u64)bodies) return 1;
     table = r;
-    u64 offset = 4 + 8 * (u64)bodies;
-    if (length < offset + 20) return 1;
-    r.p = image + offset, r.left = length - offset;
-    s->n = get(&r), s->j = get(&r), s->l = get(&r), s->epoch = get(&r), s->present = get(&r);
-    if (s->n != bodies - 2 || s->j < 1 || s->j > J_MAX || s->l < 1 || s->l > L_MAX) return 1;
-    if (s->epoch < 1 || s->epoch > LAST_EPOCH || s->present >> s->n) return 1;
-    if (get(&table) != offset || get(&table) != 20) return 1;
-    for (u32 c = 0; c < s->n; c++) {
-        const u8 *body = r.p;
-        get_box(&r, s, c);
-        leaders += s->boxes[c].leads;
-        r.bad |= get(&table) != (u64)(body - image) || get(&table) != (u64)(r.p - body);
-        if (r.bad) return 1;
-    }
+    r.p = image + 4 + 8 * (u64)bodies, r.left = length - 4 - 8 * (u64)bodies;
     const u8 *body = r.p;
+    s->n = get(&r), s->j = get(&r), s->l = get(&r), s->epoch = get(&r), s->present = get(&r);
+    look_at_entry(&table, &r, image, body);
+    if (r.bad || s->n != bodies - 2 || s->j > J_MAX || s->l > L_MAX) return 1;
+    for (u32 c = 0; c < s->n && !r.bad; c++) {
+        body = r.p;
+        get_box(&r, s, &s->boxes[c]);
+        look_at_entry(&table, &r, image, body);
+    }
+    body = r.p;
     for (u32 a = 0; a < s->n; a++)
         for (u32 b = 0; b < s->n; b++) {
             struct link *link = &s->links[a][b];
             link->first = link->count = 0;
             if (a == b) continue;
-            u32 count = get_to(&r, s->l);
-            for (; link->count < count && !r.bad; link->count++)
+            for (u32 count = get_count(&r, s->l); link->count < count && !r.bad; link->count++)
                 get_mail(&r, s, &link->mails[link->count]);
         }
-    r.bad |= get(&table) != (u64)(body - image) || get(&table) != (u64)(r.p - body);
-    return r.bad || r.left || leaders > 1;
+    look_at_entry(&table, &r, image, body);
+    return r.bad || r.left || !by_form(s);
+}
+
+static u32 proper(u64 record) { return record >> 32 != 0 && (record & 4294967295u) != 0; }
+
+static u32 all_proper(const u64 *records, u32 count) {
+    u32 all = 1;
+    for (u32 i = 0; i < count; i++) all &= proper(records[i]);
+    return all;
+}
+
+static u32 box_by_form(const struct site *s, u32 c) {
+    const struct camera *b = &s->boxes[c];
+    u32 j = s->j, fine = b->leads <= 1 && b->state <= REFRESH && b->phase <= COMMIT_PHASE;
+    fine &= b->pn <= HIGHEST_PN && b->stored_pn <= HIGHEST_PN && b->best_pn <= HIGHEST_PN;
+    fine &= b->last <= j && b->stored_number <= j && b->best_number <= j && b->held <= j;
+    fine &= b->replies <= s->n && !(b->accepts >> s->n);
+    fine &= !b->best || proper(b->best);
+    fine &= !b->waiting || proper(b->waiting);
+    fine &= !b->agreeing || proper(b->agreeing);
+    for (u32 k = 0; k < s->n; k++)
+        fine &= b->peers[k] == UNKNOWN || (k != c && b->peers[k] <= j);
+    return fine && b->held - b->last <= 1 && all_proper(b->records, b->held);
+}
+
+static u32 mail_by_form(const struct site *s, const struct mail *m) {
+    if (m->pn > HIGHEST_PN || m->last > s->j || m->unagreed_pn > HIGHEST_PN) return 0;
+    if (m->count > s->j || !all_proper(m->records, m->count)) return 0;
+    u32 told = m->kind == LAST && m->count == m->last + 1;
+    if (m->unagreed_pn && !told) return 0;
+    switch (m->kind) {
+    case LAST: return m->count == m->last || told;
+    case COMMIT: return m->count == m->last;
+    case BEGIN: return m->count == 1 && m->last < s->j;
+    case LEASE: return m->count == 0 && m->pn == 0;
+    case COLLECT:
+    case ACCEPT: return m->count == 0;
+    default: return 0;
+    }
+}
+
+u32 by_form(const struct site *s) {
+    u32 leaders = 0;
+    if (s->n < 1 || s->n > 5 || s->j < 1 || s->j > 4096 || s->l < 1 || s->l > 16) return 0;
+    if (s->epoch < 1 || s->epoch > LAST_EPOCH || s->present >> s->n) return 0;
+    for (u32 c = 0; c < s->n; c++) {
+        if (!box_by_form(s, c)) return 0;
+        leaders += s->boxes[c].leads;
+    }
+    for (u32 a = 0; a < s->n; a++)
+        for (u32 b = 0; b < s->n; b++) {
+            const struct link *link = &s->links[a][b];
+            if (a == b) continue;
+            for (u32 i = 0, place = link->first; i < link->count; i++) {
+                if (!mail_by_form(s, &link->mails[place])) return 0;
+                place = place + 1 == s->l ? 0 : place + 1;
+            }
+        }
+    return leaders <= 1;
 }

@@ -56,6 +56,8 @@ void fresh(struct site *s, u32 n, u32 j, u32 l);
 u32 step(struct site *s, u32 call, u32 c, u32 x, u32 y);
 u32 holds(const struct site *s, u32 c, u32 k, u32 left, u32 right);
 
+u32 by_form(const struct site *s);
+
 u64 image_length(const struct site *s);
 void image_write(const struct site *s, u8 *image);
 /* 0, or 1 where the bytes are no site by form. */

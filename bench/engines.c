@@ -1,0 +1,70 @@
+/* The two engines under one set of names: the plain one, and the library on words from malloc. */
+#include "engines.h"
+#include "journal.h"
+
+void *malloc(u64 size);
+void free(void *memory);
+
+struct site site;
+
+static u32 plain_fresh(u32 n, u32 j, u32 l) { return fresh(&site, n, j, l), DONE; }
+
+static u32 plain_step(u32 call, u32 a, u32 b, u32 c) { return step(&site, call, a, b, c); }
+
+static u32 plain_write(u8 *image, u64 length) {
+    if (image_length(&site) != length) return 12;
+    return image_write(&site, image), DONE;
+}
+
+static u32 plain_read(const u8 *image, u64 length) { return image_read(&site, image, length); }
+
+static u32 formed_step(u32 call, u32 a, u32 b, u32 c) {
+    return by_form(&site) ? step(&site, call, a, b, c) : 1;
+}
+
+const struct engine FORMED = {plain_fresh, formed_step, plain_write, plain_read};
+const struct engine PLAIN = {plain_fresh, plain_step, plain_write, plain_read};
+
+static u64 *boxes, *links, box_words, link_words;
+
+static u32 journal_begin(u32 n, u32 j, u32 l) {
+    u64 old = box_words + link_words;
+    box_words = journal_site_words(n, j, l), link_words = journal_links_words(n, j, l);
+    if (old != box_words + link_words) {
+        free(boxes), free(links);
+        boxes = malloc(8 * box_words), links = malloc(8 * link_words);
+    }
+    return journal_fresh(boxes, box_words, links, link_words, n, j, l);
+}
+
+#define LENT boxes, box_words, links, link_words
+
+static u32 journal_call(u32 call, u32 a, u32 b, u32 c) {
+    switch (call) {
+    case ELECT: return journal_elect(LENT, a);
+    case RECOVER: return journal_recover(LENT, a);
+    case COLLECT_CALL: return journal_collect(LENT, a);
+    case READY: return journal_ready(LENT, a);
+    case PROPOSE: return journal_propose(LENT, a);
+    case AGREE: return journal_agree(LENT, a);
+    case FINISH: return journal_finish(LENT, a);
+    case STOP: return journal_stop(LENT, a);
+    case RETURN: return journal_return(LENT, a);
+    case TIMEOUT: return journal_timeout(LENT, a);
+    case OFFER: return journal_offer(LENT, a, b, c);
+    case LOSE: return journal_lose(LENT, a, b);
+    default: return journal_deliver(LENT, a, b);
+    }
+}
+
+static u32 journal_writes(u8 *image, u64 length) {
+    u64 wrote = 0;
+    u32 answer = journal_write(LENT, image, length, &wrote);
+    return answer == DONE && wrote != length ? 12 : answer;
+}
+
+static u32 journal_reads(const u8 *image, u64 length) {
+    return journal_read(image, length, LENT);
+}
+
+const struct engine JOURNAL = {journal_begin, journal_call, journal_writes, journal_reads};
