@@ -1,11 +1,7 @@
-/* `apply` in plain C: one step on an image, a line each. It shows that the plain engine, writer and
-   reader keep the paper's rules: bench/run compares them before it measures them. */
-#include "lines.h"
+/* `apply` in C: one step on an image, a line each. */
+#include "apply.h"
 
-#define LONGEST_IMAGE 65536
-
-static struct site site;
-static u8 image[LONGEST_IMAGE + 4 * (20 + 8 * J_MAX)];
+static u8 image[LONGEST_AFTER];
 
 static u32 refuse(u32 refusal) {
     u8 *to = put_number(put_text(out_room(32), "refused "), refusal);
@@ -36,14 +32,13 @@ static u32 apply_line(const u8 *p, u64 length, u64 number) {
         }
     }
     if (!readable) return refuse(11);
-    if (image_read(&site, image, bytes)) return refuse(1);
-    u32 answer = answer_line(&site, &line);
+    u32 answer = take_image(image, bytes);
+    if (answer == DONE) answer = take_call(&line);
     if (is_refusal(answer)) return refuse(answer);
     static const char *const WORD[] = {"taken ", "discarded role ", "discarded phase ",
                                        "discarded number ", "discarded place "};
-    u64 after = image_length(&site);
+    u64 after = give_image(image);
     u8 *to = put_text(out_room(32 + 2 * after), answer == DONE ? "done " : WORD[answer - TAKEN]);
-    image_write(&site, image);
     for (u64 i = 0; i < after; i++) {
         *to++ = (u8)"0123456789abcdef"[image[i] >> 4];
         *to++ = (u8)"0123456789abcdef"[image[i] & 15];

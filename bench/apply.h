@@ -1,0 +1,17 @@
+/* What `apply` in C does a line's step with: the plain engine (bench/apply_plain.c), or the library
+   with every box by itself (tests/boxes.c). */
+#ifndef APPLY_H
+#define APPLY_H
+#include "lines.h"
+
+#define LONGEST_IMAGE 65536
+/* The longest image after a step: four mails more. */
+#define LONGEST_AFTER (LONGEST_IMAGE + 4 * (20 + 8 * J_MAX))
+
+/* 0, or a refusal. */
+u32 take_image(const u8 *image, u64 length);
+u32 take_call(const struct line *line);
+/* The image's length, at most LONGEST_AFTER. */
+u64 give_image(u8 *image);
+
+#endif

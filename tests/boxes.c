@@ -1,0 +1,117 @@
+/* `apply` on the C library, twice: with every box by itself, this program carrying the mails, and by
+   the library's own calls on a site. Both must give the same, and together what `apply` prints. */
+#include "apply.h"
+#include "engines.h"
+#include "journal.h"
+
+static u64 words[JOURNAL_SITE_WORDS(5, 4096)], links[JOURNAL_LINKS_WORDS(5, 4096, 16)];
+static u64 row[JOURNAL_ROW_WORDS(4096)], letter[JOURNAL_PLACE_WORDS(4096)];
+static u8 other[LONGEST_AFTER];
+
+/* No refusal of the paper's: the two ways differ, or a refused call changed the site. */
+#define DIFFERS 99
+
+static u32 n, j, l;
+static const u8 *given;
+static u64 given_length;
+
+#define LENT words, sizeof words / 8, links, sizeof links / 8
+#define ALONE row, 20 + j, letter, 5 + j, &to, n, j, l, (u32)words[3], (u32)words[4]
+
+static u64 *row_of(u32 c) { return words + 5 + (u64)(c - 1) * (20 + j); }
+
+/* The link from a to b: the place of its head, its count, L places. */
+static u64 *link_of(u32 a, u32 b) {
+    u32 pair = (a - 1) * (n - 1) + (b < a ? b - 1 : b - 2);
+    return links + (u64)pair * (2 + (u64)l * (5 + j));
+}
+
+static u64 *place_of(u64 *link, u64 i) { return link + 2 + (link[0] + i) % l * (5 + j); }
+
+static u32 is_box(u32 c) { return c >= 1 && c <= n; }
+
+/* A box's part is done on a copy of its row: it counts once every mail has room. */
+static u32 settle(u32 c, u32 answer, u32 to) {
+    if (is_refusal(answer)) return answer;
+    for (u32 k = 1; k <= n; k++)
+        if (to >> (k - 1) & 1 && link_of(c, k)[1] == l) return JOURNAL_LINK;
+    for (u32 k = 1; k <= n; k++) {
+        if (!(to >> (k - 1) & 1)) continue;
+        u64 *link = link_of(c, k);
+        __builtin_memcpy(place_of(link, link[1]++), letter, 8 * (5 + letter[4]));
+    }
+    __builtin_memcpy(row_of(c), row, 8 * (20 + (u64)j));
+    return answer;
+}
+
+static u32 deliver(u32 a, u32 c) {
+    u32 to = 0;
+    if (!is_box(a) || !is_box(c) || a == c) return JOURNAL_BOX;
+    u64 *link = link_of(a, c);
+    if (!link[1]) return JOURNAL_CONDITION;
+    __builtin_memcpy(row, row_of(c), 8 * (20 + (u64)j));
+    u32 answer = settle(c, journal_own_mail(row, 20 + j, place_of(link, 0), 5 + j, letter, 5 + j, &to,
+                                            n, j, l, (u32)words[3], (u32)words[4], c, a), to);
+    if (!is_refusal(answer)) link[0] = (link[0] + 1) % l, link[1]--;
+    return answer;
+}
+
+static u32 lead(const struct line *line) {
+    u32 c = line->a, to = 0, answer;
+    __builtin_memcpy(row, row_of(is_box(c) ? c : 1), 8 * (20 + (u64)j));
+    switch (line->call) {
+    case RECOVER: answer = journal_own_recover(ALONE, c); break;
+    case COLLECT_CALL: answer = journal_own_collect(ALONE, c); break;
+    case READY: answer = journal_own_ready(ALONE, c); break;
+    case OFFER: answer = journal_own_offer(ALONE, c, line->b, line->c); break;
+    case PROPOSE: answer = journal_own_propose(ALONE, c); break;
+    case AGREE: answer = journal_own_agree(ALONE, c); break;
+    default: answer = journal_own_finish(ALONE, c); break;
+    }
+    return settle(c, answer, to);
+}
+
+static u32 by_boxes(const struct line *line) {
+    switch (line->call) {
+    case ELECT: return journal_elect(LENT, line->a);
+    case STOP: return journal_stop(LENT, line->a);
+    case RETURN: return journal_return(LENT, line->a);
+    case TIMEOUT: return journal_timeout(LENT, line->a);
+    case LOSE: return journal_lose(LENT, line->a, line->b);
+    case HOLDS: return journal_holds(LENT, line->a, line->b, line->c, line->d);
+    case DELIVER: return deliver(line->a, line->b);
+    default: return lead(line);
+    }
+}
+
+u32 take_image(const u8 *image, u64 length) {
+    static u32 begun;
+    if (!begun++) JOURNAL.fresh(5, 4096, 16);
+    u32 answer = journal_read(image, length, LENT);
+    if (answer != JOURNAL.read(image, length)) return DIFFERS;
+    given = image, given_length = length;
+    n = (u32)words[0], j = (u32)words[1], l = (u32)words[2];
+    return answer;
+}
+
+/* The image that was given is still that of both. */
+static u32 kept(void) {
+    u64 length = 0;
+    if (journal_write(LENT, other, LONGEST_AFTER, &length) || length != given_length) return 0;
+    if (__builtin_memcmp(given, other, length)) return 0;
+    return !JOURNAL.write(other, length) && !__builtin_memcmp(given, other, length);
+}
+
+u32 take_call(const struct line *line) {
+    u32 answer = by_boxes(line), again = answer;
+    if (line->call != HOLDS) again = JOURNAL.step(line->call, line->a, line->b, line->c);
+    if (answer != again || (is_refusal(answer) && !kept())) return DIFFERS;
+    return answer;
+}
+
+u64 give_image(u8 *image) {
+    u64 length = 0;
+    if (journal_write(LENT, image, LONGEST_AFTER, &length)) return 0;
+    if (JOURNAL.write(other, length)) return 0;
+    return __builtin_memcmp(image, other, length) == 0 ? length : 0;
+}
