@@ -50,8 +50,8 @@ static u32 deliver(u32 a, u32 c) {
     u64 *link = link_of(a, c);
     if (!link[1]) return JOURNAL_CONDITION;
     __builtin_memcpy(row, row_of(c), 8 * (20 + (u64)j));
-    u32 answer = journal_own_mail(row, 20 + j, place_of(link, 0), 5 + j, letter, 5 + j, &to, n, j, l,
-                                  (u32)words[3], (u32)words[4], c, a);
+    u32 answer = journal_own_mail(row, 20 + j, place_of(link, 0), 5 + j, letter, 5 + j, &to,
+                                  n, j, l, (u32)words[3], (u32)words[4], c, a);
     answer = settle(c, answer, to);
     if (!is_refusal(answer)) link[0] = (link[0] + 1) % l, link[1]--;
     return answer;
