@@ -31,7 +31,7 @@ siteIn t = record {
 }
 
 -- A list is what stands at its indices.
-at-indices {ℓ} : {A : Type ℓ} (d : A) (l : List A) (m : ℕ) → length l ≡ m
+pub at-indices {ℓ} : {A : Type ℓ} (d : A) (l : List A) (m : ℕ) → length l ≡ m
     → map (λ (k : ℕ). getD l k d) (numbersFrom 0 m) ≡ l
 at-indices d l m e =
     let at : ℕ → _ = λ k. getD l k d in

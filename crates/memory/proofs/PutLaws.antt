@@ -8,7 +8,7 @@ use lib.Dec.{eqb}
 use lib.ListN.{length, take, drop, length-drop}
 use borrow.Author.Tests.{eq-eqb}
 use Rattle.words.specs.Rows.{part, splice}
-use Rattle.words.proofs.PartLaws.{take-splice, drop-splice, rest-splice, length-splice, part-splice}
+use Rattle.words.proofs.PartLaws.{take-splice, drop-splice, drop-past, length-splice, part-splice}
 use Rattle.words.proofs.PartLaws.{part-drop}
 use Rattle.words.proofs.RowLaws.{row-end, part-other}
 use Rattle.rules.specs.Box.{Box, Letter}
@@ -76,8 +76,8 @@ module _ (s : Setting) (b : ℕ) (xs ys : List ℕ) (h : isBox (s .n) b ≡ true
         fits = ap (rowFits (s .j)) here ∙ f;
         others = row-other;
         general = take-splice 5 ((b - 1) * w) w xs ys (omega (arith, row-inside));
-        past = rest-splice (siteWords (s .n) (s .j)) (rowStart (s .j) b) w xs ys
-            (omega (arith, row-inside)) e (row-within (s .j) (s .n) b h);
+        past = drop-past (rowStart (s .j) b) w (siteWords (s .n) (s .j)) xs ys
+            (row-within (s .j) (s .n) b h) row-inside e;
         words = length-splice (rowStart (s .j) b) w xs ys row-inside e;
       }
 
@@ -124,8 +124,8 @@ link-set s k ls ys zs h long e =
       letters = ap (linkOf (s .j) (s .l)) here ∙ e .letters;
       fits = ap (linkFits (s .j) (s .l)) here ∙ e .fits;
       others = λ i g ne. part-other w (s .n * (s .n - 1)) k i ls ys h g ne long (e .width);
-      past = rest-splice (linksWords (s .n) (s .j) (s .l)) (k * w) w ls ys (omega (arith, inside))
-          (e .width) (row-end w h);
+      past = drop-past (k * w) w (linksWords (s .n) (s .j) (s .l)) ls ys (row-end w h) inside
+          (e .width);
       words = length-splice (k * w) w ls ys inside (e .width);
     }
 

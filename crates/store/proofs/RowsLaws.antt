@@ -3,32 +3,16 @@ use mathlib.Core.Path.{_≡_, refl, sym, ap, _∙_, subst}
 use Prim.Native.Nat.{ℕ, suc, _+_, _-_, _*_, _≤_, _<_}
 use native.Mathlib.Decide.{ℕ-discrete}
 use native.Mathlib.Omega.{arith}
-use mathlib.Core.List.{List, _++_, append-assoc}
-use lib.ListN.{length, take, drop, getD, length-append}
-use lib.Seq.{take-all, drop-at, drop-drop, drop-cons, length-take-le}
+use mathlib.Core.List.{List, _++_}
+use lib.ListN.{length, take, drop, getD}
+use lib.Seq.{take-all, drop-cons}
 use Rattle.words.specs.Rows.{part, splice}
-use Rattle.words.proofs.PartLaws.{part-splice, put-at}
+use Rattle.words.proofs.PartLaws.{drop-past, part-splice, put-at}
 use Rattle.words.proofs.RowLaws.{row-end, part-other}
 use Rattle.cells.specs.Cells.{chain, Stands, Found, Many, Has}
 use Rattle.cells.proofs.ChainLaws.{chain-cons, chain-split, chain-step, each-at}
 use Rattle.cells.proofs.StandLaws.{stands-nil, stands-as, stands-seq, stands-first, stands-rest}
 use Rattle.store.specs.Store.{HoldsRows, StoredIs}
-
--- What follows a part that is put back is as it was.
-pub drop-past : (a k b : ℕ) (xs ys : List ℕ) → a + k ≤ b → a + k ≤ length xs → length ys ≡ k
-    → drop b (splice xs a k ys) ≡ drop b xs
-drop-past a k b xs ys h l e =
-    let f = take a xs ++ ys in
-    let n : length f ≡ a + k =
-    length-append (take a xs) ys ∙ omega (arith, length-take-le a xs (omega arith)) in
-    let behind : drop (a + k) (splice xs a k ys) ≡ drop (a + k) xs =
-    ap (drop (a + k)) (sym (append-assoc (take a xs) ys (drop k (drop a xs))))
-    ∙ drop-at f (drop k (drop a xs)) (a + k) n ∙ drop-drop k a xs in
-    let m = b - (a + k) in
-    let s : a + k + m ≡ b = omega arith in
-    subst (λ (c : ℕ). drop c (splice xs a k ys) ≡ drop c xs) s
-    (sym (drop-drop m (a + k) (splice xs a k ys)) ∙ ap (drop m) behind
-    ∙ drop-drop m (a + k) xs)
 
 module _ {A : Type 0} (enc : A → List ℕ) (Good : A → Type 0) (Holds : List ℕ → A → Type 0)
     (w n : ℕ) (d : A) (src : List ℕ) (at : ℕ) where

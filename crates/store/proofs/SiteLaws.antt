@@ -2,10 +2,9 @@
 use mathlib.Core.Path.{_≡_, sym, ap, _∙_, subst}
 use mathlib.Core.Bool.{Bool, true, cond}
 use Prim.Native.Nat.{ℕ, _+_, _-_, _*_, _^_, _≤_, _<_}
-use native.Mathlib.Nat.{zero-add}
 use native.Mathlib.Omega.{arith}
-use mathlib.Core.List.{List, [], _∷_, _++_, append-nil, map}
-use lib.ListN.{length, take, drop, getD, length-append, length-drop, length-map}
+use mathlib.Core.List.{List, [], _∷_, _++_, append-nil}
+use lib.ListN.{length, take, drop, getD, length-append, length-drop}
 use lib.ListN.{List·getD-append}
 use lib.Seq.{ext-getD, take-length, take-at, drop-at, drop-drop, drop-length}
 use Rattle.words.specs.Rows.{part, splice}
@@ -28,11 +27,12 @@ use Rattle.cells.specs.Cells.{chain, cells, Stands, Read, Found, Many, Has}
 use Rattle.cells.proofs.ChainLaws.{length-cells, each-at, each-map}
 use Rattle.cells.proofs.StandLaws.{stands-first, stands-rest}
 use Rattle.cells.proofs.CodeLaws.{told}
-use Rattle.image.specs.Image.{numbersFrom, boxesOf, linksOf, boxBody, linkBytes}
+use Rattle.image.specs.Image.{boxesOf, linksOf, boxBody, linkBytes}
 use Rattle.image.specs.Parts.{GoodBox, SomeBox, GoodLink, Listed, nIn, JIn, LIn, listed}
 use Rattle.image.specs.Parts.{listedBytes, GoodListed}
-use Rattle.image.proofs.OrderLaws.{map-at, length-from, from-at, length-boxes, boxes-at, pairs-flat}
+use Rattle.image.proofs.OrderLaws.{length-boxes, boxes-at, pairs-flat}
 use Rattle.image.proofs.ListedLaws.{good-listed, listed-split, listed-parts}
+use Rattle.image.proofs.SiteIn.{at-indices}
 use Rattle.store.specs.Store.{HoldsBox, HoldsRows, StoredIs, RoomFor, HoldsSite}
 
 -- ---- what stands there; w are the general words that were read
@@ -169,20 +169,7 @@ module _ (w tail : List ℕ) (five : length w ≡ 5) where
 
 -- ---- what the words hold
 
--- A list is what it has at each index.
-all-got {ℓ} : {A : Type ℓ} (d : A) (l : List A) (m : ℕ) → length l ≡ m
-    → map (λ k. getD l k d) (numbersFrom 0 m) ≡ l
-all-got d l m e =
-    let ns = numbersFrom 0 m in
-    let count = length-map ns (λ k. getD l k d) in
-    let size = length-from 0 m in
-    ext-getD d (map (λ k. getD l k d) ns) l (omega arith)
-    (λ i h.
-    let k : i < m = omega arith in
-    map-at (λ k. getD l k d) ns i d 0 (omega arith)
-    ∙ ap (λ (j : ℕ). getD l j d) (from-at 0 m i 0 k ∙ zero-add i))
-
--- The general words a to e, the rows ds, the links ks.
+-- The general words n to e, the rows ds, the links ks.
 module _ (n J L d e : ℕ) (ds ks : List ℕ) (bs : List Box) (lks : List (List Letter)) where
   abbrev words : List ℕ
   words = n ∷ J ∷ L ∷ d ∷ e ∷ ds
@@ -223,7 +210,7 @@ module _ (n J L d e : ℕ) (ds ks : List ℕ) (bs : List Box) (lks : List (List 
         let h = link-is n a b ha hb ab in
         ap (λ (t : Bool). cond t (linkOf J L (linkAt n J L ks a b)) []) h
         ∙ links (linkIndex n a b) (index-below n a b h) .letters)
-        ∙ all-got [] lks (n * (n - 1)) (good .links .count)
+        ∙ at-indices [] lks (n * (n - 1)) (good .links .count)
 
     pub site-listed : listed (siteOf words ks) ≡ held
     unfolding listed siteOf

@@ -4,15 +4,15 @@ use mathlib.Core.Bool.{Bool, true, false, false≢true, cond, _&&_, and-assoc, a
 use Prim.Native.Nat.{ℕ, _+_, _-_, _^_, _≤_, _<_}
 use native.Mathlib.Nat.{add-sub-cancel-left, zero-add}
 use native.Mathlib.Omega.{arith}
-use mathlib.Core.List.{List, [], _∷_, _++_, append-assoc}
+use mathlib.Core.List.{List, [], _∷_, _++_}
 use lib.Dec.{leb}
-use lib.ListN.{length, take, drop, getD, replicate, getD-replicate, length-append}
+use lib.ListN.{length, take, drop, getD, replicate, getD-replicate}
 use lib.ListN.{length-drop, length-replicate}
-use lib.Seq.{ext-getD, take-all, take-append-le, drop-append-le, drop-at, drop-drop, length-take-le}
+use lib.Seq.{ext-getD, take-all, take-append-le, drop-append-le}
 use borrow.Author.Tests.{leb-true, leb-false}
 use Rattle.words.specs.Rows.{part, splice}
-use Rattle.words.proofs.PartLaws.{length-part, getD-part, part-part, gets, gets-all, length-splice}
-use Rattle.words.proofs.PartLaws.{part-splice}
+use Rattle.words.proofs.PartLaws.{length-part, getD-part, part-part, gets, gets-all}
+use Rattle.words.proofs.PartLaws.{length-splice, part-splice, drop-past}
 use Rattle.rules.specs.Every.{all, each}
 use Rattle.rules.specs.Sizes.{mostBoxes, mostLoads, unknown, proper}
 use Rattle.rules.specs.Box.{Box}
@@ -50,22 +50,7 @@ module _ (a k : ℕ) (xs ys : List ℕ) (h : a + k ≤ length xs) (e : length ys
 
   -- .. and so does what lies behind it.
   part-above : (b m : ℕ) → a + k ≤ b → part (splice xs a k ys) b m ≡ part xs b m
-  part-above b m l =
-      let c = b - (a + k) in
-      let same : a + k + c ≡ b = omega arith in
-      let to : drop (a + k) (splice xs a k ys) ≡ drop (a + k) xs =
-      ap (drop (a + k)) (sym (append-assoc (take a xs) ys (drop k (drop a xs))))
-      ∙ drop-at (take a xs ++ ys) (drop k (drop a xs)) (a + k) count
-      ∙ drop-drop k a xs in
-      ap (take m)
-      (ap (λ (i : ℕ). drop i (splice xs a k ys)) (sym same)
-      ∙ sym (drop-drop c (a + k) (splice xs a k ys)) ∙ ap (drop c) to ∙ drop-drop c (a + k) xs
-      ∙ ap (λ (i : ℕ). drop i xs) same)
-    where
-      count : length (take a xs ++ ys) ≡ a + k
-      count =
-          length-append (take a xs) ys
-          ∙ omega (arith, length-take-le a xs (omega arith))
+  part-above b m l = ap (take m) (drop-past a k b xs ys l h e)
 
 module _ (n : ℕ) (src : List ℕ) (at a b c r : ℕ) (w d1 d2 d3 d4 : List ℕ) (few : n ≤ mostBoxes)
     (wide : length w ≡ 20) where

@@ -99,20 +99,16 @@ module _ {ℓ} {A : Type ℓ} where
       rw (drop-at (take a xs), take-at ys)
 
   -- What follows the part stays.
-  pub rest-splice : (k a w : ℕ) (xs ys : List A) → a ≤ length xs → length ys ≡ w → a + w ≤ k
-      → drop k (splice xs a w ys) ≡ drop k xs
-  rest-splice k a w xs ys h e m =
+  pub drop-past : (a k b : ℕ) (xs ys : List A) → a + k ≤ b → a + k ≤ length xs → length ys ≡ k
+      → drop b (splice xs a k ys) ≡ drop b xs
+  drop-past a k b xs ys h l e =
       let f = take a xs ++ ys in
-      let l : length f ≡ a + w = simp (length-append, length-take) (omega arith) in
-      let d = k - (a + w) in
-      let z : a + w + d ≡ k = omega arith in
-      let here : drop (a + w) (splice xs a w ys) ≡ drop w (drop a xs) =
-      rw (← append-assoc (take a xs) ys) (drop-at f (drop w (drop a xs)) (a + w) l) in
-      ap (λ (i : ℕ). drop i (splice xs a w ys)) (sym z)
-      ∙ sym (drop-drop d (a + w) (splice xs a w ys))
-      ∙ ap (drop d) (here ∙ drop-drop w a xs)
-      ∙ drop-drop d (a + w) xs
-      ∙ ap (λ (i : ℕ). drop i xs) z
+      let n : length f ≡ a + k = simp (length-append, length-take) (omega arith) in
+      let behind : drop (a + k) (splice xs a k ys) ≡ drop (a + k) xs =
+      rw (← append-assoc (take a xs) ys, drop-at f, drop-drop) in
+      let m = b - (a + k) in
+      let s : b ≡ a + k + m = omega arith in
+      rw (s, ← drop-drop m (a + k), behind, drop-drop m (a + k) xs)
 
   -- The front up to the part's end is the front before it, and the part.
   pub take-splice-end : (a k : ℕ) (xs ys : List A) → a ≤ length xs → length ys ≡ k
