@@ -10,7 +10,7 @@
  * a pointer and its length in words; a longer one is allowed, and the words past those needed are
  * never read or written. What C must see to, since no test can: a pointer is not null, not even
  * with the length 0; words are aligned to 8 bytes; the length is no more than is there; two arrays of
- * one call do not overlap. What the words hold is tested by every call: words that are not by form
+ * one call do not overlap (nor do the numbers behind `to` and `length`). What the words hold is tested by every call: words that are not by form
  * are refused with 1.
  *
  * ANSWERS. Every function but the two that count words answers one of these numbers. A refused call

@@ -2,6 +2,7 @@
 ghost use Prim.Native.Nat.{_≤_};
 ghost use lib.ListN.{length};
 use crate::alone;
+use crate::decimals::Numbers;
 use crate::decimals::numbers_at;
 use crate::engine;
 use crate::lent;
@@ -12,24 +13,35 @@ use crate::spots;
 use lines::Line;
 use std::num::wrapping_add_usize;
 
-// What a line is. Heading: text. Lend: so many words of the site and of the links are lent from now
-// on. Trays: the same of the trays for a letter in and a letter out. Word, Row, Link, Letter: a
-// word of the site, of a box's row, of a link's row, of the tray in, is put. Book: a box's book is
-// put. Box, Mails: a box or a link is shown. Own: an event at a box by itself. Trace: a line of the
-// paper's trace.
+// What a line is. Told: text, or so many words that are lent from now on. Put: a word is put. See: a
+// box or a link is shown. Own: an event at a box by itself. Trace: a line of the paper's trace.
 enum Kind {
+    Told(Told),
+    Put(Put),
+    See(See),
+    Own,
+    Trace,
+}
+
+// Lend: words of the site and of the links. Trays: of the trays for a letter in and a letter out.
+enum Told {
     Heading,
     Lend,
     Trays,
+}
+
+// A word of the site, of a box's row, of a link's row, of the tray in; or a box's whole book.
+enum Put {
     Word,
     Row,
     Link,
     Letter,
     Book,
+}
+
+enum See {
     Box,
     Mails,
-    Own,
-    Trace,
 }
 
 fn or_kind(w: &[u8], s: &[u8], here: Kind, other: Kind) -> Kind {
@@ -41,34 +53,35 @@ fn or_kind(w: &[u8], s: &[u8], here: Kind, other: Kind) -> Kind {
 
 fn kind_of(s: &[u8]) -> Kind {
     let k = Kind::Trace;
-    let k = or_kind(b"#", s, Kind::Heading, k);
-    let k = or_kind(b"lend ", s, Kind::Lend, k);
-    let k = or_kind(b"trays ", s, Kind::Trays, k);
-    let k = or_kind(b"word ", s, Kind::Word, k);
-    let k = or_kind(b"row ", s, Kind::Row, k);
-    let k = or_kind(b"link ", s, Kind::Link, k);
-    let k = or_kind(b"letter ", s, Kind::Letter, k);
-    let k = or_kind(b"book ", s, Kind::Book, k);
-    let k = or_kind(b"box ", s, Kind::Box, k);
-    let k = or_kind(b"mails ", s, Kind::Mails, k);
+    let k = or_kind(b"#", s, Kind::Told(Told::Heading), k);
+    let k = or_kind(b"lend ", s, Kind::Told(Told::Lend), k);
+    let k = or_kind(b"trays ", s, Kind::Told(Told::Trays), k);
+    let k = or_kind(b"word ", s, Kind::Put(Put::Word), k);
+    let k = or_kind(b"row ", s, Kind::Put(Put::Row), k);
+    let k = or_kind(b"link ", s, Kind::Put(Put::Link), k);
+    let k = or_kind(b"letter ", s, Kind::Put(Put::Letter), k);
+    let k = or_kind(b"book ", s, Kind::Put(Put::Book), k);
+    let k = or_kind(b"box ", s, Kind::See(See::Box), k);
+    let k = or_kind(b"mails ", s, Kind::See(See::Mails), k);
     or_kind(b"own ", s, Kind::Own, k)
+}
+
+fn tell(t: Told, n: Numbers, z: Lent) -> Lent {
+    match t {
+        Told::Heading => z,
+        Told::Lend => z.words(n.c, n.d),
+        Told::Trays => z.trays(n.c, n.d),
+    }
 }
 
 fn put_row(z: Lent, site: &mut [u64], c: u64, k: u64, v: u64) {
     let at = wrapping_add_usize(spots::row_at(z.j, c), k as usize);
     spots::put(site, at, v);
-    show::text(b"\n");
 }
 
 fn put_link(z: Lent, links: &mut [u64], a: u64, b: u64, k: u64, v: u64) {
     let at = wrapping_add_usize(spots::link_at(z.n, z.j, z.l, a, b), k as usize);
     spots::put(links, at, v);
-    show::text(b"\n");
-}
-
-fn put_word(words: &mut [u64], k: u64, v: u64) {
-    spots::put(words, k as usize, v);
-    show::text(b"\n");
 }
 
 // Box c has agreed on k loads, number i with the frames i and i.
@@ -77,7 +90,23 @@ fn put_book(z: Lent, site: &mut [u64], c: u64, k: u64) {
     spots::put(site, wrapping_add_usize(at, 4), k);
     spots::put(site, wrapping_add_usize(at, 19), k);
     spots::put_pairs(site, wrapping_add_usize(at, 20), k as usize);
-    show::text(b"\n");
+}
+
+fn put_in(p: Put, n: Numbers, z: Lent, site: &mut [u64], links: &mut [u64], letter: &mut [u64]) {
+    match p {
+        Put::Word => spots::put(site, n.c as usize, n.d),
+        Put::Row => put_row(z, site, n.b, n.c, n.d),
+        Put::Link => put_link(z, links, n.a, n.b, n.c, n.d),
+        Put::Letter => spots::put(letter, n.c as usize, n.d),
+        Put::Book => put_book(z, site, n.c, n.d),
+    }
+}
+
+fn look(w: See, n: Numbers, z: Lent, site: &[u64], links: &[u64]) {
+    match w {
+        See::Box => see::row(z, site, n.d),
+        See::Mails => see::link(z, links, n.c, n.d),
+    }
 }
 
 // A line of the trace, on as many words as are lent.
@@ -144,44 +173,17 @@ fn line(
     show::text(s);
     let n = numbers_at(s, 4);
     match kind_of(s) {
-        Kind::Heading => {
+        Kind::Told(t) => {
             show::text(b"\n");
-            z
+            tell(t, n, z)
         }
-        Kind::Lend => {
+        Kind::Put(p) => {
             show::text(b"\n");
-            z.words(n.c, n.d)
-        }
-        Kind::Trays => {
-            show::text(b"\n");
-            z.trays(n.c, n.d)
-        }
-        Kind::Word => {
-            put_word(site, n.c, n.d);
+            put_in(p, n, z, site, links, letter);
             z
         }
-        Kind::Row => {
-            put_row(z, site, n.b, n.c, n.d);
-            z
-        }
-        Kind::Link => {
-            put_link(z, links, n.a, n.b, n.c, n.d);
-            z
-        }
-        Kind::Letter => {
-            put_word(letter, n.c, n.d);
-            z
-        }
-        Kind::Book => {
-            put_book(z, site, n.c, n.d);
-            z
-        }
-        Kind::Box => {
-            see::row(z, site, n.d);
-            z
-        }
-        Kind::Mails => {
-            see::link(z, links, n.c, n.d);
+        Kind::See(w) => {
+            look(w, n, z, site, links);
             z
         }
         Kind::Own => {
