@@ -1,12 +1,11 @@
 -- Laws of the entries: what a refusal leaves, and what words and room that suit the state are.
 use Prim.Native.Nat.{ℕ, _<_, _≤_}
 use mathlib.Core.Path.{_≡_, refl, ap, sym, _∙_}
-use mathlib.Core.Bool.{Bool, true, false, _&&_}
+use mathlib.Core.Bool.{true, false, _&&_}
 use mathlib.Core.List.{List}
 use lib.Dec.{leb}
 use lib.ListN.{length}
 use borrow.Author.Tests.{le-leb, lt-leb, leb-true}
-use Rattle.rules.specs.Needs.{ruled}
 use Rattle.rules.specs.declared.model.Answer.{Answer}
 use Rattle.rules.specs.declared.model.Refusal.{Refusal}
 use Rattle.laws.proofs.Logic.{Or, decide, and-yes, both-no}
@@ -20,7 +19,6 @@ use Rattle.feed.specs.Says.{Feeds, answerMost}
 use Rattle.feed.specs.Entries.{hasRoom, pieceAnswer, PieceFed, endAnswer, EndSaid}
 use Rattle.feed.specs.declared.state.Fed.{Fed}
 use Rattle.feed.specs.declared.state.Feed.{Feed}
-use Rattle.feed.specs.declared.state.Stage.{Stage}
 
 -- ---- a piece
 

@@ -2,7 +2,7 @@
 use Prim.Native.Nat.{ℕ, _+_, _-_, _<_, _≤_}
 use mathlib.Core.Path.{_≡_, refl, ap, sym, _∙_, subst}
 use mathlib.Core.Bool.{Bool, true, false, _&&_}
-use mathlib.Core.List.{List, [], _∷_, _++_, append-nil, append-assoc}
+use mathlib.Core.List.{List, [], _∷_, _++_, append-nil}
 use native.Mathlib.Omega.{arith}
 use lib.Dec.{eqb, ltb}
 use lib.ListN.{length, take, drop}
@@ -240,3 +240,21 @@ once {f} {piece} {xs} {ls} {xs'} {ls'} {ys} {ms} {x} {y} {z} {g} {h} v w =
           bytes = p .bytes ∙ sym (q .bytes);
           next = unfed-is p ∙ sym (unfed-is q);
         }
+
+pub end-once : {f : Feed} {x y z : List ℕ} {d e : End} → EndSaid f x y d → EndSaid f x z e
+    → (d .answer ≡ e .answer) × (d .at ≡ e .at) × (y ≡ z)
+end-once {f} {x} {y} {z} {d} {e} v w = go (decide (accepted (d .answer)))
+  where
+    a : d .answer ≡ e .answer
+    a = v .answer ∙ sym (w .answer)
+
+    go : Or (accepted (d .answer) ≡ true) (accepted (d .answer) ≡ false)
+        → (d .answer ≡ e .answer) × (d .at ≡ e .at) × (y ≡ z)
+    go (Or.left h) =
+        let p = v .said h [] [] in
+        let q = w .said (subst (λ (b : Answer). accepted b ≡ true) a h) [] [] in
+        (a, p .end ∙ sym (q .end), p .bytes ∙ sym (q .bytes))
+    go (Or.right h) =
+        let p = v .kept h in
+        let q = w .kept (subst (λ (b : Answer). accepted b ≡ false) a h) in
+        (a, p .1 ∙ sym (q .1), p .0 ∙ sym (q .0))

@@ -4,27 +4,6 @@ use borrow.Author.Needs.{needs}
 use Rattle.cuts.proofs.feed_cuts.Statement.{statement}
 use Rattle.cuts.proofs.feed_cuts.Tie as tie
 
-feed-cut-requires : tie.Need-feed-cut-requires
-feed-cut-requires c κs = search needs
-
-feed-cut-requires-2 : tie.Need-feed-cut-requires-2
-feed-cut-requires-2 c κs = search needs
-
-feed-cut-requires-3 : tie.Need-feed-cut-requires-3
-feed-cut-requires-3 c κs = search needs
-
-feed-cut-requires-4 : tie.Need-feed-cut-requires-4
-feed-cut-requires-4 c κs = search needs
-
-feed-cut-requires-5 : tie.Need-feed-cut-requires-5
-feed-cut-requires-5 c κs = search needs
-
-feed-cut-requires-6 : tie.Need-feed-cut-requires-6
-feed-cut-requires-6 c κs = search needs
-
-feed-cut-requires-7 : tie.Need-feed-cut-requires-7
-feed-cut-requires-7 c κs = search needs
-
 same-length : tie.Need-same-length
 same-length c = c .before .before .before .before .before .site7 .given ∙ (c .before .before .before .before .before .before .before .before .before .before .before .before .before .before .before .site6 .given ∙ (c .before .before .before .before .before .before .before .before .before .before .before .before .before .before .before .before .before .before .before .before .before .before .before .before .before .site5 .given ∙ (c .before .before .before .before .before .before .before .before .before .before .before .before .before .before .before .before .before .before .before .before .before .before .before .before .before .before .before .before .before .before .before .before .before .before .before .site4 .given ∙ (c .before .before .before .before .before .before .before .before .before .before .before .before .before .before .before .before .before .before .before .before .before .before .before .before .before .before .before .before .before .before .before .before .before .before .before .before .before .before .before .before .before .before .before .before .before .site3 .given ∙ (c .before .before .before .before .before .before .before .before .before .before .before .before .before .before .before .before .before .before .before .before .before .before .before .before .before .before .before .before .before .before .before .before .before .before .before .before .before .before .before .before .before .before .before .before .before .before .before .before .before .before .before .before .before .before .before .site2 .given ∙ c .before .before .before .before .before .before .before .before .before .before .before .before .before .before .before .before .before .before .before .before .before .before .before .before .before .before .before .before .before .before .before .before .before .before .before .before .before .before .before .before .before .before .before .before .before .before .before .before .before .before .before .before .before .before .before .before .before .before .before .before .before .before .before .before .before .site .given)))))
 
@@ -34,25 +13,19 @@ same-length-2 c = c .before .before .before .links7 .given ∙ (c .before .befor
 same-length-3 : tie.Need-same-length-3
 same-length-3 c = c .before .before .before .before .before .before .before .before .before .before .before .out6 .given ∙ (c .before .before .before .before .before .before .before .before .before .before .before .before .before .before .before .before .before .before .before .before .before .out5 .given ∙ (c .before .before .before .before .before .before .before .before .before .before .before .before .before .before .before .before .before .before .before .before .before .before .before .before .before .before .before .before .before .before .before .out4 .given ∙ (c .before .before .before .before .before .before .before .before .before .before .before .before .before .before .before .before .before .before .before .before .before .before .before .before .before .before .before .before .before .before .before .before .before .before .before .before .before .before .before .before .before .out3 .given ∙ (c .before .before .before .before .before .before .before .before .before .before .before .before .before .before .before .before .before .before .before .before .before .before .before .before .before .before .before .before .before .before .before .before .before .before .before .before .before .before .before .before .before .before .before .before .before .before .before .before .before .before .before .out2 .given ∙ c .before .before .before .before .before .before .before .before .before .before .before .before .before .before .before .before .before .before .before .before .before .before .before .before .before .before .before .before .before .before .before .before .before .before .before .before .before .before .before .before .before .before .before .before .before .before .before .before .before .before .before .before .before .before .before .before .before .before .before .before .before .out .given))))
 
-same-length-4 : tie.Need-same-length-4
-same-length-4 c = search needs
-
-returns : tie.Need-returns
-returns c = search needs
-
 pub feed-cuts-spec : {M : Type 1} → statement M
 feed-cuts-spec =
     tie.close
     (tie.spec
-    feed-cut-requires
-    feed-cut-requires-2
-    feed-cut-requires-3
-    feed-cut-requires-4
-    feed-cut-requires-5
-    feed-cut-requires-6
-    feed-cut-requires-7
+    (λ c κs. search needs)
+    (λ c κs. search needs)
+    (λ c κs. search needs)
+    (λ c κs. search needs)
+    (λ c κs. search needs)
+    (λ c κs. search needs)
+    (λ c κs. search needs)
     same-length
     same-length-2
     same-length-3
-    same-length-4
-    returns)
+    (λ c. search needs)
+    (λ c. search needs))

@@ -6,27 +6,6 @@ use borrow.Author.Needs.{needs}
 use Rattle.feed.proofs.answer.answer_first.Statement.{statement}
 use Rattle.feed.proofs.answer.answer_first.Tie as tie
 
-enum-known-line : tie.Need-enum-known-line
-enum-known-line c = search needs
-
-open-site-requires : tie.Need-open-site-requires
-open-site-requires c κs = search needs
-
-enum-told : tie.Need-enum-told
-enum-told c = search needs
-
-enum-told-2 : tie.Need-enum-told-2
-enum-told-2 c = search needs
-
-enum-told-3 : tie.Need-enum-told-3
-enum-told-3 c = search needs
-
-same-length : tie.Need-same-length
-same-length c = search needs
-
-same-length-2 : tie.Need-same-length-2
-same-length-2 c = search needs
-
 returns : tie.Need-returns
 returns c = open-first _ _ _ _ (c .before .before .before .before .before .before .before .before .line .given .1) (c .before .before .before .before .open-site .ensures)
 
@@ -43,13 +22,13 @@ pub answer-first-spec : {M : Type 1} → statement M
 answer-first-spec =
     tie.close
     (tie.spec
-    enum-known-line
-    open-site-requires
-    enum-told
-    enum-told-2
-    enum-told-3
-    same-length
-    same-length-2
+    (λ c. search needs)
+    (λ c κs. search needs)
+    (λ c. search needs)
+    (λ c. search needs)
+    (λ c. search needs)
+    (λ c. search needs)
+    (λ c. search needs)
     returns
     returns-2
     returns-3

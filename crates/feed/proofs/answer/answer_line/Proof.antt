@@ -5,20 +5,8 @@ use borrow.Author.Needs.{needs}
 use Rattle.feed.proofs.answer.answer_line.Statement.{statement}
 use Rattle.feed.proofs.answer.answer_line.Tie as tie
 
-keep-requires : tie.Need-keep-requires
-keep-requires c κs = search needs
-
 answer-requires : tie.Need-answer-requires
 answer-requires c κs = ((c .before .before .before .before .before .before .before .before) .pre .2, lent-as (sym (c .before .before .before .keep .ensures .stage)) ((c .before .before .before .before .before .before .before .before) .pre .3))
-
-same-length : tie.Need-same-length
-same-length c = search needs
-
-same-length-2 : tie.Need-same-length-2
-same-length-2 c = search needs
-
-same-length-3 : tie.Need-same-length-3
-same-length-3 c = search needs
 
 returns : tie.Need-returns
 returns c = line-turn ((c .before .before .before .before .before .before .before .before .before .before .before .before .before .before .before) .args .f) _ _ _ _ _ _ _ (c .before .before .before .before .before .before .before .before .before .before .keep .ensures) (c .before .before .before .before .before .before .answer .ensures)
@@ -26,4 +14,10 @@ returns c = line-turn ((c .before .before .before .before .before .before .befor
 pub answer-line-spec : {M : Type 1} → statement M
 answer-line-spec =
     tie.close
-    (tie.spec keep-requires answer-requires same-length same-length-2 same-length-3 returns)
+    (tie.spec
+    (λ c κs. search needs)
+    answer-requires
+    (λ c. search needs)
+    (λ c. search needs)
+    (λ c. search needs)
+    returns)

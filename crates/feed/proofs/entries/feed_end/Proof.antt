@@ -7,14 +7,14 @@ use Rattle.feed.proofs.entries.feed_end.Tie as tie
 returns : tie.Need-returns
 returns c = end-short _ _ (c .if1 .taken)
 
-put-end-requires : tie.Need-put-end-requires
-put-end-requires c κs = search needs
-
-same-length : tie.Need-same-length
-same-length c = search needs
-
 returns-2 : tie.Need-returns-2
 returns-2 c = end-said _ _ _ _ (c .before .before .before .before .if1 .left) (c .before .before .put-end .ensures)
 
 pub feed-end-spec : {M : Type 1} → statement M
-feed-end-spec = tie.close (tie.spec returns put-end-requires same-length returns-2)
+feed-end-spec =
+    tie.close
+    (tie.spec
+    returns
+    (λ c κs. search needs)
+    (λ c. search needs)
+    returns-2)

@@ -6,41 +6,14 @@ use borrow.Author.Needs.{needs}
 use Rattle.feed.proofs.entries.feed_piece.Statement.{statement}
 use Rattle.feed.proofs.entries.feed_piece.Tie as tie
 
-is-formed-requires : tie.Need-is-formed-requires
-is-formed-requires c κs = search needs
-
-same-length : tie.Need-same-length
-same-length c = search needs
-
-same-length-2 : tie.Need-same-length-2
-same-length-2 c = search needs
-
 returns : tie.Need-returns
 returns c = not-formed ((c .before .before .before .before .before .before .before .before) .args .f) _ _ _ _ (sym (c .before .is-formed .ensures) ∙ not-true _ (c .if1 .taken))
-
-has-room-requires : tie.Need-has-room-requires
-has-room-requires c κs = search needs
-
-same-length-3 : tie.Need-same-length-3
-same-length-3 c = search needs
-
-same-length-4 : tie.Need-same-length-4
-same-length-4 c = search needs
 
 returns-2 : tie.Need-returns-2
 returns-2 c = no-room ((c .before .before .before .before .before .before .before .before .before .before) .args .f) _ _ _ _ (sym (c .before .before .before .is-formed .ensures) ∙ not-false _ (c .before .before .if1 .left)) (sym (c .before .has-room .ensures) ∙ not-true _ (c .if2 .taken))
 
 feed-formed-requires : tie.Need-feed-formed-requires
 feed-formed-requires c κs = suits ((c .before .before .before .before .before .before .before .before .before .before .before .before .before) .args .f) ((c .before .before .before .before .before .before .before .before .before .before .before .before .before) .args .piece .now) _ _ ((c .before .before .before .before .before .before .before .before .before .before .before .before .before) .args .out .now) (sym (c .before .before .before .before .before .before .is-formed .ensures) ∙ not-false _ (c .before .before .before .before .before .if1 .left)) (sym (c .before .before .before .before .has-room .ensures) ∙ not-false _ (c .before .before .before .if2 .left))
-
-same-length-5 : tie.Need-same-length-5
-same-length-5 c = search needs
-
-same-length-6 : tie.Need-same-length-6
-same-length-6 c = search needs
-
-same-length-7 : tie.Need-same-length-7
-same-length-7 c = search needs
 
 returns-3 : tie.Need-returns-3
 returns-3 c = well-fed ((c .before .before .before .before .before .before .before .before .before .before .before .before .before .before .before .before .before .before .before .before) .args .f) _ _ _ _ _ _ _ _ (sym (c .before .before .before .before .before .before .before .before .before .before .before .before .before .is-formed .ensures) ∙ not-false _ (c .before .before .before .before .before .before .before .before .before .before .before .before .if1 .left)) (sym (c .before .before .before .before .before .before .before .before .before .before .before .has-room .ensures) ∙ not-false _ (c .before .before .before .before .before .before .before .before .before .before .if2 .left)) (c .before .before .before .before .before .before .feed-formed .ensures)
@@ -49,16 +22,16 @@ pub feed-piece-spec : {M : Type 1} → statement M
 feed-piece-spec =
     tie.close
     (tie.spec
-    is-formed-requires
-    same-length
-    same-length-2
+    (λ c κs. search needs)
+    (λ c. search needs)
+    (λ c. search needs)
     returns
-    has-room-requires
-    same-length-3
-    same-length-4
+    (λ c κs. search needs)
+    (λ c. search needs)
+    (λ c. search needs)
     returns-2
     feed-formed-requires
-    same-length-5
-    same-length-6
-    same-length-7
+    (λ c. search needs)
+    (λ c. search needs)
+    (λ c. search needs)
     returns-3)
