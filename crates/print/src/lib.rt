@@ -14,7 +14,8 @@ pub fn put_byte(out: &mut [u8], at: usize, b: u8) -> usize
     at + 1
 }
 
-fn put_bytes(out: &mut [u8], at: usize, src: &[u8]) -> usize
+// The bytes of src.
+pub fn put_bytes(out: &mut [u8], at: usize, src: &[u8]) -> usize
     requires { ⌜ at + length (now src) ≤ length (now out) ⌝ }
     ensures { λ r.
         ⌜ Wrote (length (now (src .entry)))

@@ -1,0 +1,158 @@
+-- A line is parted at its first space: that is where the image's hex ends.
+use Prim.Native.Nat.{ℕ, suc, _+_, _≤_, _<_}
+use mathlib.Core.Path.{_≡_, refl, ap, sym, _∙_, subst}
+use mathlib.Core.Bool.{Bool, true, false}
+use mathlib.Core.List.{List, [], _∷_, _++_, append-assoc}
+use native.Mathlib.Omega.{arith}
+use lib.Dec.{eqb}
+use lib.ListN.{length, take, drop, getD, length-append, length-drop, take-append-drop}
+use lib.Seq.{take-length, take-all, take-append-seam, drop-append-add, split-at, length-take-le}
+use lib.Seq.{drop-append-le}
+use borrow.Author.Tests.{eqb-true, eq-eqb, ne-eqb}
+use Rattle.bytes.specs.Bytes.{slice, indexAfter, indexOf}
+use Rattle.laws.proofs.Logic.{both-no}
+use Rattle.hex.specs.Hex.{hexOf, HexIs, read, bad}
+use Rattle.hex.specs.declared.Hexed.{Hexed}
+use Rattle.hex.proofs.Once.{no-space}
+use Rattle.lines.specs.Read.{readLine}
+use Rattle.lines.specs.declared.Line.{Line}
+use Rattle.answer.specs.declared.ask.Asked.{Asked}
+use Rattle.answer.specs.Asks.{mostImage, served, Asks, askedOf, AskIs, asks, asks-nothing}
+
+-- ---- the first place of a byte
+
+index-found : (b : ℕ) (s : List ℕ) → indexOf b s < length s → getD s (indexOf b s) 0 ≡ b
+unfolding indexOf indexAfter
+index-found b [] h = absurd (omega arith)
+index-found b (x ∷ s) h = go (eqb x b) refl h (index-found b s)
+  where
+    go : (t : Bool) → eqb x b ≡ t → indexAfter t (indexOf b s) < suc (length s)
+        → (indexOf b s < length s → getD s (indexOf b s) 0 ≡ b)
+        → getD (x ∷ s) (indexAfter t (indexOf b s)) 0 ≡ b
+    go true e k rest = eqb-true x b e
+    go false e k rest = rest (omega arith)
+
+index-at : (b : ℕ) (h t : List ℕ) → ((k : ℕ) → k < length h → getD h k 0 ≡ b → ⊥)
+    → indexOf b (h ++ (b ∷ t)) ≡ length h
+unfolding indexOf indexAfter
+index-at b [] t n = ap (λ (u : Bool). indexAfter u (indexOf b t)) (eq-eqb b b refl)
+index-at b (x ∷ h) t n =
+    ap (λ (u : Bool). indexAfter u (indexOf b (h ++ (b ∷ t))))
+    (ne-eqb x b (λ e. n 0 (omega arith) e))
+    ∙ ap suc (index-at b h t (λ k l e. n (suc k) (omega arith) e))
+
+pub found-is : (line : List ℕ) (e : ℕ) → e ≡ 0 + indexOf 32 (slice 0 (length line) line)
+    → e ≡ indexOf 32 line
+unfolding slice
+found-is line e h =
+    let z : 0 + indexOf 32 (drop 0 (take (length line) line))
+    ≡ indexOf 32 (drop 0 (take (length line) line)) = omega arith in
+    h ∙ z ∙ ap (λ (l : List ℕ). indexOf 32 l) (take-length line)
+
+-- ---- a line that asks is parted there
+
+-- where its image's hex ends
+pub record Parted (line im rest : List ℕ) (e : ℕ) : Type 0 where
+  pub place : e ≡ length (hexOf im)
+  pub below : e < length line
+  pub image : take e line ≡ hexOf im
+  pub call : drop (e + 1) line ≡ rest
+
+parted : (line : List ℕ) (e : ℕ) {im : List ℕ} {l : Line} → e ≡ indexOf 32 line
+    → (a : Asks line im l) → Parted line im (a .call) e
+parted line e {im} h a =
+    let p : e ≡ length (hexOf im) =
+    h ∙ ap (indexOf 32) (a .text) ∙ index-at 32 (hexOf im) (a .call) (no-space im (a .bytes)) in
+    record {
+      place = p;
+      below =
+          omega (
+            arith,
+            ap length (a .text),
+            length-append (hexOf im) (32 ∷ (a .call)),
+          );
+      image =
+          ap (take e) (a .text)
+          ∙ ap (λ (k : ℕ). take k (hexOf im ++ (32 ∷ (a .call)))) p
+          ∙ take-append-seam (hexOf im) (32 ∷ (a .call));
+      call =
+          ap (drop (e + 1)) (a .text)
+          ∙ ap (λ (k : ℕ). drop (k + 1) (hexOf im ++ (32 ∷ (a .call)))) p
+          ∙ drop-append-add (hexOf im) (32 ∷ (a .call)) 1;
+    }
+
+pub no-space-asks-nothing : (line o : List ℕ) (e : ℕ) → e ≡ indexOf 32 line → e ≡ length line
+    → AskIs line o Asked.Unreadable o
+no-space-asks-nothing line o e h n =
+    asks-nothing (λ im l a. let p = parted line e h a .below in omega arith)
+
+pub not-served-asks-nothing : (line o rest : List ℕ) (e : ℕ) (l : Line) → e ≡ indexOf 32 line
+    → rest ≡ drop (e + 1) line → l ≡ readLine rest → served l ≡ false
+    → AskIs line o Asked.Unreadable o
+not-served-asks-nothing line o rest e l h r s f =
+    asks-nothing (λ im k a.
+    both-no (a .served)
+    (ap served (sym (a .says) ∙ ap readLine (sym (parted line e h a .call) ∙ sym r) ∙ sym s) ∙ f))
+
+-- ---- what is found
+
+pub rest-all : (line : List ℕ) (e m : ℕ) → length line ≤ m + (e + 1)
+    → take m (drop (e + 1) line) ≡ drop (e + 1) line
+rest-all line e m h =
+    take-all m (drop (e + 1) line) (omega (arith, length-drop (e + 1) line))
+
+rest-kept : (bs o : List ℕ) (k : ℕ) → length bs ≤ length (take k o)
+    → (bs ++ drop (length bs) (take k o)) ++ drop k o ≡ bs ++ drop (length bs) o
+rest-kept bs o k h =
+    append-assoc bs (drop (length bs) (take k o)) (drop k o)
+    ∙ ap (λ (l : List ℕ). bs ++ l)
+    (sym (drop-append-le (length bs) (take k o) (drop k o) h)
+    ∙ ap (drop (length bs)) (take-append-drop k o))
+
+asked-is : (line o part p rest : List ℕ) (e : ℕ) (l : Line) (h : Hexed)
+    → e ≡ indexOf 32 line → e < length line → part ≡ take e line → rest ≡ drop (e + 1) line
+    → l ≡ readLine rest → served l ≡ true → mostImage ≤ length o
+    → HexIs part (take mostImage o) h p
+    → AskIs line o (askedOf h l) (p ++ drop mostImage o)
+asked-is line o part p rest e l h at inside hx r s f room (read bs w fits t) =
+    let n = length-take-le mostImage o room in
+    subst (λ (b : List ℕ). AskIs line o (Asked.Step (length bs) l) b)
+    (sym (rest-kept bs o mostImage fits))
+    (asks
+    (record {
+      bytes = w;
+      few = omega arith;
+      call = rest;
+      text = cut;
+      says = sym s;
+      served = f;
+    }))
+  where
+    cut : line ≡ hexOf bs ++ (32 ∷ rest)
+    cut =
+        let one : suc e ≡ e + 1 = omega arith in
+        let space : getD line e 0 ≡ 32 =
+        ap (λ (k : ℕ). getD line k 0) at
+        ∙ index-found 32 line (subst (λ (k : ℕ). k < length line) at inside) in
+        split-at line e 0 inside
+        ∙ ap (λ (a : List ℕ). a ++ (getD line e 0 ∷ drop (suc e) line)) (sym hx ∙ sym t)
+        ∙ ap (λ (x : ℕ). hexOf bs ++ (x ∷ drop (suc e) line)) space
+        ∙ ap (λ (k : ℕ). hexOf bs ++ (32 ∷ drop k line)) one
+        ∙ ap (λ (c : List ℕ). hexOf bs ++ (32 ∷ c)) (sym r)
+asked-is line o part p rest e l h at inside hx r s f room (bad n) =
+    subst (λ (b : List ℕ). AskIs line o Asked.Unreadable b)
+    (sym (take-append-drop mostImage o))
+    (asks-nothing (λ im k a.
+    n im (a .bytes) (omega (arith, length-take-le mostImage o room, a .few))
+    (sym (parted line e at a .image) ∙ sym hx)))
+
+-- the same, of the answer as it is computed; a part of the line comes as its own bytes
+pub asked-so : (line o p : List ℕ) (e k m : ℕ) {l : Line} {h : Hexed} {r : Asked}
+    → e ≡ indexOf 32 line → e < length line → k ≡ e → length line ≤ m + (e + 1)
+    → l ≡ readLine (take m (drop (e + 1) line)) → served l ≡ true → mostImage ≤ length o
+    → HexIs (take k line) (take mostImage o) h p → r ≡ askedOf h l
+    → AskIs line o r (p ++ drop mostImage o)
+asked-so line o p e k m {l} {h} at inside ke all s f room w q =
+    subst (λ (x : Asked). AskIs line o x (p ++ drop mostImage o)) (sym q)
+    (asked-is line o (take k line) p (take m (drop (e + 1) line)) e l h at inside
+    (ap (λ (n : ℕ). take n line) ke) (rest-all line e m all) s f room w)

@@ -1,0 +1,4 @@
+-- Laws of a line's answer.
+pub mod AskLaws
+pub mod TellLaws
+pub mod ServeLaws

@@ -1,0 +1,39 @@
+-- `answer::serve::serve` meets its contract.
+use Rattle.answer.proofs.ServeLaws.{stepped, held, unasked}
+use mathlib.Core.Path.{refl}
+use borrow.Author.Needs.{needs}
+use Rattle.answer.proofs.serve.serve.Statement.{statement}
+use Rattle.answer.proofs.serve.serve.Tie as tie
+
+returns : tie.Need-returns
+returns c = unasked (c .enum-told .given .1) refl (c .before .before .before .before .pre)
+
+returns-2 : tie.Need-returns-2
+returns-2 c = stepped (c .before .before .before .before .before .before .before .before .l .given
+    .1) (c .before .before .before .before .step-formed .ensures)
+
+returns-3 : tie.Need-returns-3
+returns-3 c = held (c .before .before .before .before .l2 .given .1) (c .before .before .before
+    .before .before .before .before .before .pre) (c .holds-formed .ensures)
+
+returns-4 : tie.Need-returns-4
+returns-4 c = unasked (c .enum-told2 .given .1) refl (c .before .before .before .before .pre)
+
+pub serve-spec : {M : Type 1} → statement M
+serve-spec =
+    tie.close
+    (tie.spec
+    (λ c. search needs)
+    (λ c. search needs)
+    (λ c κs. search needs)
+    (λ c. search needs)
+    (λ c κs. search needs)
+    (λ c. search needs)
+    returns
+    (λ c. search needs)
+    (λ c. search needs)
+    returns-2
+    (λ c. search needs)
+    (λ c. search needs)
+    returns-3
+    returns-4)

@@ -1,0 +1,4 @@
+-- What the contracts of `answer` cite.
+pub mod Asks
+pub mod Text
+pub mod Says

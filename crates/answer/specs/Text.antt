@@ -1,0 +1,29 @@
+-- The line of an answer: "`refused N`, or `done HEX`, or for mail `taken HEX` or `discarded
+-- role|phase|number|place HEX`", HEX the image after.
+use mathlib.Core.Bool.{cond}
+use Prim.Native.Nat.{ℕ}
+use mathlib.Core.List.{List, [], _∷_, _++_}
+use Rattle.rules.specs.Numbers.{answerNumber}
+use Rattle.rules.specs.declared.model.Answer.{Answer}
+use Rattle.rules.specs.declared.model.Cause.{Cause}
+use Rattle.site.specs.Entries.{isRefusal}
+use Rattle.print.specs.Bytes.{bytes}
+use Rattle.print.specs.Decimal.{decimal}
+use Rattle.hex.specs.Hex.{hexOf}
+
+abbrev pub causeWord : Cause → List ℕ
+causeWord Cause.Role = bytes "role "
+causeWord Cause.Phase = bytes "phase "
+causeWord Cause.Number = bytes "number "
+causeWord Cause.Place = bytes "place "
+
+abbrev pub wordOf : Answer → List ℕ
+wordOf Answer.Done = bytes "done "
+wordOf Answer.Taken = bytes "taken "
+wordOf (Answer.Discarded why) = bytes "discarded " ++ causeWord why
+wordOf (Answer.Refused why) = bytes "refused "
+
+-- the answer a, and im the image after it
+unfoldable pub answerText : Answer → List ℕ → List ℕ
+answerText a im =
+    wordOf a ++ (cond (isRefusal a) (decimal (answerNumber a)) (hexOf im) ++ (10 ∷ []))

@@ -1,0 +1,22 @@
+// What a line asks is done on words by form.
+ghost use mathlib.Core.Path.{_≡_};
+ghost use mathlib.Core.Bool.{true};
+ghost use Rattle.memory.specs.Memory.{memoryForm};
+ghost use Rattle.answer.specs.Says.{Serves};
+use lines::Line;
+use rules::model::Answer;
+use rules::model::Refusal;
+
+pub(crate) fn serve(site: &mut [u64], links: &mut [u64], l: Line) -> Answer
+    requires { ⌜ memoryForm (now site) (now links) ≡ true ⌝ }
+    ensures { λ r.
+        ⌜ Serves l (now (site .entry)) (now (links .entry))
+        (now (site .exit)) (now (links .exit)) r ⌝ }
+{
+    match l {
+        Line::Site(_, _, _) => Answer::Refused(Refusal::Line),
+        Line::Call(d) => site::step_formed(site, links, d),
+        Line::Holds(c, k, left, right) => site::holds_formed(site, links, c, k, left, right),
+        Line::Unreadable => Answer::Refused(Refusal::Line),
+    }
+}

@@ -1,0 +1,108 @@
+// The line of an answer: its word, and a refusal's number or the image after.
+ghost use mathlib.Core.Path.{_≡_};
+ghost use mathlib.Core.Bool.{true, false};
+ghost use mathlib.Core.List.{[]};
+ghost use Prim.Native.Nat.{_+_, _*_, _≤_};
+ghost use lib.ListN.{length};
+ghost use Rattle.memory.specs.Memory.{memoryForm};
+ghost use Rattle.site.specs.Entries.{isRefusal};
+ghost use Rattle.print.specs.Text.{Wrote};
+ghost use Rattle.rules.specs.declared.model.Answer.{Answer};
+ghost use Rattle.answer.specs.Text.{causeWord, wordOf, answerText};
+ghost use Rattle.answer.specs.Says.{textRoom, TellIs};
+use rules::model::Answer;
+use rules::model::Cause;
+use writer::Written;
+
+// How many bytes the answer has, or that what was lent is too short for it.
+pub enum Told {
+    Length(usize),
+    Short,
+}
+
+fn refuses(a: Answer) -> bool
+    ensures { λ r. ⌜ r ≡ isRefusal a ⌝ }
+{
+    match a {
+        Answer::Done => false,
+        Answer::Taken => false,
+        Answer::Discarded(_) => false,
+        Answer::Refused(_) => true,
+    }
+}
+
+fn put_cause(out: &mut [u8], at: usize, c: Cause) -> usize
+    requires { ⌜ at + 7 ≤ length (now out) ⌝ }
+    ensures { λ r. ⌜ Wrote 7 (now (out .entry)) (now (out .exit)) at r (causeWord c) ⌝ }
+{
+    match c {
+        Cause::Role => print::put_bytes(out, at, b"role "),
+        Cause::Phase => print::put_bytes(out, at, b"phase "),
+        Cause::Number => print::put_bytes(out, at, b"number "),
+        Cause::Place => print::put_bytes(out, at, b"place "),
+    }
+}
+
+fn put_discarded(out: &mut [u8], at: usize, c: Cause) -> usize
+    requires { ⌜ at + 17 ≤ length (now out) ⌝ }
+    ensures { λ r.
+        ⌜ Wrote 17 (now (out .entry)) (now (out .exit)) at r (wordOf (Answer.Discarded c)) ⌝ }
+{
+    let p = print::put_bytes(out, at, b"discarded ");
+    put_cause(out, p, c)
+}
+
+fn put_word(out: &mut [u8], at: usize, a: Answer) -> usize
+    requires { ⌜ at + 17 ≤ length (now out) ⌝ }
+    ensures { λ r. ⌜ Wrote 17 (now (out .entry)) (now (out .exit)) at r (wordOf a) ⌝ }
+{
+    match a {
+        Answer::Done => print::put_bytes(out, at, b"done "),
+        Answer::Taken => print::put_bytes(out, at, b"taken "),
+        Answer::Discarded(c) => put_discarded(out, at, c),
+        Answer::Refused(_) => print::put_bytes(out, at, b"refused "),
+    }
+}
+
+// The line of a refusal, at the front of out.
+pub(crate) fn put_refusal(out: &mut [u8], a: Answer) -> usize
+    requires { ⌜ 38 ≤ length (now out) ⌝ }
+    requires { ⌜ isRefusal a ≡ true ⌝ }
+    ensures { λ r. ⌜ Wrote 38 (now (out .entry)) (now (out .exit)) 0 r (answerText a []) ⌝ }
+{
+    let p = put_word(out, 0, a);
+    let n = rules::numbers::answer_number(a);
+    let p = print::put_decimal(out, p, n as u64);
+    print::put_byte(out, p, 10)
+}
+
+// The line of any other answer.
+fn put_image(out: &mut [u8], a: Answer, image: &[u8]) -> usize
+    requires { ⌜ 2 * length (now image) + 19 ≤ length (now out) ⌝ }
+    requires { ⌜ isRefusal a ≡ false ⌝ }
+    ensures { λ r.
+        ⌜ Wrote (2 * length (now (image .entry)) + 19)
+        (now (out .entry)) (now (out .exit)) 0 r (answerText a (now (image .entry))) ⌝ }
+{
+    let p = put_word(out, 0, a);
+    let p = hex::put_hex(out, p, image);
+    print::put_byte(out, p, 10)
+}
+
+// The answer a, with the words after it; the image after it goes to the front of image.
+pub(crate) fn tell(a: Answer, site: &[u64], links: &[u64], image: &mut [u8], out: &mut [u8]) -> Told
+    requires { ⌜ memoryForm (now site) (now links) ≡ true ⌝ }
+    requires { ⌜ textRoom (length (now image)) ≤ length (now out) ⌝ }
+    ensures { λ r.
+        ⌜ TellIs a (now (site .entry)) (now (links .entry)) (length (now (image .entry)))
+        (now (out .entry)) r (now (out .exit)) ⌝ }
+{
+    if refuses(a) {
+        return Told::Length(put_refusal(out, a));
+    }
+    let w = writer::write_formed(site, links, image);
+    match w {
+        Written::Length(n) => Told::Length(put_image(out, a, &image[0..n])),
+        Written::Refused(_) => Told::Short,
+    }
+}
