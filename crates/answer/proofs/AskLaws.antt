@@ -58,7 +58,7 @@ pub record Parted (line im rest : List ℕ) (e : ℕ) : Type 0 where
   pub image : take e line ≡ hexOf im
   pub call : drop (e + 1) line ≡ rest
 
-parted : (line : List ℕ) (e : ℕ) {im : List ℕ} {l : Line} → e ≡ indexOf 32 line
+pub parted : (line : List ℕ) (e : ℕ) {im : List ℕ} {l : Line} → e ≡ indexOf 32 line
     → (a : Asks line im l) → Parted line im (a .call) e
 parted line e {im} h a =
     let p : e ≡ length (hexOf im) =

@@ -2,3 +2,6 @@
 pub mod AskLaws
 pub mod TellLaws
 pub mod ServeLaws
+pub mod AnswerLaws
+pub mod HoldLaws
+pub mod Once

@@ -1,11 +1,13 @@
 -- The text of an answer, and what is told of words by form.
 use Prim.Native.Nat.{ℕ, _+_, _*_, _≤_, _<_}
 use mathlib.Core.Path.{_≡_, refl, ap, sym, _∙_, subst}
-use mathlib.Core.Bool.{Bool, true, false, cond}
+use mathlib.Core.Bool.{Bool, true, false, _||_, cond}
 use mathlib.Core.List.{List, [], _∷_, _++_}
 use native.Mathlib.Omega.{arith}
+use lib.Dec.{leb}
 use lib.ListN.{length, take, drop, length-append, length-drop}
 use lib.Seq.{sets-eq, take-append-seam, length-take-le}
+use borrow.Author.Tests.{le-leb, lt-leb}
 use Rattle.rules.specs.Numbers.{answerNumber}
 use Rattle.rules.specs.declared.model.Answer.{Answer}
 use Rattle.rules.specs.declared.model.Cause.{Cause}
@@ -22,7 +24,7 @@ use Rattle.writer.specs.declared.Written.{Written}
 use Rattle.writer.specs.Writer.{WriteIs, not-by-form, too-short, written}
 use Rattle.answer.specs.declared.tell.Told.{Told}
 use Rattle.answer.specs.Text.{causeWord, wordOf, answerText}
-use Rattle.answer.specs.Says.{textRoom, TellIs, fits}
+use Rattle.answer.specs.Says.{textRoom, fits, TellIs, told, short}
 
 -- ---- words
 
@@ -62,22 +64,21 @@ front {r = r} {o = o} {t = t} h w =
           ∙ ap (λ (x : ℕ). t ++ drop x o) k,
     )
 
-module _ (a : Answer) (xs ls : List ℕ) (m : ℕ) (o : List ℕ) where
-  pub told-text : {k r : ℕ} {p : List ℕ} (t : List ℕ) → t ≡ answerText a (imageOf (siteOf xs ls))
-      → (isRefusal a ≡ false → length (imageOf (siteOf xs ls)) ≤ m) → k ≤ length o
-      → Wrote k o p 0 r t → TellIs a xs ls m o (Told.Length r) p
-  told-text {r = r} t e f h w =
-      let s = front h w in
-      subst (λ (q : List ℕ). TellIs a xs ls m o (Told.Length r) q) (sym (s .1))
-      (subst (λ (n : ℕ). TellIs a xs ls m o (Told.Length n) (t ++ drop (length t) o)) (sym (s .0))
-      (fits t e f))
+-- a text that was written at the front is told
+pub told-text : {room : Bool} {k r : ℕ} {t o p : List ℕ} → room ≡ true → k ≤ length o
+    → Wrote k o p 0 r t → TellIs room t o (Told.Length r) p
+told-text {room} {r = r} {t} {o} e h w =
+    let s = front h w in
+    subst (λ (q : List ℕ). TellIs room t o (Told.Length r) q) (sym (s .1))
+    (subst (λ (n : ℕ). TellIs room t o (Told.Length n) (t ++ drop (length t) o)) (sym (s .0))
+    (told e))
 
-  pub told-refusal : {r : ℕ} {p : List ℕ} → isRefusal a ≡ true → 38 ≤ length o
-      → Wrote 38 o p 0 r (answerText a []) → TellIs a xs ls m o (Told.Length r) p
-  told-refusal e h w =
-      told-text (answerText a [])
-      (sym (refusal-text a [] e) ∙ refusal-text a (imageOf (siteOf xs ls)) e)
-      (λ f. absurd (both-no e f)) h w
+pub told-refusal : (a : Answer) (im : List ℕ) (m : ℕ) {r : ℕ} {o p : List ℕ}
+    → isRefusal a ≡ true → 38 ≤ length o → Wrote 38 o p 0 r (answerText a [])
+    → TellIs (fits m a im) (answerText a im) o (Told.Length r) p
+told-refusal a im m e h w =
+    told-text (ap (λ (t : Bool). t || leb (length im) m) e) h
+    (spelled (sym (refusal-text a [] e) ∙ refusal-text a im e) w)
 
 -- words by form were written: the first n bytes of the buffer p are the image
 pub record Stored (xs ls o p : List ℕ) (n : ℕ) : Type 0 where
@@ -119,13 +120,22 @@ pub front-length : {xs ls o p : List ℕ} {n : ℕ} (k : ℕ) → Stored xs ls o
     → length (take k p) ≡ n
 front-length {p = p} k s e = length-take-le k p (omega (arith, s .inside, s .room)) ∙ e
 
-pub told-image : {a : Answer} {xs ls im p o q : List ℕ} {n r : ℕ} (k : ℕ) → isRefusal a ≡ false
+pub told-image : (a : Answer) {xs ls im p o q : List ℕ} {n r : ℕ} (k : ℕ) → isRefusal a ≡ false
     → Stored xs ls im p n → k ≡ n → textRoom (length im) ≤ length o
     → Wrote (2 * length (take k p) + 19) o q 0 r (answerText a (take k p))
-    → TellIs a xs ls (length im) o (Told.Length r) q
-told-image {a} {xs} {ls} {im} {p} {o} k f s e h w =
-    told-text a xs ls (length im) o (answerText a (take k p))
-    (ap (λ (m : ℕ). answerText a (take m p)) e ∙ ap (answerText a) (s .front))
-    (λ g. omega (arith, s .count, s .inside))
+    → TellIs (fits (length im) a (imageOf (siteOf xs ls))) (answerText a (imageOf (siteOf xs ls)))
+    o (Told.Length r) q
+told-image a {xs} {ls} {im} {p} {o} k f s e h w =
+    told-text
+    (ap (λ (t : Bool). t || leb (length (imageOf (siteOf xs ls))) (length im)) f
+    ∙ le-leb (length (imageOf (siteOf xs ls))) (length im) (omega (arith, s .count, s .inside)))
     (omega (arith, front-length k s e, s .inside))
-    w
+    (spelled (ap (λ (m : ℕ). answerText a (take m p)) e ∙ ap (answerText a) (s .front)) w)
+
+pub told-short : (a : Answer) (xs ls im : List ℕ) {t o : List ℕ} → isRefusal a ≡ false
+    → length im < length (imageOf (siteOf xs ls))
+    → TellIs (fits (length im) a (imageOf (siteOf xs ls))) t o Told.Short o
+told-short a xs ls im f h =
+    short
+    (ap (λ (t : Bool). t || leb (length (imageOf (siteOf xs ls))) (length im)) f
+    ∙ lt-leb (length (imageOf (siteOf xs ls))) (length im) h)

@@ -2,3 +2,4 @@
 pub mod Asks
 pub mod Text
 pub mod Says
+pub mod Hold

@@ -6,10 +6,11 @@ ghost use Prim.Native.Nat.{_+_, _*_, _≤_};
 ghost use lib.ListN.{length};
 ghost use Rattle.memory.specs.Memory.{memoryForm};
 ghost use Rattle.site.specs.Entries.{isRefusal};
+ghost use Rattle.writer.specs.Writer.{image as imageIn};
 ghost use Rattle.print.specs.Text.{Wrote};
 ghost use Rattle.rules.specs.declared.model.Answer.{Answer};
 ghost use Rattle.answer.specs.Text.{causeWord, wordOf, answerText};
-ghost use Rattle.answer.specs.Says.{textRoom, TellIs};
+ghost use Rattle.answer.specs.Says.{textRoom, fits, TellIs};
 use rules::model::Answer;
 use rules::model::Cause;
 use writer::Written;
@@ -94,7 +95,8 @@ pub(crate) fn tell(a: Answer, site: &[u64], links: &[u64], image: &mut [u8], out
     requires { ⌜ memoryForm (now site) (now links) ≡ true ⌝ }
     requires { ⌜ textRoom (length (now image)) ≤ length (now out) ⌝ }
     ensures { λ r.
-        ⌜ TellIs a (now (site .entry)) (now (links .entry)) (length (now (image .entry)))
+        ⌜ TellIs (fits (length (now (image .entry))) a (imageIn (now (site .entry)) (now (links .entry))))
+        (answerText a (imageIn (now (site .entry)) (now (links .entry))))
         (now (out .entry)) r (now (out .exit)) ⌝ }
 {
     if refuses(a) {

@@ -1,9 +1,8 @@
 -- `answer::tell::tell` meets its contract.
 use Prim.Native.Nat.{_-_}
 use mathlib.Core.Path.{sym, _∙_}
-use Rattle.answer.specs.Says.{long}
-use Rattle.answer.proofs.TellLaws.{told-refusal, stored, not-stored, front-length, told-image}
 use native.Mathlib.Omega.{arith}
+use Rattle.answer.proofs.TellLaws.{told-refusal, stored, not-stored, front-length, told-image, told-short}
 use borrow.Author.Needs.{needs}
 use Rattle.answer.proofs.tell.tell.Statement.{statement}
 use Rattle.answer.proofs.tell.tell.Tie as tie
@@ -16,9 +15,9 @@ put-refusal-requires c κs = (
 )
 
 returns : tie.Need-returns
-returns c = told-refusal _ _ _ _ _ (sym (c .before .before .before .before .before .refuses
-    .ensures) ∙ c .before .before .before .before .if1 .taken) (omega arith) (c .before .before
-    .put-refusal .ensures)
+returns c = told-refusal _ _ _ (sym (c .before .before .before .before .before .refuses .ensures) ∙
+    c .before .before .before .before .if1 .taken) (omega arith) (c .before .before .put-refusal
+    .ensures)
 
 part-put-image-end : tie.Need-part-put-image-end
 part-put-image-end c =
@@ -32,17 +31,17 @@ put-image-requires c κs =
       omega (
         arith,
         s .inside,
-        front-length (c .before .before .before .before .w .given .0 .0 - 0) s
-            (omega arith),
+        front-length (c .before .before .before .before .w .given .0 .0 - 0)
+            s (omega arith),
       ),
-      sym (c .before .before .before .before .before .before .before .before .before .before .before
-          .refuses .ensures) ∙ c .before .before .before .before .before .before .before .before
-          .before .before .if1 .left,
+      sym (c .before .before .before .before .before .before .before .before .before .before
+          .before .refuses .ensures) ∙ c .before .before .before .before .before .before .before
+          .before .before .before .if1 .left,
     )
 
 returns-2 : tie.Need-returns-2
-returns-2 c = told-image (c .before .before .before .before .before .before .before .w .given .0 .0
-    - 0) (sym (c .before .before .before .before .before .before .before .before .before .before
+returns-2 c = told-image _ (c .before .before .before .before .before .before .before .w .given .0
+    .0 - 0) (sym (c .before .before .before .before .before .before .before .before .before .before
     .before .before .before .before .refuses .ensures) ∙ c .before .before .before .before .before
     .before .before .before .before .before .before .before .before .if1 .left) (stored (c .before
     .before .before .before .before .before .before .before .before .before .before .write-formed
@@ -52,9 +51,14 @@ returns-2 c = told-image (c .before .before .before .before .before .before .bef
     .before .put-image .ensures)
 
 returns-3 : tie.Need-returns-3
-returns-3 c = long (sym (c .before .before .before .before .before .before .before .refuses
-    .ensures) ∙ c .before .before .before .before .before .before .if1 .left) (not-stored (c
-    .before .before .before .before .write-formed .ensures) (c .before .before .before .before
+returns-3 c = told-short ((c .before .before .before .before .before .before .before .before
+    .before .before .before .before) .args .a) ((c .before .before .before .before .before .before
+    .before .before .before .before .before .before) .args .site .now) ((c .before .before .before
+    .before .before .before .before .before .before .before .before .before) .args .links .now) ((c
+    .before .before .before .before .before .before .before .before .before .before .before
+    .before) .args .image .now) (sym (c .before .before .before .before .before .before .before
+    .refuses .ensures) ∙ c .before .before .before .before .before .before .if1 .left) (not-stored
+    (c .before .before .before .before .write-formed .ensures) (c .before .before .before .before
     .before .before .before .before .before .before .before .before .pre .0) (c .enum-told .given
     .1))
 

@@ -1,0 +1,98 @@
+-- `answer::hold::hold` meets its contract.
+use borrow.Author.Needs.{needs}
+use Prim.Native.Nat.{_≤_, _-_}
+use mathlib.Core.Path.{_≡_, refl, _∙_}
+use native.Mathlib.Omega.{arith}
+use lib.ListN.{length, length-set}
+use lib.Seq.{paste, paste-zero}
+use Rattle.answer.proofs.HoldLaws.{copied-more, kept-is}
+use Rattle.answer.proofs.hold.hold.Statement.{statement}
+use Rattle.answer.proofs.hold.hold.Tie as tie
+
+abbrev Inv-loop : tie.InvT-loop
+Inv-loop line₀ len piece n m j₀ line j =
+    (j ≤ m) × (length line ≡ length line₀) × (line ≡ paste line₀ n piece j)
+
+abbrev μ-loop : tie.MeasureT-loop
+μ-loop line₀ len piece n m j₀ line j = m - j
+
+loop-holds : tie.Need-loop-holds Inv-loop μ-loop
+loop-holds c = (
+  omega arith,
+  refl,
+  paste-zero ((c .before .before .before .before) .args .line
+      .now) (c .before .least .result) ((c .before .before .before .before) .args .piece .now),
+)
+
+shared-slice-read-line : tie.Need-shared-slice-read-line Inv-loop μ-loop
+shared-slice-read-line c = omega (arith, c .before .before .before .least2 .ensures)
+
+add-line : tie.Need-add-line Inv-loop μ-loop
+add-line c = omega (
+  arith,
+  c .before .before .before .before .least .ensures,
+  c .before .before
+      .before .least2 .ensures,
+)
+
+slice-write-line : tie.Need-slice-write-line Inv-loop μ-loop
+slice-write-line c = omega (
+  arith,
+  c .before .before .before .before .least .ensures,
+  c .before
+      .before .before .least2 .ensures,
+)
+
+loop-again : tie.Need-loop-again Inv-loop μ-loop
+loop-again c = (
+  omega arith,
+  length-set (c .before .before .loop .line) _ _ ∙ c .before .before .loop .inv .1,
+  copied-more ((c .before .before .before .before .before .before .before) .args .line .now) ((c
+      .before .before .before .before .before .before .before) .args .piece .now) _ (c .before
+      .before .before .before .least .result) (c .before .before .loop .j) (omega (
+        arith,
+        c .before
+            .before .before .before .least .ensures,
+        c .before .before .before .least2 .ensures,
+      )) (omega
+      (arith, c .before .before .before .least2 .ensures)) (c .before .before .loop .inv .2),
+)
+
+add-result : tie.Need-add-result Inv-loop μ-loop
+add-result c = omega (
+  arith,
+  c .before .before .before .least .ensures,
+  c .before .before .least2
+      .ensures,
+)
+
+same-length : tie.Need-same-length Inv-loop μ-loop
+same-length c = c .before .loop .inv .1
+
+returns : tie.Need-returns Inv-loop μ-loop
+returns c = kept-is ((c .before .before .before .before .before .before) .args .line .now) ((c
+    .before .before .before .before .before .before) .args .piece .now) _ ((c .before .before
+    .before .before .before .before) .args .len) (c .before .before .before .least .result) (c
+    .before .before .least2 .result) (c .before .loop .j) (c .before .before .before .least
+    .ensures) (c .before .before .least2 .ensures) (c .loop-test .left) (c .before .loop .inv .0)
+    (c .before .loop .inv .2)
+
+pub hold-spec : {M : Type 1} → statement M
+hold-spec =
+    tie.close
+    (tie.spec
+    Inv-loop
+    μ-loop
+    (λ c κs. search needs)
+    (λ c. search needs)
+    (λ c κs. search needs)
+    loop-holds
+    shared-slice-read-line
+    add-line
+    slice-write-line
+    (λ c. search needs)
+    (λ c. search needs)
+    loop-again
+    add-result
+    same-length
+    returns)
