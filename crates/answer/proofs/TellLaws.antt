@@ -14,7 +14,7 @@ use Rattle.rules.specs.declared.model.Cause.{Cause}
 use Rattle.rules.specs.declared.model.Refusal.{Refusal}
 use Rattle.laws.proofs.Logic.{both-no}
 use Rattle.memory.specs.Memory.{siteOf, memoryForm}
-use Rattle.site.specs.Entries.{isRefusal}
+use Rattle.rules.specs.Answers.{isRefusal}
 use Rattle.print.specs.Decimal.{decimal}
 use Rattle.print.specs.Text.{Wrote}
 use Rattle.print.proofs.WriteLaws.{spelled, at-most}

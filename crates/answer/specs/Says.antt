@@ -11,7 +11,8 @@ use Rattle.rules.specs.Step.{step, holds, refused}
 use Rattle.rules.specs.declared.model.Answer.{Answer}
 use Rattle.rules.specs.declared.model.Refusal.{Refusal}
 use Rattle.memory.specs.Memory.{siteOf, memoryForm}
-use Rattle.site.specs.Entries.{After, isRefusal}
+use Rattle.rules.specs.Answers.{isRefusal}
+use Rattle.site.specs.Entries.{After}
 use Rattle.image.specs.Image.{imageOf}
 use Rattle.image.proofs.OneImage.{Bounded}
 use Rattle.reader.specs.Reader.{roomFor}

@@ -6,7 +6,7 @@ use mathlib.Core.List.{List, [], _∷_, _++_}
 use Rattle.rules.specs.Numbers.{answerNumber}
 use Rattle.rules.specs.declared.model.Answer.{Answer}
 use Rattle.rules.specs.declared.model.Cause.{Cause}
-use Rattle.site.specs.Entries.{isRefusal}
+use Rattle.rules.specs.Answers.{isRefusal}
 use Rattle.print.specs.Bytes.{bytes}
 use Rattle.print.specs.Decimal.{decimal}
 use Rattle.hex.specs.Hex.{hexOf}

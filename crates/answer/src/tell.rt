@@ -5,7 +5,7 @@ ghost use mathlib.Core.List.{[]};
 ghost use Prim.Native.Nat.{_+_, _*_, _≤_};
 ghost use lib.ListN.{length};
 ghost use Rattle.memory.specs.Memory.{memoryForm};
-ghost use Rattle.site.specs.Entries.{isRefusal};
+ghost use Rattle.rules.specs.Answers.{isRefusal};
 ghost use Rattle.writer.specs.Writer.{image as imageIn};
 ghost use Rattle.print.specs.Text.{Wrote};
 ghost use Rattle.rules.specs.declared.model.Answer.{Answer};
