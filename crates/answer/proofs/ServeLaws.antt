@@ -28,6 +28,8 @@ module _ {xs ls : List ℕ} {a : Answer} {l : Line} where
       answer = e;
       site = s;
       kept = λ r. (refl, refl);
+      «past-site» = refl;
+      «past-links» = refl;
       «site-words» = refl;
       «links-words» = refl;
       readable = λ r. r;

@@ -11,6 +11,7 @@ ghost use Rattle.print.specs.Text.{Wrote};
 ghost use Rattle.rules.specs.declared.model.Answer.{Answer};
 ghost use Rattle.answer.specs.Text.{causeWord, wordOf, answerText};
 ghost use Rattle.answer.specs.Says.{textRoom, fits, TellIs};
+use rules::answers;
 use rules::model::Answer;
 use rules::model::Cause;
 use writer::Written;
@@ -19,17 +20,6 @@ use writer::Written;
 pub enum Told {
     Length(usize),
     Short,
-}
-
-fn refuses(a: Answer) -> bool
-    ensures { λ r. ⌜ r ≡ isRefusal a ⌝ }
-{
-    match a {
-        Answer::Done => false,
-        Answer::Taken => false,
-        Answer::Discarded(_) => false,
-        Answer::Refused(_) => true,
-    }
 }
 
 fn put_cause(out: &mut [u8], at: usize, c: Cause) -> usize
@@ -99,7 +89,7 @@ pub(crate) fn tell(a: Answer, site: &[u64], links: &[u64], image: &mut [u8], out
         (answerText a (imageIn (now (site .entry)) (now (links .entry))))
         (now (out .entry)) r (now (out .exit)) ⌝ }
 {
-    if refuses(a) {
+    if answers::is_refusal(a) {
         return Told::Length(put_refusal(out, a));
     }
     let w = writer::write_formed(site, links, image);

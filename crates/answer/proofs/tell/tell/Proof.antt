@@ -10,12 +10,12 @@ use Rattle.answer.proofs.tell.tell.Tie as tie
 put-refusal-requires : tie.Need-put-refusal-requires
 put-refusal-requires c κs = (
   omega arith,
-  sym (c .before .before .refuses .ensures) ∙ c .before
+  sym (c .before .before .is-refusal .ensures) ∙ c .before
       .if1 .taken,
 )
 
 returns : tie.Need-returns
-returns c = told-refusal _ _ _ (sym (c .before .before .before .before .before .refuses .ensures) ∙
+returns c = told-refusal _ _ _ (sym (c .before .before .before .before .before .is-refusal .ensures) ∙
     c .before .before .before .before .if1 .taken) (omega arith) (c .before .before .put-refusal
     .ensures)
 
@@ -35,14 +35,14 @@ put-image-requires c κs =
             s (omega arith),
       ),
       sym (c .before .before .before .before .before .before .before .before .before .before
-          .before .refuses .ensures) ∙ c .before .before .before .before .before .before .before
+          .before .is-refusal .ensures) ∙ c .before .before .before .before .before .before .before
           .before .before .before .if1 .left,
     )
 
 returns-2 : tie.Need-returns-2
 returns-2 c = told-image _ (c .before .before .before .before .before .before .before .w .given .0
     .0 - 0) (sym (c .before .before .before .before .before .before .before .before .before .before
-    .before .before .before .before .refuses .ensures) ∙ c .before .before .before .before .before
+    .before .before .before .before .is-refusal .ensures) ∙ c .before .before .before .before .before
     .before .before .before .before .before .before .before .before .if1 .left) (stored (c .before
     .before .before .before .before .before .before .before .before .before .before .write-formed
     .ensures) (c .before .before .before .before .before .before .before .w .given .1)) (omega
@@ -57,7 +57,7 @@ returns-3 c = told-short ((c .before .before .before .before .before .before .be
     .before .before .before .before .before .before .before .before .before) .args .links .now) ((c
     .before .before .before .before .before .before .before .before .before .before .before
     .before) .args .image .now) (sym (c .before .before .before .before .before .before .before
-    .refuses .ensures) ∙ c .before .before .before .before .before .before .if1 .left) (not-stored
+    .is-refusal .ensures) ∙ c .before .before .before .before .before .before .if1 .left) (not-stored
     (c .before .before .before .before .write-formed .ensures) (c .before .before .before .before
     .before .before .before .before .before .before .before .before .pre .0) (c .enum-told .given
     .1))
