@@ -155,7 +155,7 @@ fn main() {
     let mut line = [0u8; 131138];
     let mut image = [0u8; 262144];
     let mut site = [0u64; 20585];
-    let mut links = [0u64; 262144];
+    let mut links = [0u64; 524288];
     let mut out = [0u8; 524326];
     serve(
         &mut piece,
