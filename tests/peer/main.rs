@@ -2,6 +2,7 @@
 //!
 //!     peer replay            the replayer, standard input to standard output
 //!     peer apply             one step on an image, a line each
+//!     peer damage            images changed, cut and made longer, how often each answer comes
 //!     peer compare-replay    random traces to this and to another program, command=SHELL
 //!     peer compare-apply     random image steps to both
 //!     peer walk              long random walks with demand 3 looked at, and broken rules noticed
@@ -11,6 +12,7 @@
 //! `count=N` or `walks=N steps=N`, say which random inputs and how many.
 
 mod compare;
+mod damage;
 mod image;
 mod random;
 mod rules;
@@ -69,6 +71,7 @@ fn main() -> ExitCode {
     match (words.first().map(String::as_str), command) {
         (Some("replay"), _) => filter(trace::replay, fault),
         (Some("apply"), _) => filter(trace::apply, fault),
+        (Some("damage"), _) => filter(damage::damage, fault),
         (Some("compare-replay"), Some(other)) => {
             status(compare::replays(other, seed, number("count", 300)))
         }
@@ -82,7 +85,7 @@ fn main() -> ExitCode {
         (Some("walk"), _) => walks(seed, number("walks", 2000), number("steps", 500) as u32, fault),
         _ => {
             eprintln!(
-                "usage: peer replay|apply|walk|faults|compare-replay|compare-apply [NAME=VALUE ..]"
+                "usage: peer replay|apply|damage|walk|faults|compare-replay|compare-apply [NAME=VALUE ..]"
             );
             ExitCode::FAILURE
         }
