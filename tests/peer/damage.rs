@@ -74,9 +74,9 @@ fn one_image(bytes: &[u8]) -> String {
         part("highest bits", flips(0x80)),
         part("all bits", flips(0xff)),
         part("cuts", read_all(cuts.collect())),
-        part("longer", read_all(longer.collect())),
         part("site words", |count| (0..=ROOM.0).for_each(|k| count.read(bytes, (k, ROOM.1)))),
         part("link words", |count| (0..=ROOM.1).for_each(|k| count.read(bytes, (ROOM.0, k)))),
+        part("longer", read_all(longer.collect())),
     ]
     .concat()
 }

@@ -30,7 +30,6 @@ enum Part {
     HighestBits,
     AllBits,
     Cuts,
-    Longer,
     SiteWords,
     LinkWords,
 }
@@ -49,23 +48,20 @@ fn part_at(k: u32) -> Part {
     let p = or_part(k, 3, Part::HighestBits, p);
     let p = or_part(k, 4, Part::AllBits, p);
     let p = or_part(k, 5, Part::Cuts, p);
-    let p = or_part(k, 6, Part::Longer, p);
-    let p = or_part(k, 7, Part::SiteWords, p);
-    or_part(k, 8, Part::LinkWords, p)
+    let p = or_part(k, 6, Part::SiteWords, p);
+    or_part(k, 7, Part::LinkWords, p)
 }
 
-fn tries(p: Part, bytes: &mut [u8], site: &mut [u64], links: &mut [u64], back: &mut [u8]) -> Count {
-    let n = image_end(bytes);
+fn tries(p: Part, image: &mut [u8], site: &mut [u64], links: &mut [u64], back: &mut [u8]) -> Count {
     match p {
-        Part::Whole => whole(&bytes[0..n], site, links, back),
-        Part::Buffers => rooms::buffers(&bytes[0..n], site, links, back),
-        Part::LowestBits => flips::flips(&mut bytes[0..n], 1, site, links, back),
-        Part::HighestBits => flips::flips(&mut bytes[0..n], 128, site, links, back),
-        Part::AllBits => flips::flips(&mut bytes[0..n], 255, site, links, back),
-        Part::Cuts => cuts::cuts(&bytes[0..n], site, links, back),
-        Part::Longer => cuts::longer(bytes, site, links, back),
-        Part::SiteWords => rooms::site_words(&bytes[0..n], site, links, back),
-        Part::LinkWords => rooms::links_words(&bytes[0..n], site, links, back),
+        Part::Whole => whole(image, site, links, back),
+        Part::Buffers => rooms::buffers(image, site, links, back),
+        Part::LowestBits => flips::flips(image, 1, site, links, back),
+        Part::HighestBits => flips::flips(image, 128, site, links, back),
+        Part::AllBits => flips::flips(image, 255, site, links, back),
+        Part::Cuts => cuts::cuts(image, site, links, back),
+        Part::SiteWords => rooms::site_words(image, site, links, back),
+        Part::LinkWords => rooms::links_words(image, site, links, back),
     }
 }
 
@@ -77,17 +73,26 @@ fn tell(p: Part, c: Count) {
         Part::HighestBits => show::part(b"highest bits: ", c),
         Part::AllBits => show::part(b"all bits: ", c),
         Part::Cuts => show::part(b"cuts: ", c),
-        Part::Longer => show::part(b"longer: ", c),
         Part::SiteWords => show::part(b"site words: ", c),
         Part::LinkWords => show::part(b"link words: ", c),
     }
+}
+
+fn line(k: u32, bytes: &mut [u8], site: &mut [u64], links: &mut [u64], back: &mut [u8]) {
+    if k == 8 {
+        show::part(b"longer: ", cuts::longer(bytes, site, links, back));
+        return;
+    }
+    let n = image_end(bytes);
+    let c = tries(part_at(k), &mut bytes[0..n], site, links, back);
+    tell(part_at(k), c);
 }
 
 // One part after the other.
 pub(crate) fn parts(bytes: &mut [u8], site: &mut [u64], links: &mut [u64], back: &mut [u8]) {
     let mut k = 0;
     while k < 9 {
-        tell(part_at(k), tries(part_at(k), bytes, site, links, back));
+        line(k, bytes, site, links, back);
         k += 1;
     }
 }
