@@ -1,16 +1,24 @@
--- What is kept of a line that comes in pieces, and that it is answered as the whole line.
+-- What is kept of a line that comes in pieces; of one that is too long to be read it asks nothing
+-- either.
 use Prim.Native.Nat.{ℕ, _+_, _-_, _<_, _≤_, min}
 use mathlib.Core.Path.{_≡_, refl, ap, sym, _∙_}
 use mathlib.Core.Bool.{Bool, true, false}
-use mathlib.Core.List.{List, _++_}
+use mathlib.Core.List.{List, [], _∷_, _++_}
 use native.Mathlib.Omega.{arith}
 use native.Mathlib.Numerals.{add-one}
 use lib.Dec.{ltb}
 use lib.ListN.{length, take, drop, getD, set, length-append}
 use lib.Seq.{take-all, take-append-add, length-take-le}
 use lib.Seq.{paste, paste-suc}
-use borrow.Author.Tests.{ltb-true, ltb-false}
-use Rattle.answer.specs.Hold.{kept, KeepIs}
+use borrow.Author.Tests.{ltb-true, ltb-false, lt-ltb}
+use Rattle.rules.specs.Pick.{pick-true}
+use Rattle.laws.proofs.Logic.{both-no}
+use Rattle.hex.specs.Hex.{hexOf}
+use Rattle.hex.proofs.HexLaws.{digits-length}
+use Rattle.lines.specs.Read.{readLine}
+use Rattle.lines.specs.declared.Line.{Line}
+use Rattle.answer.specs.Asks.{mostImage, served, Asks, AsksNothing}
+use Rattle.answer.specs.Hold.{mostHeld, kept, KeepIs}
 
 -- as many as there are, or k
 front-least : (xs : List ℕ) (k m : ℕ) → m ≡ min (length xs) k → take k xs ≡ take m xs
@@ -68,3 +76,35 @@ kept-is o piece p len n m j en em lo hi e =
     size =
         length-append (take n o) (take m piece)
         ∙ omega (arith, front, length-take-le m piece (omega arith))
+
+-- ---- a line that is longer than any that can be read
+
+hex-exact : (im : List ℕ) → length im ≤ mostImage → length (hexOf im) ≤ 131072
+hex-exact [] h = omega arith
+hex-exact (b ∷ im) h = omega (arith, digits-length (b ∷ im))
+
+long-call : (s : List ℕ) → 64 < length s → readLine s ≡ Line.Unreadable
+unfolding readLine
+long-call s h = pick-true _ _ _ (lt-ltb 64 (length s) h)
+
+-- a line that asks has fewer bytes than are held at most
+pub asks-short : {line im : List ℕ} {l : Line} → Asks line im l → length line < mostHeld
+asks-short {line} {im} a = go (ltb 64 (length (a .call))) refl
+  where
+    sum : length line ≡ length (hexOf im) + length (32 ∷ (a .call))
+    sum = ap length (a .text) ∙ length-append (hexOf im) (32 ∷ (a .call))
+
+    go : (t : Bool) → ltb 64 (length (a .call)) ≡ t → length line < mostHeld
+    go true e =
+        absurd (both-no (a .served)
+        (ap served (sym (a .says) ∙ long-call (a .call) (ltb-true 64 (length (a .call)) e))))
+    go false e =
+        let c = ltb-false 64 (length (a .call)) e in
+        omega (arith, sum, hex-exact im (a .few))
+
+-- so the bytes that are held of a longer line ask nothing, as the line itself
+pub held-asks-nothing : (line : List ℕ) → mostHeld ≤ length line
+    → AsksNothing line × AsksNothing (take mostHeld line)
+held-asks-nothing line h =
+    let n = length-take-le mostHeld line h in
+    (λ im l a. let s = asks-short a in omega arith, λ im l a. let s = asks-short a in omega arith)
