@@ -9,8 +9,8 @@ loader=$tools/lib/ld-linux-x86-64.so.2
 emulator=$tools/bin/qemu-x86_64
 [ -x "$emulator" ] || emulator=''
 
-run_it() { # PROGRAM
-    ${emulator:+"$emulator"} "$loader" --library-path "$tools/lib" "$1"
+run_it() { # PROGRAM WORD..
+    ${emulator:+"$emulator"} "$loader" --library-path "$tools/lib" "$@"
 }
 
 # The library, as lib/build makes it or as JOURNAL_LIB names it.

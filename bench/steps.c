@@ -152,7 +152,39 @@ static void take_image(void) {
     must(__builtin_memcmp(image, again, length) == 0, "the library's image has other bytes");
 }
 
-int main(void) {
+/* How an election's steps grow: with the boxes, with what they hold, and not with the room. */
+static void measure_growth(void) {
+    static const struct {
+        const char *name;
+        u32 n, j, l, loads;
+    } sites[] = {
+        {"step, 2 boxes, 64 loads", 2, 64, 4, 64},
+        {"step, 3 boxes, 64 loads", 3, 64, 4, 64},
+        {"step, 4 boxes, 64 loads", 4, 64, 4, 64},
+        {"step, 5 boxes, 64 loads", 5, 64, 4, 64},
+        {"step, 3 boxes, 16 loads in room for 16", 3, 16, 4, 16},
+        {"step, 3 boxes, 16 loads in room for 4,096", 3, 4096, 16, 16},
+        {"step, 3 boxes, 1,024 loads", 3, 4096, 16, 1024},
+        {"step, 3 boxes, 4,096 loads", 3, 4096, 16, 4096},
+    };
+    for (u32 i = 0; i < sizeof sites / sizeof *sites; i++) {
+        begin(sites[i].n, sites[i].j, sites[i].l, sites[i].loads);
+        measure(sites[i].name, &FORMED, do_election, 3 * n + 2);
+    }
+    static const u32 mails[] = {1, 4, 16};
+    static const char *names[] = {"image write, 3 boxes, 64 loads, 1 mail a link",
+                                  "the same, 4 mails a link", "the same, 16 mails a link"};
+    for (u32 i = 0; i < 3; i++) {
+        begin(3, 64, mails[i], 64);
+        fill_links();
+        take_image();
+        measure(names[i], &PLAIN, do_write, 1);
+    }
+}
+
+int main(int arguments, char **argument) {
+    (void)argument;
+    if (arguments > 1) return measure_growth(), 0;
     begin(3, 4, 2, 4);
     measure("step, 3 boxes, 4 loads", &PLAIN, do_life, 58);
     measure("the same, form looked at in C too", &FORMED, do_life, 58);
