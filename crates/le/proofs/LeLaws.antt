@@ -4,11 +4,11 @@ use Prim.Native.Nat.{ℕ, zero, suc, _+_, _-_, _*_, _/_, _%_, _^_, _≤_, _<_}
 use native.Mathlib.Nat.{pow-suc, pow-le-pow-right, lt-of-lt-of-le, add-sub-cancel-left}
 use native.Mathlib.Omega.{arith}
 use mathlib.Core.List.{List, [], _∷_, _++_}
-use lib.ListN.{length, take, drop, getD, set, length-drop}
+use lib.ListN.{length, take, drop, getD, set, length-set, length-drop, drop-of-length-le}
 use lib.Seq.{drop-cons, getD-drop}
 use Rattle.words.specs.Rows.{part, splice}
 use Rattle.words.proofs.PartLaws.{part-splice, length-cut}
-use Rattle.words.proofs.WriteLaws.{write-more}
+use Rattle.words.proofs.WriteLaws.{write-more, write-end}
 use Rattle.le.specs.Le.{le, ofLe, Number}
 
 -- The elements of l are bytes.
@@ -95,3 +95,43 @@ pub get-in : (k at : ℕ) (src : List ℕ) (x : ℕ) → at + k ≤ length src
     → Number (length (take (at + k - at) (drop at src))) (take (at + k - at) (drop at src)) x
     → Number k (part src at k) x
 get-in k at src x h e = rw (length-cut at k src h, add-sub-cancel-left) at e
+
+-- ---- four and eight bytes at once
+
+-- Four bytes that are set one after another: four turns of `put-more`.
+pub four-set : (xs : List ℕ) (x : ℕ) → length xs ≡ 4
+    → set
+    (set (set (set xs 0 (x % 256)) 1 (x / 256 % 256)) 2 (x / 256 / 256 % 256))
+    3
+    (x / 256 / 256 / 256 % 256)
+    ≡ le 4 x
+unfolding le
+four-set xs x h =
+    let s₁ = set xs 0 (x % 256) in
+    let s₂ = set s₁ 1 (x / 256 % 256) in
+    let s₃ = set s₂ 2 (x / 256 / 256 % 256) in
+    let s₄ = set s₃ 3 (x / 256 / 256 / 256 % 256) in
+    let h₁ : length s₁ ≡ 4 = simp length-set h in
+    let h₂ : length s₂ ≡ 4 = simp length-set h in
+    let h₃ : length s₃ ≡ 4 = simp length-set h in
+    let h₄ : length s₄ ≡ 4 = simp length-set h in
+    let e₁ = put-more 4 x xs 0 x (omega arith) (omega (arith, h)) refl in
+    let e₂ = put-more 4 x s₁ 1 (x / 256) (omega arith) (omega (arith, h₁)) e₁ in
+    let e₃ = put-more 4 x s₂ 2 (x / 256 / 256) (omega arith) (omega (arith, h₂)) e₂ in
+    let e₄ = put-more 4 x s₃ 3 (x / 256 / 256 / 256) (omega arith) (omega (arith, h₃)) e₃ in
+    write-end (le 4 x) s₄ 4 (omega (arith, h₄)) e₄
+
+-- Eight bytes whose lower and upper four are written one after the other.
+pub eight-put : (xs ys zs : List ℕ) (x : ℕ) → length xs ≡ 8 → ys ≡ le 4 x
+    → zs ≡ le 4 (x / 4294967296) → splice (splice xs 0 4 ys) 4 4 zs ≡ le 8 x
+unfolding le
+eight-put xs ys zs x h low up =
+    let none : drop 4 (drop 4 xs) ≡ [] =
+    drop-of-length-le (drop 4 xs) {i = 4} (omega (arith, h, length-drop 4 xs))
+    in
+    let d : x / 4294967296 ≡ x / 256 / 256 / 256 / 256 = omega arith in
+    rw (low, up, none, d) refl
+
+-- What a width's own function has written is x at that width.
+pub at-width : (ys : List ℕ) (k n x : ℕ) → ys ≡ le k x → n ≡ k → ys ≡ le n x
+at-width ys k n x e w = rw w e

@@ -5,8 +5,31 @@ ghost use lib.ListN.{length};
 ghost use Rattle.words.specs.Rows.{part, splice};
 ghost use Rattle.le.specs.Le.{le, Number};
 
-// All of dst becomes x: as many of its bytes as there is room for, the least first.
-pub fn put(dst: &mut [u8], x: u64)
+// Four bytes become x, one by one with no loop: so the compiler makes one store of them.
+fn put_four(dst: &mut [u8], x: u64)
+    requires { ⌜ length (now dst) ≡ 4 ⌝ }
+    ensures { λ _. ⌜ now (dst .exit) ≡ le 4 x ⌝ }
+{
+    let b = x / 256;
+    let c = b / 256;
+    let d = c / 256;
+    dst[0] = (x % 256) as u8;
+    dst[1] = (b % 256) as u8;
+    dst[2] = (c % 256) as u8;
+    dst[3] = (d % 256) as u8;
+}
+
+// Eight bytes become x.
+fn put_eight(dst: &mut [u8], x: u64)
+    requires { ⌜ length (now dst) ≡ 8 ⌝ }
+    ensures { λ _. ⌜ now (dst .exit) ≡ le 8 x ⌝ }
+{
+    put_four(&mut dst[0..4], x);
+    put_four(&mut dst[4..8], x / 4294967296);
+}
+
+// Any number of bytes become x, the least first.
+fn put_each(dst: &mut [u8], x: u64)
     ensures { λ _. ⌜ now (dst .exit) ≡ le (length (now (dst .entry))) x ⌝ }
 {
     let mut v = x;
@@ -16,6 +39,21 @@ pub fn put(dst: &mut [u8], x: u64)
         v = v / 256;
         i += 1;
     }
+}
+
+// All of dst becomes x: as many of its bytes as there is room for, the least first.
+pub fn put(dst: &mut [u8], x: u64)
+    ensures { λ _. ⌜ now (dst .exit) ≡ le (length (now (dst .entry))) x ⌝ }
+{
+    if dst.len() == 8 {
+        put_eight(dst, x);
+        return;
+    }
+    if dst.len() == 4 {
+        put_four(dst, x);
+        return;
+    }
+    put_each(dst, x);
 }
 
 // A byte as a word.
@@ -53,36 +91,4 @@ pub fn get_at(src: &[u8], at: usize, k: usize) -> u64
     ensures { λ r. ⌜ Number k (part (now (src .entry)) at k) r ⌝ }
 {
     get(&src[at..at + k])
-}
-
-// The 4 bytes of out at `at` become x.
-pub fn put_u32(out: &mut [u8], at: usize, x: u32)
-    requires { ⌜ at + 4 ≤ length (now out) ⌝ }
-    ensures { λ _. ⌜ now (out .exit) ≡ splice (now (out .entry)) at 4 (le 4 x) ⌝ }
-{
-    put_at(out, at, 4, x as u64);
-}
-
-// The number that the 4 bytes of src at `at` are.
-pub fn get_u32(src: &[u8], at: usize) -> u32
-    requires { ⌜ at + 4 ≤ length (now src) ⌝ }
-    ensures { λ r. ⌜ Number 4 (part (now (src .entry)) at 4) r ⌝ }
-{
-    get_at(src, at, 4) as u32
-}
-
-// The 8 bytes of out at `at` become x.
-pub fn put_u64(out: &mut [u8], at: usize, x: u64)
-    requires { ⌜ at + 8 ≤ length (now out) ⌝ }
-    ensures { λ _. ⌜ now (out .exit) ≡ splice (now (out .entry)) at 8 (le 8 x) ⌝ }
-{
-    put_at(out, at, 8, x);
-}
-
-// The number that the 8 bytes of src at `at` are.
-pub fn get_u64(src: &[u8], at: usize) -> u64
-    requires { ⌜ at + 8 ≤ length (now src) ⌝ }
-    ensures { λ r. ⌜ Number 8 (part (now (src .entry)) at 8) r ⌝ }
-{
-    get_at(src, at, 8)
 }

@@ -1,57 +1,34 @@
--- `le::put` meets its contract: what is written, and behind it the bytes of what is left of x,
--- are the bytes of x.
+-- `le::put` meets its contract: the two widths of the image at once, any other byte by byte.
 use borrow.Author.Needs.{needs}
-use mathlib.Core.Path.{_≡_, refl}
-use mathlib.Core.List.{_++_}
-use Prim.Native.Nat.{_≤_, _-_}
-use native.Mathlib.Nat.{sub-zero}
-use native.Mathlib.Omega.{arith}
-use lib.ListN.{length, take, length-set}
-use Rattle.words.proofs.WriteLaws.{write-end}
-use Rattle.le.specs.Le.{le}
-use Rattle.le.proofs.LeLaws.{put-more}
+use lib.ListN.{length}
+use Rattle.le.proofs.LeLaws.{at-width}
 use Rattle.le.proofs.put.Statement.{statement}
 use Rattle.le.proofs.put.Tie as tie
 
-abbrev Inv-loop : tie.InvT-loop
-Inv-loop dst₀ x v₀ i₀ dst v i =
-    (i ≤ length dst₀) × (le (length dst₀) x ≡ take i dst ++ le (length dst₀ - i) v)
-    × (length dst ≡ length dst₀)
-
-abbrev μ-loop : tie.MeasureT-loop
-μ-loop dst₀ x v₀ i₀ dst v i = length dst₀ - i
-
-loop-holds : tie.Need-loop-holds Inv-loop μ-loop
-loop-holds c = (search needs, rw sub-zero, refl)
-
-loop-again : tie.Need-loop-again Inv-loop μ-loop
-loop-again c =
-    let l = c .before .loop in
-    let a = c .before .before .args in
-    let n = length (a .dst .now) in
-    let more = put-more n (a .x) (l .dst) (l .i) (l .v) (omega arith) (omega arith) (l .inv .1) in
-    (omega arith, more, simp length-set (l .inv .2))
-
-returns : tie.Need-returns Inv-loop μ-loop
-unfolding le
+returns : tie.Need-returns
 returns c =
-    let l = c .before .loop in
-    let a = c .before .before .args in
-    let n = length (a .dst .now) in
-    let none : n - l .i ≡ 0 = omega arith in
-    write-end (le n (a .x)) (l .dst) (l .i) (omega arith) (rw none at (l .inv .1))
+    let put = c .before .before .put-eight in
+    let n = c .before .before .before .before .if1 .taken in
+    let a = c .before .before .before .before .before .before .args in
+    at-width (put .last .0) 8 (length (a .dst .now)) (a .x) (put .ensures) n
+
+returns-2 : tie.Need-returns-2
+returns-2 c =
+    let put = c .before .before .put-four in
+    let n = c .before .before .before .before .if2 .taken in
+    let a = c .before .before .before .before .before .before .before .args in
+    at-width (put .last .0) 4 (length (a .dst .now)) (a .x) (put .ensures) n
 
 pub put-spec : {M : Type 1} → statement M
 put-spec =
     tie.close
     (tie.spec
-    Inv-loop
-    μ-loop
-    loop-holds
+    (λ c κs. search needs)
     (λ c. search needs)
+    returns
+    (λ c κs. search needs)
     (λ c. search needs)
+    returns-2
+    (λ c κs. search needs)
     (λ c. search needs)
-    (λ c. search needs)
-    loop-again
-    (λ c. search needs)
-    returns)
+    (λ c. search needs))
