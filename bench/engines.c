@@ -22,7 +22,11 @@ static u32 formed_step(u32 call, u32 a, u32 b, u32 c) {
     return by_form(&site) ? step(&site, call, a, b, c) : 1;
 }
 
-const struct engine FORMED = {plain_fresh, formed_step, plain_write, plain_read};
+static u32 formed_write(u8 *image, u64 length) {
+    return by_form(&site) ? plain_write(image, length) : 1;
+}
+
+const struct engine FORMED = {plain_fresh, formed_step, formed_write, plain_read};
 const struct engine PLAIN = {plain_fresh, plain_step, plain_write, plain_read};
 
 static u64 *boxes, *links, box_words, link_words;

@@ -11,7 +11,7 @@ struct engine {
 };
 
 extern struct site site;
-/* FORMED is the plain engine that looks at form before each step, as the library does. */
+/* FORMED is the plain engine that looks at form before each step and write, as the library does. */
 extern const struct engine PLAIN, FORMED, JOURNAL;
 
 #endif

@@ -178,7 +178,7 @@ static void measure_growth(void) {
         begin(3, 64, mails[i], 64);
         fill_links();
         take_image();
-        measure(names[i], &PLAIN, do_write, 1);
+        measure(names[i], &FORMED, do_write, 1);
     }
 }
 
@@ -190,6 +190,7 @@ int main(int arguments, char **argument) {
     measure("the same, form looked at in C too", &FORMED, do_life, 58);
     take_image();
     measure("image write, 3 boxes, 4 loads", &PLAIN, do_write, 1);
+    measure("the same, form looked at in C too", &FORMED, do_write, 1);
     measure("image read, 3 boxes, 4 loads", &PLAIN, do_read, 1);
     begin(5, 4096, 16, 4096);
     measure("step, 5 boxes, 4,096 loads", &PLAIN, do_election, 17);
@@ -197,6 +198,7 @@ int main(int arguments, char **argument) {
     fill_links();
     take_image();
     measure("image write, largest", &PLAIN, do_write, 1);
+    measure("the same, form looked at in C too", &FORMED, do_write, 1);
     measure("image read, largest", &PLAIN, do_read, 1);
     measure_copy("memcpy of the largest image");
     return 0;
