@@ -1,5 +1,5 @@
 -- Laws of writing text at a place.
-use Prim.Native.Nat.{ℕ, suc, _+_, _<_, _≤_}
+use Prim.Native.Nat.{ℕ, suc, _+_, _/_, _%_, _<_, _≤_}
 use mathlib.Core.Path.{_≡_, refl, ap, sym, _∙_, subst}
 use mathlib.Core.List.{List, [], _∷_, _++_}
 use native.Mathlib.Numerals.{add-one}
@@ -10,7 +10,7 @@ use lib.Seq.{sets, take-suc, take-all}
 use Rattle.io.specs.Digits.{digits, Fewest}
 use Rattle.print.specs.Decimal.{decimal}
 use Rattle.print.specs.Text.{Wrote}
-use Rattle.print.proofs.DecimalLaws.{decimal-is}
+use Rattle.print.proofs.DecimalLaws.{decimal-is, one-digit, more-digits}
 
 sets-append : (a b l : List ℕ) (i : ℕ) → sets (sets l i a) (i + length a) b ≡ sets l i (a ++ b)
 sets-append [] b l i = rw add-zero
@@ -76,3 +76,17 @@ pub decimal-done : (t : List ℕ) (x n : ℕ) {i j : ℕ} {a b : List ℕ} → n
     → Wrote 20 a b i j (decimal x)
 decimal-done t x n e f d w =
     spelled (d ∙ decimal-is x n (omega (arith, w .end, w .few, e)) f) w
+
+-- one digit, written at once
+pub one-done : (x : ℕ) {i j : ℕ} {a b : List ℕ} → x < 10 → Wrote 1 a b i j ((48 + x) ∷ [])
+    → Wrote 20 a b i j (decimal x)
+one-done x h w = at-most (omega arith) (spelled (sym (one-digit 19 x h)) w)
+
+-- two digits, one after the other
+pub two-done : (x : ℕ) {i j k : ℕ} {a b c : List ℕ} → 10 ≤ x → x < 100
+    → Wrote 1 a b i j ((48 + x / 10) ∷ []) → Wrote 1 b c j k ((48 + x % 10) ∷ [])
+    → Wrote 20 a c i k (decimal x)
+two-done x h m u v =
+    let first = one-digit 18 (x / 10) (omega arith) in
+    let both = more-digits 18 x h ∙ ap (λ l. l ++ ((48 + x % 10) ∷ [])) first in
+    at-most (omega arith) (spelled (sym both) (then u v))

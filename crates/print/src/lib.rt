@@ -37,13 +37,29 @@ fn put_first(out: &mut [u8], at: usize, text: [u8; 20], n: usize) -> usize
     put_bytes(out, at, &text[..n])
 }
 
-pub fn put_decimal(out: &mut [u8], at: usize, x: u64) -> usize
+// Any number, turned round in a buffer of its own.
+fn put_long(out: &mut [u8], at: usize, x: u64) -> usize
     requires { ⌜ at + 20 ≤ length (now out) ⌝ }
     ensures { λ r. ⌜ Wrote 20 (now (out .entry)) (now (out .exit)) at r (decimal x) ⌝ }
 {
     let mut text = [0u8; 20];
     let n = io::decimal(x, &mut text);
     put_first(out, at, text, n)
+}
+
+// Most numbers that a replay prints have one digit or two: they go to their place at once.
+pub fn put_decimal(out: &mut [u8], at: usize, x: u64) -> usize
+    requires { ⌜ at + 20 ≤ length (now out) ⌝ }
+    ensures { λ r. ⌜ Wrote 20 (now (out .entry)) (now (out .exit)) at r (decimal x) ⌝ }
+{
+    if x < 10 {
+        return put_byte(out, at, (48 + x) as u8);
+    }
+    if x < 100 {
+        let p = put_byte(out, at, (48 + x / 10) as u8);
+        return put_byte(out, p, (48 + x % 10) as u8);
+    }
+    put_long(out, at, x)
 }
 
 // A space, and x.
