@@ -6,6 +6,7 @@ use mathlib.Core.List.{List, []}
 use native.Mathlib.Omega.{arith}
 use lib.ListN.{take}
 use borrow.Author.Tests.{leb-true}
+use Rattle.rules.specs.Answers.{isRefusal}
 use Rattle.rules.specs.Numbers.{answerNumber}
 use Rattle.rules.specs.Site.{Site}
 use Rattle.rules.specs.declared.model.Answer.{Answer}
@@ -19,8 +20,7 @@ use Rattle.lines.specs.declared.Line.{Line}
 use Rattle.trace.specs.Feeding.{Feeding, hold, holding, answered}
 use Rattle.trace.specs.Replay.{Run, ended, Told, done, told, opened, judged, mostLines}
 use Rattle.trace.specs.Replay.{lasts, toldText, toldNext, lineText, lineNext}
-use Rattle.trace.specs.Stops.{accepted}
-use Rattle.trace.proofs.FirstRefused.{told-accepted}
+use Rattle.trace.proofs.FirstRefused.{told-done}
 use Rattle.feed.specs.State.{Course, toldSite, lineSite, courseNext, courseText, runOf}
 use Rattle.feed.specs.State.{courseOf, feedingOf, Lent}
 use Rattle.feed.specs.Says.{Rowed, Answers, Finishes, Keeps, Turns, answerMost}
@@ -49,7 +49,7 @@ keeps-is f g p e k h =
 -- ---- the answer is printed
 
 pub finish-done : (k next : ℕ) (a : Answer) (xs line : List ℕ) {x y : List ℕ} {at p : ℕ}
-    → accepted a ≡ true → next ≡ k + 1
+    → isRefusal a ≡ false → next ≡ k + 1
     → Wrote answerMost x y at p (doneText k (siteOf xs [] .epoch) (lasts (siteOf xs [])))
     → Finishes k a xs x y at
     (record { feed = record { stage = Stage.Going; k = next; len = 0; line = line }; at = p })
@@ -61,21 +61,21 @@ finish-done k next a xs line e n w =
           ∙ ap
           (λ (t : Told).
           record { run = record { run = toldNext k t; site = siteOf xs ls }; held = [] })
-          (sym (told-accepted a (siteOf xs ls) e));
-      wrote = λ ls. spelled (ap (toldText k) (sym (told-accepted a (siteOf xs ls) e))) w;
+          (sym (told-done a (siteOf xs ls) e));
+      wrote = λ ls. spelled (ap (toldText k) (sym (told-done a (siteOf xs ls) e))) w;
       form = λ ls h. h e;
     }
 
-refused-text : (k : ℕ) (a : Answer) (s : Site) → accepted a ≡ false
+refused-text : (k : ℕ) (a : Answer) (s : Site) → isRefusal a ≡ true
     → (toldText k (told a s) ≡ refusedText k (answerNumber a)) × (toldNext k (told a s) ≡ ended)
 unfolding toldText toldNext
-refused-text k Answer.Done s e = absurd (both-no refl e)
-refused-text k Answer.Taken s e = absurd (both-no refl e)
-refused-text k (Answer.Discarded why) s e = absurd (both-no refl e)
+refused-text k Answer.Done s e = absurd (both-no e refl)
+refused-text k Answer.Taken s e = absurd (both-no e refl)
+refused-text k (Answer.Discarded why) s e = absurd (both-no e refl)
 refused-text k (Answer.Refused why) s e = (refl, refl)
 
 pub finish-refused : (k c : ℕ) (a : Answer) (xs line : List ℕ) {x y : List ℕ} {at p : ℕ}
-    → accepted a ≡ false → c ≡ answerNumber a → Wrote 50 x y at p (refusedText k c)
+    → isRefusal a ≡ true → c ≡ answerNumber a → Wrote 50 x y at p (refusedText k c)
     → Finishes k a xs x y at
     (record { feed = record { stage = Stage.Ended; k = k; len = 0; line = line }; at = p })
 finish-refused k c a xs line e n w =
@@ -104,13 +104,13 @@ form-rowed xs ls e =
 
 -- a line that is done is not past the last
 pub in-time : (k : ℕ) (s : Site) (l : Line) (a : Answer) {xs ls xs' ls' : List ℕ}
-    → Answers (judged k s l) xs ls xs' ls' a → accepted a ≡ true → k ≤ mostLines
+    → Answers (judged k s l) xs ls xs' ls' a → isRefusal a ≡ false → k ≤ mostLines
 unfolding judged
 in-time k s l a {xs' = xs'} {ls' = ls'} w h =
     pick-elim (λ (x : Told). told a (siteOf xs' ls') ≡ x → k ≤ mostLines) _
     (λ d q. leb-true k mostLines d)
     (λ d q. absurd
-    (let f = sym (told-accepted a (siteOf xs' ls') h) ∙ q in
+    (let f = sym (told-done a (siteOf xs' ls') h) ∙ q in
     let z : _≡_ {A = ℕ} 0 1 = cc in omega arith))
     (w .answer)
 

@@ -24,13 +24,13 @@ use Rattle.site.specs.Entries.{FormedStep, FreshMade, freshOn}
 use Rattle.site.proofs.AfterLaws.{no-needs, need-met, need-not}
 use Rattle.lines.specs.declared.Line.{Line}
 use Rattle.trace.specs.Replay.{Told, refused, told, traceSizes, opened, played, judged, mostLines}
-use Rattle.trace.specs.Stops.{accepted, opens, plays}
+use Rattle.trace.specs.Stops.{opens, plays}
 use Rattle.feed.specs.State.{toldSite}
 use Rattle.feed.specs.Says.{Answers}
 
 -- a line that is not done leaves the words, and one that is done holds what it left
 held-by : (a : Answer) (t : Told) (xs ls xs' ls' : List ℕ) → told a (siteOf xs' ls') ≡ t
-    → (accepted a ≡ false → (xs' ≡ xs) × (ls' ≡ ls)) → siteOf xs' ls' ≡ toldSite (siteOf xs ls) t
+    → (isRefusal a ≡ true → (xs' ≡ xs) × (ls' ≡ ls)) → siteOf xs' ls' ≡ toldSite (siteOf xs ls) t
 unfolding toldSite
 held-by Answer.Done t xs ls xs' ls' e k = ap (toldSite (siteOf xs ls)) e
 held-by Answer.Taken t xs ls xs' ls' e k = ap (toldSite (siteOf xs ls)) e
@@ -38,12 +38,6 @@ held-by (Answer.Discarded why) t xs ls xs' ls' e k = ap (toldSite (siteOf xs ls)
 held-by (Answer.Refused why) t xs ls xs' ls' e k =
     ap (λ (y : List ℕ). siteOf y ls') (k refl .0)
     ∙ (ap (siteOf xs) (k refl .1) ∙ ap (toldSite (siteOf xs ls)) e)
-
-refusal-is : (a : Answer) → accepted a ≡ false → isRefusal a ≡ true
-refusal-is Answer.Done e = absurd (both-no refl e)
-refusal-is Answer.Taken e = absurd (both-no refl e)
-refusal-is (Answer.Discarded why) e = absurd (both-no refl e)
-refusal-is (Answer.Refused why) e = refl
 
 as-told : {t u : Told} {xs ls xs' ls' : List ℕ} {a : Answer} → t ≡ u → Answers t xs ls xs' ls' a
     → Answers u xs ls xs' ls' a
@@ -57,7 +51,7 @@ unfolding toldSite
 stays t xs ls why e = record {
   answer = sym e;
   holds = ap (toldSite (siteOf xs ls)) (sym e);
-  form = λ h. absurd (both-no h refl);
+  form = λ h. absurd (both-no refl h);
   site = refl;
   links = refl;
 }
@@ -82,7 +76,7 @@ module _ (k : ℕ) (xs ls : List ℕ) (h : k ≤ mostLines) where
 
   stepped : (xs' ls' : List ℕ) (c : Call) (a : Answer) → a ≡ step (siteOf xs ls) c .answer
       → siteOf xs' ls' ≡ step (siteOf xs ls) c .next → memoryForm xs' ls' ≡ true
-      → (accepted a ≡ false → (xs' ≡ xs) × (ls' ≡ ls)) → length xs' ≡ length xs
+      → (isRefusal a ≡ true → (xs' ≡ xs) × (ls' ≡ ls)) → length xs' ≡ length xs
       → length ls' ≡ length ls
       → Answers (judged k (siteOf xs ls) (Line.Call c)) xs ls xs' ls' a
   unfolding played
@@ -103,7 +97,7 @@ module _ (k : ℕ) (xs ls : List ℕ) (h : k ≤ mostLines) where
   called xs' ls' l c a e w =
       let o = w .after in
       as-told (ap (judged k (siteOf xs ls)) (sym e))
-      (stepped xs' ls' c a (o .answer) (o .site) (w .form) (λ no. o .kept (refusal-is a no))
+      (stepped xs' ls' c a (o .answer) (o .site) (w .form) (o .kept)
       (o .site-words) (o .links-words))
 
   held : (c i left right : ℕ) (a : Answer) → a ≡ holds (siteOf xs ls) c i left right
@@ -149,7 +143,7 @@ founded n J L xs ls xs' ls' a s hj hl ea es f p q =
       answer = e;
       holds =
           held-by a (opened (Line.Site n J L)) xs ls xs' ls' e
-          (λ no. absurd (both-no (ap accepted ea) no));
+          (λ no. absurd (both-no no (ap isRefusal ea)));
       form = λ e. f;
       site = p;
       links = q;
@@ -228,8 +222,8 @@ module _ (n J L : ℕ) (xs ls xs' ls' : List ℕ) (a : Answer) (w : FreshMade n 
           answer = e;
           holds =
               held-by a (opened (Line.Site n J L)) xs ls xs' ls' e
-              (λ r. o .kept (refusal-is a r));
-          form = λ r. absurd (both-no r (ap accepted b));
+              (o .kept);
+          form = λ r. absurd (both-no (ap isRefusal b) r);
           site = o .site-words;
           links = o .links-words;
         }

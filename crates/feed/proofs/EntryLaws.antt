@@ -6,6 +6,7 @@ use mathlib.Core.List.{List}
 use lib.Dec.{leb}
 use lib.ListN.{length}
 use borrow.Author.Tests.{le-leb, lt-leb, leb-true}
+use Rattle.rules.specs.Answers.{isRefusal}
 use Rattle.rules.specs.declared.model.Answer.{Answer}
 use Rattle.rules.specs.declared.model.Refusal.{Refusal}
 use Rattle.laws.proofs.Logic.{Or, decide, and-yes, both-no}
@@ -13,7 +14,6 @@ use Rattle.memory.specs.Memory.{siteWords, linksWords}
 use Rattle.site.proofs.AfterLaws.{no-needs, need-met, need-not}
 use Rattle.print.specs.Text.{Wrote}
 use Rattle.trace.specs.Feeding.{endText}
-use Rattle.trace.specs.Stops.{accepted}
 use Rattle.feed.specs.State.{courseText, feedingOf, formed, Lent}
 use Rattle.feed.specs.Says.{Feeds, answerMost}
 use Rattle.feed.specs.Entries.{hasRoom, pieceAnswer, PieceFed, endAnswer, EndSaid}
@@ -28,7 +28,7 @@ refused-piece : (f : Feed) (piece xs ls x : List ℕ) (why : Refusal)
     (record { answer = Answer.Refused why; feed = f; took = 0; at = 0 })
 refused-piece f piece xs ls x why e = record {
   answer = e;
-  fed = λ h. absurd (both-no h refl);
+  fed = λ h. absurd (both-no refl h);
   kept = λ h. record {
     feed = refl;
     took = refl;
@@ -72,7 +72,7 @@ module _ (f : Feed) (piece xs ls x : List ℕ) where
   well-fed xs' ls' y g e h w = record {
     answer = w .answer ∙ sym (need-met _ _ _ _ _ e ∙ (need-met _ _ _ _ _ h ∙ no-needs _ _));
     fed = λ a. w;
-    kept = λ a. absurd (both-no (ap accepted (w .answer)) a);
+    kept = λ a. absurd (both-no a (ap isRefusal (w .answer)));
   }
 
 -- ---- the end
@@ -82,19 +82,19 @@ end-no : (x : List ℕ) → leb answerMost (length x) ≡ false
 unfolding endAnswer
 end-no x e = need-not _ _ _ _ _ e
 
-pub end-room : (x : List ℕ) → accepted (endAnswer x) ≡ true → answerMost ≤ length x
+pub end-room : (x : List ℕ) → isRefusal (endAnswer x) ≡ false → answerMost ≤ length x
 end-room x a = go (decide (leb answerMost (length x)))
   where
     go : Or (leb answerMost (length x) ≡ true) (leb answerMost (length x) ≡ false)
         → answerMost ≤ length x
     go (Or.left e) = leb-true answerMost (length x) e
-    go (Or.right e) = absurd (both-no a (ap accepted (end-no x e)))
+    go (Or.right e) = absurd (both-no (ap isRefusal (end-no x e)) a)
 
 pub end-short : (f : Feed) (x : List ℕ) → length x < answerMost
     → EndSaid f x x (record { answer = Answer.Refused Refusal.Buffer; at = 0 })
 end-short f x h = record {
   answer = sym (end-no x (lt-leb answerMost (length x) h));
-  said = λ a. absurd (both-no a refl);
+  said = λ a. absurd (both-no refl a);
   kept = λ a. (refl, refl);
 }
 
@@ -106,5 +106,5 @@ unfolding endAnswer
 end-said f x y at h w = record {
   answer = sym (need-met _ _ _ _ _ (le-leb answerMost (length x) h) ∙ no-needs _ _);
   said = λ a. w;
-  kept = λ a. absurd (both-no refl a);
+  kept = λ a. absurd (both-no a refl);
 }

@@ -10,6 +10,7 @@ use lib.Seq.{sets, sets-eq, length-sets, take-append-seam}
 use borrow.Author.Tests.{le-ltb}
 use Rattle.rules.specs.Pick.{pick-false}
 use Rattle.rules.specs.Site.{Site}
+use Rattle.rules.specs.Answers.{isRefusal}
 use Rattle.rules.specs.declared.model.Answer.{Answer}
 use Rattle.laws.proofs.Logic.{Or, decide, pick-elim}
 use Rattle.memory.specs.Memory.{siteOf}
@@ -17,7 +18,6 @@ use Rattle.lines.specs.declared.Line.{Line}
 use Rattle.trace.specs.Feeding.{Feeding, byteNext, byteText, feedNext, feedText, endText}
 use Rattle.trace.specs.Lines.{linesOf, texts}
 use Rattle.trace.specs.Replay.{first, lineNext, lineText, replay}
-use Rattle.trace.specs.Stops.{accepted}
 use Rattle.trace.proofs.Pieces.{next-append, text-append, fed-from}
 use Rattle.feed.specs.State.{Course, courseNext, courseText, begun, feedingOf}
 use Rattle.feed.specs.Says.{Feeds, taken, answerMost}
@@ -111,12 +111,12 @@ since-piece : {input output : List ℕ} {f : Feed} {xs ls piece xs' ls' before a
     {g : Fed} → Since input output f xs ls → PieceFed f piece xs ls xs' ls' before after g
     → Since (input ++ take (g .took) piece) (output ++ take (g .at) after) (g .feed) xs' ls'
 since-piece {input} {output} {f} {xs} {ls} {piece} {xs'} {ls'} {before} {after} {g} w v =
-    go (decide (accepted (g .answer)))
+    go (decide (isRefusal (g .answer)))
   where
-    go : Or (accepted (g .answer) ≡ true) (accepted (g .answer) ≡ false)
+    go : Or (isRefusal (g .answer) ≡ true) (isRefusal (g .answer) ≡ false)
         → Since (input ++ take (g .took) piece) (output ++ take (g .at) after) (g .feed) xs' ls'
-    go (Or.left e) = since-fed w (v .fed e)
-    go (Or.right e) = since-unfed piece w (v .kept e)
+    go (Or.right e) = since-fed w (v .fed e)
+    go (Or.left e) = since-unfed piece w (v .kept e)
 
 since : {input output : List ℕ} {f : Feed} {xs ls : List ℕ} → Went input output f xs ls
     → Since input output f xs ls
@@ -131,7 +131,7 @@ whole = record {
       let z = since w in
       let s = v .said a xs ls in
       let t = endText courseText (feedingOf f xs ls) in
-      let room = end-room before (subst (λ (b : Answer). accepted b ≡ true) (v .answer) a) in
+      let room = end-room before (subst (λ (b : Answer). isRefusal b ≡ false) (v .answer) a) in
       ap (λ (u : List ℕ). output ++ u)
       (front before after t (e .at) (s .bytes) (omega (arith, s .end)) (omega (arith, s .few, s .room, room)))
       ∙ (ap (λ (u : List ℕ). u ++ t) (z .text)
@@ -170,24 +170,24 @@ taken-some (b ∷ p) r s h l =
 
 pub piece-fits : {f : Feed} {piece xs ls xs' ls' x y : List ℕ} {g : Fed}
     → PieceFed f piece xs ls xs' ls' x y g → (g .at ≤ length y) × (g .took ≤ length piece)
-piece-fits {f} {piece} {xs} {ls} {xs'} {ls'} {x} {y} {g} w = go (decide (accepted (g .answer)))
+piece-fits {f} {piece} {xs} {ls} {xs'} {ls'} {x} {y} {g} w = go (decide (isRefusal (g .answer)))
   where
-    go : Or (accepted (g .answer) ≡ true) (accepted (g .answer) ≡ false)
+    go : Or (isRefusal (g .answer) ≡ true) (isRefusal (g .answer) ≡ false)
         → (g .at ≤ length y) × (g .took ≤ length piece)
-    go (Or.left e) =
+    go (Or.right e) =
         let v = w .fed e in
         (v .fits, omega (arith, v .took, taken-part piece (length x) (feedingOf f xs ls)))
-    go (Or.right e) = let v = w .kept e in (omega (arith, v .end), omega (arith, v .took))
+    go (Or.left e) = let v = w .kept e in (omega (arith, v .end), omega (arith, v .took))
 
 pub end-fits : {f : Feed} {x y : List ℕ} {e : End} → EndSaid f x y e → e .at ≤ length y
-end-fits {f} {x} {y} {e} w = go (decide (accepted (e .answer)))
+end-fits {f} {x} {y} {e} w = go (decide (isRefusal (e .answer)))
   where
-    go : Or (accepted (e .answer) ≡ true) (accepted (e .answer) ≡ false) → e .at ≤ length y
-    go (Or.left h) =
+    go : Or (isRefusal (e .answer) ≡ true) (isRefusal (e .answer) ≡ false) → e .at ≤ length y
+    go (Or.right h) =
         let v = w .said h [] [] in
-        let room = end-room x (subst (λ (b : Answer). accepted b ≡ true) (w .answer) h) in
+        let room = end-room x (subst (λ (b : Answer). isRefusal b ≡ false) (w .answer) h) in
         omega (arith, v .few, v .room, room)
-    go (Or.right h) = omega (arith, w .kept h .1)
+    go (Or.left h) = omega (arith, w .kept h .1)
 
 -- ---- one result: what two results of a call can differ in says nothing
 
@@ -203,16 +203,16 @@ pub once : {f : Feed} {piece xs ls xs' ls' ys ms x y z : List ℕ} {g h : Fed}
     → PieceFed f piece xs ls xs' ls' x y g → PieceFed f piece xs ls ys ms x z h
     → Same xs' ls' y g ys ms z h
 once {f} {piece} {xs} {ls} {xs'} {ls'} {ys} {ms} {x} {y} {z} {g} {h} v w =
-    go (decide (accepted (g .answer)))
+    go (decide (isRefusal (g .answer)))
   where
     a : g .answer ≡ h .answer
     a = v .answer ∙ sym (w .answer)
 
-    go : Or (accepted (g .answer) ≡ true) (accepted (g .answer) ≡ false)
+    go : Or (isRefusal (g .answer) ≡ true) (isRefusal (g .answer) ≡ false)
         → Same xs' ls' y g ys ms z h
-    go (Or.left e) =
+    go (Or.right e) =
         let p = v .fed e in
-        let q = w .fed (subst (λ (b : Answer). accepted b ≡ true) a e) in
+        let q = w .fed (subst (λ (b : Answer). isRefusal b ≡ false) a e) in
         let s = feedingOf f xs ls in
         let t : g .took ≡ h .took = p .took ∙ sym (q .took) in
         record {
@@ -230,9 +230,9 @@ once {f} {piece} {xs} {ls} {xs'} {ls'} {ys} {ms} {x} {y} {z} {g} {h} v w =
               p .next
               ∙ (ap (λ (n : ℕ). feedNext courseNext s (take n piece)) t ∙ sym (q .next));
         }
-    go (Or.right e) =
+    go (Or.left e) =
         let p = v .kept e in
-        let q = w .kept (subst (λ (b : Answer). accepted b ≡ false) a e) in
+        let q = w .kept (subst (λ (b : Answer). isRefusal b ≡ true) a e) in
         record {
           answer = a;
           took = p .took ∙ sym (q .took);
@@ -243,18 +243,18 @@ once {f} {piece} {xs} {ls} {xs'} {ls'} {ys} {ms} {x} {y} {z} {g} {h} v w =
 
 pub end-once : {f : Feed} {x y z : List ℕ} {d e : End} → EndSaid f x y d → EndSaid f x z e
     → (d .answer ≡ e .answer) × (d .at ≡ e .at) × (y ≡ z)
-end-once {f} {x} {y} {z} {d} {e} v w = go (decide (accepted (d .answer)))
+end-once {f} {x} {y} {z} {d} {e} v w = go (decide (isRefusal (d .answer)))
   where
     a : d .answer ≡ e .answer
     a = v .answer ∙ sym (w .answer)
 
-    go : Or (accepted (d .answer) ≡ true) (accepted (d .answer) ≡ false)
+    go : Or (isRefusal (d .answer) ≡ true) (isRefusal (d .answer) ≡ false)
         → (d .answer ≡ e .answer) × (d .at ≡ e .at) × (y ≡ z)
-    go (Or.left h) =
-        let p = v .said h [] [] in
-        let q = w .said (subst (λ (b : Answer). accepted b ≡ true) a h) [] [] in
-        (a, p .end ∙ sym (q .end), p .bytes ∙ sym (q .bytes))
     go (Or.right h) =
+        let p = v .said h [] [] in
+        let q = w .said (subst (λ (b : Answer). isRefusal b ≡ false) a h) [] [] in
+        (a, p .end ∙ sym (q .end), p .bytes ∙ sym (q .bytes))
+    go (Or.left h) =
         let p = v .kept h in
-        let q = w .kept (subst (λ (b : Answer). accepted b ≡ false) a h) in
+        let q = w .kept (subst (λ (b : Answer). isRefusal b ≡ true) a h) in
         (a, p .1 ∙ sym (q .1), p .0 ∙ sym (q .0))

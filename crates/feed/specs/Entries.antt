@@ -5,13 +5,13 @@ use mathlib.Core.Bool.{Bool, true, false, _&&_}
 use mathlib.Core.List.{List, [], _∷_}
 use lib.Dec.{leb}
 use lib.ListN.{length}
+use Rattle.rules.specs.Answers.{isRefusal}
 use Rattle.rules.specs.Needs.{need, ruled}
 use Rattle.rules.specs.declared.model.Answer.{Answer}
 use Rattle.rules.specs.declared.model.Refusal.{Refusal}
 use Rattle.memory.specs.Memory.{siteWords, linksWords}
 use Rattle.print.specs.Text.{Wrote}
 use Rattle.trace.specs.Feeding.{endText}
-use Rattle.trace.specs.Stops.{accepted}
 use Rattle.feed.specs.State.{courseText, feedingOf, formed}
 use Rattle.feed.specs.Says.{Feeds, answerMost}
 use Rattle.feed.specs.declared.state.End.{End}
@@ -46,8 +46,8 @@ pub record Unfed (f : Feed) (xs ls xs' ls' before after : List ℕ) (g : Fed) : 
 pub record PieceFed (f : Feed) (piece xs ls xs' ls' before after : List ℕ) (g : Fed) : Type 0
   where
     pub answer : g .answer ≡ pieceAnswer (f .stage) xs ls before
-    pub fed : accepted (g .answer) ≡ true → Feeds f piece xs ls xs' ls' before after g
-    pub kept : accepted (g .answer) ≡ false → Unfed f xs ls xs' ls' before after g
+    pub fed : isRefusal (g .answer) ≡ false → Feeds f piece xs ls xs' ls' before after g
+    pub kept : isRefusal (g .answer) ≡ true → Unfed f xs ls xs' ls' before after g
 
 -- 12 where the buffer has no room for the longest answer
 unfoldable pub endAnswer : List ℕ → Answer
@@ -57,6 +57,6 @@ endAnswer out =
 -- the end of the input was answered, or refused; the words do not matter
 pub record EndSaid (f : Feed) (before after : List ℕ) (e : End) : Type 0 where
   pub answer : e .answer ≡ endAnswer before
-  pub said : accepted (e .answer) ≡ true → (xs ls : List ℕ)
+  pub said : isRefusal (e .answer) ≡ false → (xs ls : List ℕ)
       → Wrote answerMost before after 0 (e .at) (endText courseText (feedingOf f xs ls))
-  pub kept : accepted (e .answer) ≡ false → (after ≡ before) × (e .at ≡ 0)
+  pub kept : isRefusal (e .answer) ≡ true → (after ≡ before) × (e .at ≡ 0)

@@ -1,12 +1,13 @@
 -- What each function of the feeding says.
 use Prim.Native.Nat.{ℕ, suc, _-_, _≤_, _<_}
 use mathlib.Core.Path.{_≡_}
-use mathlib.Core.Bool.{true, _&&_}
+use mathlib.Core.Bool.{true, false, _&&_}
 use mathlib.Core.List.{List, [], _∷_}
 use lib.Dec.{eqb, ltb}
 use lib.ListN.{length, take, getD}
 use lib.Seq.{sets}
 use Rattle.words.specs.Rows.{part}
+use Rattle.rules.specs.Answers.{isRefusal}
 use Rattle.rules.specs.Pick.{pick}
 use Rattle.rules.specs.Sizes.{mostBoxes, mostLoads}
 use Rattle.rules.specs.declared.model.Answer.{Answer}
@@ -15,7 +16,6 @@ use Rattle.print.specs.Text.{Wrote}
 use Rattle.trace.specs.Feeding.{Feeding, plain, holding, byteNext, byteText, feedNext}
 use Rattle.trace.specs.Feeding.{feedText}
 use Rattle.trace.specs.Replay.{Told, told, toldText, toldNext}
-use Rattle.trace.specs.Stops.{accepted}
 use Rattle.feed.specs.State.{Course, toldSite, courseNext, courseText, feedingOf, formed}
 use Rattle.feed.specs.State.{Lent}
 use Rattle.feed.specs.declared.state.Feed.{Feed}
@@ -51,7 +51,7 @@ pub record Rowed (xs : List ℕ) : Type 0 where
 pub record Answers (t : Told) (xs ls xs' ls' : List ℕ) (a : Answer) : Type 0 where
   pub answer : told a (siteOf xs' ls') ≡ t
   pub holds : siteOf xs' ls' ≡ toldSite (siteOf xs ls) t
-  pub form : accepted a ≡ true → memoryForm xs' ls' ≡ true
+  pub form : isRefusal a ≡ false → memoryForm xs' ls' ≡ true
   pub site : length xs' ≡ length xs
   pub links : length ls' ≡ length ls
 
@@ -65,7 +65,7 @@ pub record Finishes (k : ℕ) (a : Answer) (xs before after : List ℕ) (at : �
         }
     pub wrote : (ls : List ℕ)
         → Wrote answerMost before after at (t .at) (toldText k (told a (siteOf xs ls)))
-    pub form : (ls : List ℕ) → (accepted a ≡ true → memoryForm xs ls ≡ true)
+    pub form : (ls : List ℕ) → (isRefusal a ≡ false → memoryForm xs ls ≡ true)
         → formed (t .feed .stage) xs ls ≡ true
 
 -- the line that has begun went on with p

@@ -2,11 +2,11 @@
 -- replay of the whole input.
 use Prim.Native.Nat.{ℕ}
 use mathlib.Core.Path.{_≡_}
-use mathlib.Core.Bool.{true}
+use mathlib.Core.Bool.{false}
 use mathlib.Core.List.{List, [], _++_}
 use lib.ListN.{take}
+use Rattle.rules.specs.Answers.{isRefusal}
 use Rattle.trace.specs.Replay.{replay}
-use Rattle.trace.specs.Stops.{accepted}
 use Rattle.feed.specs.State.{Begins}
 use Rattle.feed.specs.Entries.{PieceFed, EndSaid}
 use Rattle.feed.specs.declared.state.End.{End}
@@ -26,5 +26,5 @@ pub data Went : List ℕ → List ℕ → Feed → List ℕ → List ℕ → Typ
 -- input
 pub record Whole : Type 0 where
   pub replays : {input output : List ℕ} {f : Feed} {xs ls before after : List ℕ} {e : End}
-      → Went input output f xs ls → EndSaid f before after e → accepted (e .answer) ≡ true
+      → Went input output f xs ls → EndSaid f before after e → isRefusal (e .answer) ≡ false
       → output ++ take (e .at) after ≡ replay input

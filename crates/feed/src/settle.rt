@@ -1,30 +1,20 @@
 // The answer to a line is printed, and the run goes on or ends; a line goes on with more bytes.
 ghost use mathlib.Core.Path.{_≡_};
-ghost use mathlib.Core.Bool.{true};
+ghost use mathlib.Core.Bool.{false};
 ghost use Prim.Native.Nat.{_+_, _-_, _≤_};
 ghost use lib.ListN.{length};
 ghost use Rattle.words.specs.Rows.{part};
+ghost use Rattle.rules.specs.Answers.{isRefusal};
 ghost use Rattle.rules.specs.Numbers.{answerNumber};
 ghost use Rattle.trace.specs.Replay.{mostLines};
-ghost use Rattle.trace.specs.Stops.{accepted};
 ghost use Rattle.feed.specs.Says.{Rowed, Finishes, Keeps, answerMost};
 use crate::held::hold;
 use crate::state::Feed;
 use crate::state::Stage;
 use crate::state::Turn;
 use crate::tell::put_done;
+use rules::answers::is_refusal;
 use rules::model::Answer;
-
-fn accepts(a: Answer) -> bool
-    ensures { λ r. ⌜ r ≡ accepted a ⌝ }
-{
-    match a {
-        Answer::Done => true,
-        Answer::Taken => true,
-        Answer::Discarded(_) => true,
-        Answer::Refused(_) => false,
-    }
-}
 
 fn code(a: Answer) -> u64
     ensures { λ r. ⌜ r ≡ answerNumber a ⌝ }
@@ -50,25 +40,25 @@ pub(crate) fn finish(
     at: usize,
 ) -> Turn
     requires { ⌜ (at + answerMost ≤ length (now out))
-        × (accepted a ≡ true → Rowed (now site))
-        × (accepted a ≡ true → k ≤ mostLines) ⌝ }
+        × (isRefusal a ≡ false → Rowed (now site))
+        × (isRefusal a ≡ false → k ≤ mostLines) ⌝ }
     ensures { λ t.
         ⌜ Finishes k a (now (site .entry)) (now (out .entry)) (now (out .exit)) at t ⌝ }
 {
-    if accepts(a) {
-        let p = put_done(out, at, k, site);
+    if is_refusal(a) {
+        let p = print::put_refused(out, at, k, code(a));
         let g = Feed {
-            stage: Stage::Going,
-            k: next_number(k),
+            stage: Stage::Ended,
+            k,
             len: 0,
             line,
         };
         return Turn { feed: g, at: p };
     }
-    let p = print::put_refused(out, at, k, code(a));
+    let p = put_done(out, at, k, site);
     let g = Feed {
-        stage: Stage::Ended,
-        k,
+        stage: Stage::Going,
+        k: next_number(k),
         len: 0,
         line,
     };

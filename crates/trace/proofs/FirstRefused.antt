@@ -1,12 +1,13 @@
 -- The replay stops at the first line that the rules refuse, and at no other.
 use Prim.Native.Nat.{ℕ, _+_, _<_, _≤_}
 use mathlib.Core.Path.{_≡_, refl, ap, sym, _∙_, subst}
-use mathlib.Core.Bool.{true, false}
+use mathlib.Core.Bool.{false}
 use mathlib.Core.List.{List, [], _∷_, _++_, append-assoc, append-nil}
 use native.Mathlib.Omega.{arith}
 use lib.Dec.{leb}
 use lib.ListN.{length, length-append}
 use borrow.Author.Tests.{le-leb, lt-leb, leb-true, leb-false}
+use Rattle.rules.specs.Answers.{isRefusal}
 use Rattle.rules.specs.Pick.{pick, pick-true, pick-false}
 use Rattle.rules.specs.Numbers.{refusalNumber}
 use Rattle.rules.specs.Site.{Site}
@@ -21,7 +22,7 @@ use Rattle.trace.specs.Lines.{linesFrom, linesOf, texts}
 use Rattle.trace.specs.Replay.{Run, first, going, ended, Told, done, refused, told}
 use Rattle.trace.specs.Replay.{traceSizes, opened, played, judged, mostLines, lasts, toldText}
 use Rattle.trace.specs.Replay.{toldNext, lineText, lineNext, replay}
-use Rattle.trace.specs.Stops.{opens, plays, accepted, Takes, Refuses, Ran, Output}
+use Rattle.trace.specs.Stops.{opens, plays, Takes, Refuses, Ran, Output}
 use Rattle.trace.specs.Stops.{all-taken, stopped}
 
 -- what the replay makes of a line
@@ -32,11 +33,11 @@ toldOf ended l = refused Refusal.Line
 
 -- ---- what the relations say of it
 
-pub told-accepted : (a : Answer) (s : Site) → accepted a ≡ true → told a s ≡ done s
-told-accepted Answer.Done s e = refl
-told-accepted Answer.Taken s e = refl
-told-accepted (Answer.Discarded why) s e = refl
-told-accepted (Answer.Refused why) s e = absurd (both-no e refl)
+pub told-done : (a : Answer) (s : Site) → isRefusal a ≡ false → told a s ≡ done s
+told-done Answer.Done s e = refl
+told-done Answer.Taken s e = refl
+told-done (Answer.Discarded why) s e = refl
+told-done (Answer.Refused why) s e = absurd (both-no refl e)
 
 told-refused : (a : Answer) (s : Site) (why : Refusal) → a ≡ Answer.Refused why
     → told a s ≡ refused why
@@ -54,9 +55,9 @@ takes-told : {r : Run} {l : Line} {s : Site} → Takes r l s → toldOf r l ≡ 
 unfolding toldOf opened played
 takes-told (Takes.site e) = pick-true _ _ _ e
 takes-told (Takes.call {k} {s} {c} h e) =
-    in-time k s (Line.Call c) h ∙ told-accepted (step s c .answer) (step s c .next) e
+    in-time k s (Line.Call c) h ∙ told-done (step s c .answer) (step s c .next) e
 takes-told (Takes.holding {k} {s} {c} {i} {left} {right} h e) =
-    in-time k s (Line.Holds c i left right) h ∙ told-accepted (holds s c i left right) s e
+    in-time k s (Line.Holds c i left right) h ∙ told-done (holds s c i left right) s e
 
 not-opened : (l : Line) → opens l ≡ false → opened l ≡ refused Refusal.Line
 unfolding opened
@@ -98,16 +99,16 @@ data Judged (r : Run) (l : Line) : Told → Type 0 where
 
 by-call : (k : ℕ) (s : Site) (c : Call) → k ≤ mostLines → (a : Answer) → step s c .answer ≡ a
     → Judged (going k s) (Line.Call c) (told a (step s c .next))
-by-call k s c h Answer.Done e = taken (Takes.call h (ap accepted e))
-by-call k s c h Answer.Taken e = taken (Takes.call h (ap accepted e))
-by-call k s c h (Answer.Discarded why) e = taken (Takes.call h (ap accepted e))
+by-call k s c h Answer.Done e = taken (Takes.call h (ap isRefusal e))
+by-call k s c h Answer.Taken e = taken (Takes.call h (ap isRefusal e))
+by-call k s c h (Answer.Discarded why) e = taken (Takes.call h (ap isRefusal e))
 by-call k s c h (Answer.Refused why) e = refusal (Refuses.call h e)
 
 by-holds : (k : ℕ) (s : Site) (c i left right : ℕ) → k ≤ mostLines → (a : Answer)
     → holds s c i left right ≡ a → Judged (going k s) (Line.Holds c i left right) (told a s)
-by-holds k s c i left right h Answer.Done e = taken (Takes.holding h (ap accepted e))
-by-holds k s c i left right h Answer.Taken e = taken (Takes.holding h (ap accepted e))
-by-holds k s c i left right h (Answer.Discarded why) e = taken (Takes.holding h (ap accepted e))
+by-holds k s c i left right h Answer.Done e = taken (Takes.holding h (ap isRefusal e))
+by-holds k s c i left right h Answer.Taken e = taken (Takes.holding h (ap isRefusal e))
+by-holds k s c i left right h (Answer.Discarded why) e = taken (Takes.holding h (ap isRefusal e))
 by-holds k s c i left right h (Answer.Refused why) e = refusal (Refuses.holding h e)
 
 by-line : (k : ℕ) (s : Site) (l : Line) → k ≤ mostLines → Judged (going k s) l (played s l)

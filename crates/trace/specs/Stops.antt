@@ -5,6 +5,7 @@ use mathlib.Core.Path.{_≡_}
 use mathlib.Core.Bool.{Bool, true, false}
 use mathlib.Core.List.{List, [], _∷_, _++_}
 use lib.ListN.{length}
+use Rattle.rules.specs.Answers.{isRefusal}
 use Rattle.rules.specs.Numbers.{refusalNumber}
 use Rattle.rules.specs.Site.{Site, fresh}
 use Rattle.rules.specs.Step.{step, holds}
@@ -28,20 +29,13 @@ plays (Line.Call c) = true
 plays (Line.Holds c k left right) = true
 plays Line.Unreadable = false
 
--- done, taken or discarded
-abbrev pub accepted : Answer → Bool
-accepted Answer.Done = true
-accepted Answer.Taken = true
-accepted (Answer.Discarded why) = true
-accepted (Answer.Refused why) = false
-
 -- the rules take a line, and leave this site
 pub data Takes : Run → Line → Site → Type 0 where
   site : {n J L : ℕ} → traceSizes n J L ≡ true → Takes first (Line.Site n J L) (fresh n J L)
-  call : {k : ℕ} {s : Site} {c : Call} → k ≤ mostLines → accepted (step s c .answer) ≡ true
+  call : {k : ℕ} {s : Site} {c : Call} → k ≤ mostLines → isRefusal (step s c .answer) ≡ false
       → Takes (going k s) (Line.Call c) (step s c .next)
   holding : {k : ℕ} {s : Site} {c i left right : ℕ} → k ≤ mostLines
-      → accepted (holds s c i left right) ≡ true
+      → isRefusal (holds s c i left right) ≡ false
       → Takes (going k s) (Line.Holds c i left right) s
 
 -- the rules refuse a line
