@@ -13,8 +13,7 @@ use Rattle.rules.specs.declared.model.Refusal.{Refusal}
 use Rattle.memory.specs.Memory.{siteOf, memoryForm}
 use Rattle.rules.specs.Answers.{isRefusal}
 use Rattle.site.specs.Entries.{After}
-use Rattle.image.specs.Image.{imageOf}
-use Rattle.image.proofs.OneImage.{Bounded}
+use Rattle.image.specs.Image.{imageOf, Bounded}
 use Rattle.reader.specs.Reader.{roomFor}
 use Rattle.lines.specs.declared.Line.{Line}
 use Rattle.answer.specs.declared.tell.Told.{Told}

@@ -9,8 +9,8 @@ use Rattle.laws.proofs.Logic.{passed}
 use Rattle.row.specs.Row.{boxOf}
 use Rattle.link.specs.Link.{linkOf}
 use Rattle.memory.specs.Memory.{rowAt, linkAt, siteOf, memoryForm}
-use Rattle.image.specs.Image.{imageOf}
-use Rattle.image.proofs.OneImage.{Bounded, one-site}
+use Rattle.image.specs.Image.{imageOf, Bounded}
+use Rattle.image.proofs.OneImage.{one-site}
 
 pub memory-bounded : (xs ls : List ℕ) → Bounded (siteOf xs ls)
 unfolding siteOf

@@ -2,18 +2,17 @@
 -- shows nothing else of a site.
 use mathlib.Core.Path.{_≡_, refl, sym, ap, _∙_, subst}
 use mathlib.Core.Bool.{Bool, true, false}
-use Prim.Native.Nat.{ℕ, _+_, _-_, _^_, _≤_, _<_}
+use Prim.Native.Nat.{ℕ, _+_, _-_, _^_, _<_}
 use native.Mathlib.Omega.{arith}
-use mathlib.Core.List.{List, [], _∷_, _++_, append-nil}
+use mathlib.Core.List.{[], _∷_, _++_, append-nil}
 use lib.ListN.{length, getD}
 use lib.Seq.{ext-getD}
-use Rattle.rules.specs.Box.{Box, Letter}
 use Rattle.rules.specs.Site.{Site, freshBox, isBox, isLink}
 use Rattle.rules.specs.Form.{form}
 use Rattle.laws.proofs.Logic.{In}
 use Rattle.laws.proofs.FormLaws.{is-box, is-link, sizes-says}
 use Rattle.memory.specs.Memory.{linkIndex}
-use Rattle.image.specs.Image.{boxesOf, bySender, linksOf, tableOf, imageOf}
+use Rattle.image.specs.Image.{boxesOf, bySender, linksOf, tableOf, imageOf, Bounded}
 use Rattle.image.specs.Parts.{Listed, listed, bodiesIn, listedBytes, GoodListed}
 use Rattle.image.proofs.OrderLaws.{length-boxes, boxes-at, pairs-same, links-at}
 use Rattle.image.proofs.ListedLaws.{listed-good, listed-code}
@@ -29,11 +28,6 @@ pub record Agree (s t : Site) : Type 0 where
   pub present : s .present ≡ t .present
   pub box : (b : ℕ) → In b (s .n) → s .box b ≡ t .box b
   pub link : (a b : ℕ) → In a (s .n) → In b (s .n) → (a ≡ b → ⊥) → s .link a b ≡ t .link a b
-
--- Outside 1 to n stand a fresh box and no mail, as in every site that words hold.
-pub record Bounded (s : Site) : Type 0 where
-  pub box : (b : ℕ) → isBox (s .n) b ≡ false → s .box b ≡ freshBox
-  pub link : (a b : ℕ) → isLink (s .n) a b ≡ false → s .link a b ≡ []
 
 -- ---- what is listed
 

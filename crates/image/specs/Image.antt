@@ -1,11 +1,13 @@
 -- "The site image": the bytes of a site, in the paper's order and words. There is no parser: bytes
 -- are by form where they are the image of a site by form.
 use Prim.Native.Nat.{ℕ, zero, suc, _+_, _-_, _*_}
+use mathlib.Core.Path.{_≡_}
+use mathlib.Core.Bool.{false}
 use mathlib.Core.List.{List, [], _∷_, _++_, map}
 use lib.ListN.{length, take}
 use Rattle.rules.specs.Numbers.{stateNumber, phaseNumber, kindNumber}
 use Rattle.rules.specs.Box.{Box, Letter}
-use Rattle.rules.specs.Site.{Site}
+use Rattle.rules.specs.Site.{Site, freshBox, isBox, isLink}
 use Rattle.row.specs.Row.{flagNumber}
 use Rattle.cells.specs.Cells.{chain, cells}
 
@@ -109,3 +111,12 @@ tableOf bs = cells 4 (length bs ∷ contents (4 + 8 * length bs) bs)
 
 unfoldable pub imageOf : Site → List ℕ
 imageOf s = tableOf (bodies s) ++ chain (λ b. b) (bodies s)
+
+-- ---- what an image does not show
+
+-- Outside 1 to n stand a fresh box and no mail, as in every site that words hold. The model has a
+-- box for every number and a link for every pair, the image those of 1 to n alone: only with this
+-- is an image one site's.
+pub record Bounded (s : Site) : Type 0 where
+  pub box : (b : ℕ) → isBox (s .n) b ≡ false → s .box b ≡ freshBox
+  pub link : (a b : ℕ) → isLink (s .n) a b ≡ false → s .link a b ≡ []
