@@ -10,8 +10,8 @@ use Rattle.rules.specs.Site.{isLink}
 use Rattle.rules.specs.declared.model.Setting.{Setting}
 use Rattle.laws.proofs.Logic.{Or, left, right, same?}
 use Rattle.link.specs.Link.{linkOf, linkFits}
-use Rattle.memory.specs.Memory.{linksWords, linkIndex}
-use Rattle.memory.specs.After.{linkRow, pastLinks, LinkSet, LinksPut}
+use Rattle.memory.specs.Memory.{linksWords, pastLinks, linkIndex}
+use Rattle.memory.specs.After.{linkRow, LinkSet, LinksPut}
 use Rattle.memory.proofs.SizeLaws.{index-below}
 
 -- the first k links are empty
@@ -19,7 +19,7 @@ pub record Cleared (s : Setting) (ls₀ : List ℕ) (k : ℕ) (ls : List ℕ) : 
   pub few : k ≤ s .n * (s .n - 1)
   pub letters : (i : ℕ) → i < k → linkOf (s .j) (s .l) (linkRow s ls i) ≡ []
   pub fits : (i : ℕ) → i < k → linkFits (s .j) (s .l) (linkRow s ls i) ≡ true
-  pub past : pastLinks s ls ≡ pastLinks s ls₀
+  pub past : pastLinks (s .n) (s .j) (s .l) ls ≡ pastLinks (s .n) (s .j) (s .l) ls₀
   pub words : length ls ≡ length ls₀
 
 module _ (s : Setting) (ls₀ : List ℕ) where

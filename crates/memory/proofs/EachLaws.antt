@@ -12,8 +12,8 @@ use Rattle.rules.specs.declared.model.Setting.{Setting}
 use Rattle.laws.proofs.Logic.{Or, left, right, In, same?}
 use Rattle.laws.proofs.FormLaws.{is-box, box-is}
 use Rattle.row.specs.Row.{boxOf, rowFits}
-use Rattle.memory.specs.Memory.{siteWords, rowAt}
-use Rattle.memory.specs.After.{pastRows, RowSet, RowsPut}
+use Rattle.memory.specs.Memory.{siteWords, pastSite, rowAt}
+use Rattle.memory.specs.After.{RowSet, RowsPut}
 
 -- the rows up to b hold what f says, the later ones are as they were
 pub record UpTo (s : Setting) (f : ℕ → Box) (xs₀ : List ℕ) (b : ℕ) (xs : List ℕ) : Type 0 where
@@ -22,7 +22,7 @@ pub record UpTo (s : Setting) (f : ℕ → Box) (xs₀ : List ℕ) (b : ℕ) (xs
   pub fits : (c : ℕ) → In c b → rowFits (s .j) (rowAt (s .j) xs c) ≡ true
   pub later : (c : ℕ) → isBox (s .n) c ≡ true → b < c → rowAt (s .j) xs c ≡ rowAt (s .j) xs₀ c
   pub general : take 5 xs ≡ take 5 xs₀
-  pub past : pastRows s xs ≡ pastRows s xs₀
+  pub past : pastSite (s .n) (s .j) xs ≡ pastSite (s .n) (s .j) xs₀
   pub words : length xs ≡ length xs₀
 
 module _ (s : Setting) (f : ℕ → Box) (xs₀ : List ℕ) where

@@ -4,7 +4,7 @@ use mathlib.Core.Path.{_≡_}
 use mathlib.Core.Bool.{Bool, true, false, not, _&&_, _||_, cond}
 use mathlib.Core.List.{List, [], _∷_, _++_, tail}
 use lib.Dec.{eqb, ltb}
-use lib.ListN.{length, take, drop, getD}
+use lib.ListN.{length, take, getD}
 use Rattle.words.specs.Rows.{part}
 use Rattle.rules.specs.Sizes.{sizesForm}
 use Rattle.rules.specs.Every.{every}
@@ -19,7 +19,8 @@ use Rattle.rules.specs.declared.model.Turn.{Turn}
 use Rattle.place.specs.Place.{letterAt, placeForm}
 use Rattle.row.specs.Row.{boxOf, rowFits}
 use Rattle.link.specs.Link.{placeWidth, linkWidth, linkOf, linkFits}
-use Rattle.memory.specs.Memory.{siteWords, linksWords, rowAt, linkAt, boxIn, linkIn}
+use Rattle.memory.specs.Memory.{siteWords, linksWords, pastSite, pastLinks, rowAt, linkAt}
+use Rattle.memory.specs.Memory.{boxIn, linkIn}
 
 -- what box c knows of the site that the words hold
 abbrev pub settingAt : List ℕ → ℕ → Setting
@@ -71,13 +72,6 @@ pub record BoxLent (s : Setting) (xs : List ℕ) : Type 0 where
 abbrev pub linkRow : Setting → List ℕ → ℕ → List ℕ
 linkRow s ls k = part ls (k * linkWidth (s .j) (s .l)) (linkWidth (s .j) (s .l))
 
--- the words past those of the site
-abbrev pub pastRows : Setting → List ℕ → List ℕ
-pastRows s xs = drop (siteWords (s .n) (s .j)) xs
-
-abbrev pub pastLinks : Setting → List ℕ → List ℕ
-pastLinks s ls = drop (linksWords (s .n) (s .j) (s .l)) ls
-
 -- the row of box b holds x now, all else is as it was
 pub record RowSet (s : Setting) (b : ℕ) (x : Box) (xs xs' : List ℕ) : Type 0 where
   pub box : boxOf (s .n) (rowAt (s .j) xs' b) ≡ x
@@ -85,7 +79,7 @@ pub record RowSet (s : Setting) (b : ℕ) (x : Box) (xs xs' : List ℕ) : Type 0
   pub others : (c : ℕ) → isBox (s .n) c ≡ true → (c ≡ b → ⊥)
       → rowAt (s .j) xs' c ≡ rowAt (s .j) xs c
   pub general : take 5 xs' ≡ take 5 xs
-  pub past : pastRows s xs' ≡ pastRows s xs
+  pub past : pastSite (s .n) (s .j) xs' ≡ pastSite (s .n) (s .j) xs
   pub words : length xs' ≡ length xs
 
 -- link number k holds the letters ys now, all else is as it was
@@ -93,21 +87,21 @@ pub record LinkSet (s : Setting) (k : ℕ) (ys : List Letter) (ls ls' : List ℕ
   pub letters : linkOf (s .j) (s .l) (linkRow s ls' k) ≡ ys
   pub fits : linkFits (s .j) (s .l) (linkRow s ls' k) ≡ true
   pub others : (i : ℕ) → i < s .n * (s .n - 1) → (i ≡ k → ⊥) → linkRow s ls' i ≡ linkRow s ls i
-  pub past : pastLinks s ls' ≡ pastLinks s ls
+  pub past : pastLinks (s .n) (s .j) (s .l) ls' ≡ pastLinks (s .n) (s .j) (s .l) ls
   pub words : length ls' ≡ length ls
 
 -- the boxes are f now; the general words and those past the rows are as they were
 pub record RowsPut (s : Setting) (f : ℕ → Box) (xs xs' : List ℕ) : Type 0 where
   pub boxes : boxesOf s xs' ≡ f
   pub general : take 5 xs' ≡ take 5 xs
-  pub past : pastRows s xs' ≡ pastRows s xs
+  pub past : pastSite (s .n) (s .j) xs' ≡ pastSite (s .n) (s .j) xs
   pub words : length xs' ≡ length xs
   pub lent : RowsLent s xs'
 
 -- the links are f now; the words past them are as they were
 pub record LinksPut (s : Setting) (f : ℕ → ℕ → List Letter) (ls ls' : List ℕ) : Type 0 where
   pub links : linksOf s ls' ≡ f
-  pub past : pastLinks s ls' ≡ pastLinks s ls
+  pub past : pastLinks (s .n) (s .j) (s .l) ls' ≡ pastLinks (s .n) (s .j) (s .l) ls
   pub words : length ls' ≡ length ls
   pub lent : LinksLent s ls'
 

@@ -5,7 +5,7 @@ use Prim.Native.Nat.{ℕ, _+_, _-_, _*_}
 use mathlib.Core.Bool.{Bool, _||_, cond}
 use mathlib.Core.List.{List, [], _∷_}
 use lib.Dec.{leb, ltb, eqb}
-use lib.ListN.{length, getD}
+use lib.ListN.{length, drop, getD}
 use Rattle.words.specs.Rows.{part}
 use Rattle.rules.specs.Every.{all, every}
 use Rattle.rules.specs.Sizes.{sizesForm}
@@ -25,6 +25,13 @@ siteWords n J = 5 + n * rowWidth J
 
 abbrev pub linksWords : ℕ → ℕ → ℕ → ℕ
 linksWords n J L = n * (n - 1) * linkWidth J L
+
+-- the words past those of a site of these sizes, in each list: room that is the caller's
+abbrev pub pastSite : ℕ → ℕ → List ℕ → List ℕ
+pastSite n J xs = drop (siteWords n J) xs
+
+abbrev pub pastLinks : ℕ → ℕ → ℕ → List ℕ → List ℕ
+pastLinks n J L ls = drop (linksWords n J L) ls
 
 -- where box b's row begins, and the row
 abbrev pub rowStart : ℕ → ℕ → ℕ

@@ -10,7 +10,7 @@ use lib.ListN.{length, drop, getD, length-append}
 use lib.Seq.{drop-at, drop-length}
 use Rattle.rules.specs.Site.{Site}
 use Rattle.rules.specs.declared.model.Setting.{Setting}
-use Rattle.memory.specs.Memory.{siteWords, linksWords, siteOf}
+use Rattle.memory.specs.Memory.{siteWords, linksWords, pastSite, pastLinks, siteOf}
 use Rattle.memory.specs.After.{settingAt, GeneralLent}
 use Rattle.memory.specs.Parts.{wordsForm}
 use Rattle.memory.proofs.FormLaws.{words-say}
@@ -131,10 +131,10 @@ module _ (src : List ℕ) (at : ℕ) (f : ImageFound src at) where
         image = listed-image (siteOf ys ks) (f .site) (h .site) ∙ f .image;
         site-words = h .site-words;
         links-words = h .links-words;
-        site-rest = subst (λ (t : Listed).
-            drop (siteWords (nIn t) (JIn t)) ys ≡ drop (siteWords (nIn t) (JIn t)) xs)
-            (sym (h .site)) (h .site-rest);
-        links-rest = subst (λ (t : Listed).
-            drop (linksWords (nIn t) (JIn t) (LIn t)) ks
-            ≡ drop (linksWords (nIn t) (JIn t) (LIn t)) ls) (sym (h .site)) (h .links-rest);
+        past-site = subst (λ (t : Listed).
+            pastSite (nIn t) (JIn t) ys ≡ pastSite (nIn t) (JIn t) xs) (sym (h .site))
+            (h .past-site);
+        past-links = subst (λ (t : Listed).
+            pastLinks (nIn t) (JIn t) (LIn t) ks ≡ pastLinks (nIn t) (JIn t) (LIn t) ls)
+            (sym (h .site)) (h .past-links);
       }

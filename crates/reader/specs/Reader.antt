@@ -6,12 +6,12 @@ use mathlib.Core.Bool.{Bool, true, false, _&&_}
 use mathlib.Core.List.{List}
 use Prim.Native.Nat.{ℕ}
 use lib.Dec.{leb}
-use lib.ListN.{length, drop, getD}
+use lib.ListN.{length}
 use Rattle.rules.specs.Site.{Site}
 use Rattle.rules.specs.Form.{form}
 use Rattle.rules.specs.declared.model.Answer.{Answer}
 use Rattle.rules.specs.declared.model.Refusal.{Refusal}
-use Rattle.memory.specs.Memory.{siteWords, linksWords, siteOf, memoryForm}
+use Rattle.memory.specs.Memory.{siteWords, linksWords, pastSite, pastLinks, siteOf, memoryForm}
 use Rattle.image.specs.Image.{imageOf}
 
 -- the words xs and ls are enough for a site of these sizes
@@ -26,12 +26,12 @@ pub record Holds (bytes xs ls ys ks : List ℕ) : Type 0 where
   pub image : imageOf (siteOf ys ks) ≡ bytes
   pub site-words : length ys ≡ length xs
   pub links-words : length ks ≡ length ls
-  pub site-rest :
-      drop (siteWords (getD ys 0 0) (getD ys 1 0)) ys
-      ≡ drop (siteWords (getD ys 0 0) (getD ys 1 0)) xs
-  pub links-rest :
-      drop (linksWords (getD ys 0 0) (getD ys 1 0) (getD ys 2 0)) ks
-      ≡ drop (linksWords (getD ys 0 0) (getD ys 1 0) (getD ys 2 0)) ls
+  pub past-site :
+      pastSite (siteOf ys ks .n) (siteOf ys ks .J) ys
+      ≡ pastSite (siteOf ys ks .n) (siteOf ys ks .J) xs
+  pub past-links :
+      pastLinks (siteOf ys ks .n) (siteOf ys ks .J) (siteOf ys ks .L) ks
+      ≡ pastLinks (siteOf ys ks .n) (siteOf ys ks .J) (siteOf ys ks .L) ls
 
 pub data ReadIs (bytes xs ls : List ℕ) : Answer → List ℕ → List ℕ → Type 0 where
   not-by-form : ((s : Site) → form s ≡ true → imageOf s ≡ bytes → ⊥)

@@ -1,33 +1,25 @@
 -- From what is left in the words to the outcome of a call.
-use Prim.Native.Nat.{ℕ, suc, _+_, _<_}
+use Prim.Native.Nat.{ℕ}
 use mathlib.Core.Path.{_≡_, refl, sym, ap, _∙_, subst}
-use mathlib.Core.Bool.{Bool, true, false, not, _&&_, cond}
-use mathlib.Core.List.{List, [], _∷_, tail}
+use mathlib.Core.Bool.{Bool, true, false}
+use mathlib.Core.List.{List, [], _∷_}
 use native.Mathlib.Omega.{arith}
-use lib.ListN.{length, take, getD}
-use lib.Seq.{getD-take}
-use Rattle.rules.specs.Sizes.{sizesForm}
-use Rattle.rules.specs.Box.{Box, Letter, Event, own, mail, turnOf, turned}
-use Rattle.rules.specs.Site.{Site, Outcome, isBox, isLink, upd, posted, room, played, popped}
-use Rattle.rules.specs.Site.{setting}
-use Rattle.rules.specs.Form.{form}
+use lib.ListN.{take}
+use Rattle.rules.specs.Box.{Box, Letter}
+use Rattle.rules.specs.Site.{Site, Outcome, room, played}
 use Rattle.rules.specs.Needs.{Need, need, ruled}
-use Rattle.rules.specs.Step.{refused, byAnswer, byTurn, acting, delivered, step}
-use Rattle.rules.specs.declared.model.Act.{Act}
+use Rattle.rules.specs.Step.{refused, byAnswer, byTurn}
 use Rattle.rules.specs.declared.model.Answer.{Answer}
 use Rattle.rules.specs.declared.model.Cause.{Cause}
-use Rattle.rules.specs.declared.model.Call.{Call}
-use Rattle.rules.specs.declared.model.Out.{Out}
 use Rattle.rules.specs.declared.model.Refusal.{Refusal}
-use Rattle.rules.specs.declared.model.Setting.{Setting}
 use Rattle.rules.specs.declared.model.Turn.{Turn}
 use Rattle.laws.proofs.Logic.{true≠false, both-no}
 use Rattle.laws.proofs.StepLaws.{changed}
-use Rattle.memory.specs.Memory.{boxIn, linkIn, siteOf, readable, memoryForm}
-use Rattle.memory.specs.After.{settingAt, boxesOf, linksOf, RowsLent, LinksLent, RowsPut, LinksPut}
+use Rattle.memory.specs.Memory.{pastSite, pastLinks, siteOf, readable}
+use Rattle.memory.specs.After.{settingAt, boxesOf, linksOf, RowsPut, LinksPut}
 use Rattle.memory.proofs.LentLaws.{general-same, setting-same, readable-rows, readable-made}
 use Rattle.rules.specs.Answers.{isRefusal, isAccepted}
-use Rattle.site.specs.Entries.{pastSite, pastLinks, After}
+use Rattle.site.specs.Entries.{After}
 
 -- ---- needs
 
@@ -155,10 +147,12 @@ changed-after xs ls xs' ls' c f g o a e no-refusal r l = record {
   site = site-changed xs ls xs' ls' c f g (r .general) (r .boxes) (l .links) ∙ ap
       (λ (p : Outcome). p .next) (sym e);
   kept = λ t. absurd (both-no t no-refusal);
-  past-site = subst (λ (p : Outcome). pastSite (p .next) xs' ≡ pastSite (p .next) xs) (sym e)
+  past-site = subst (λ (p : Outcome).
+      pastSite (p .next .n) (p .next .J) xs' ≡ pastSite (p .next .n) (p .next .J) xs) (sym e)
       (r .past);
-  past-links = subst (λ (p : Outcome). pastLinks (p .next) ls' ≡ pastLinks (p .next) ls) (sym e)
-      (l .past);
+  past-links = subst (λ (p : Outcome).
+      pastLinks (p .next .n) (p .next .J) (p .next .L) ls'
+      ≡ pastLinks (p .next .n) (p .next .J) (p .next .L) ls) (sym e) (l .past);
   site-words = r .words;
   links-words = l .words;
   readable = λ h.

@@ -1,13 +1,11 @@
 -- The site's own calls: elections, stops, returns, timeouts and lost mail.
 use Prim.Native.Nat.{ℕ, _+_, _*_, _≤_}
 use mathlib.Core.Path.{_≡_, refl, sym, ap, _∙_, subst}
-use mathlib.Core.Bool.{Bool, true, false, _&&_, cond}
-use mathlib.Core.List.{List, [], _∷_, tail}
+use mathlib.Core.Bool.{true, _&&_, cond}
+use mathlib.Core.List.{List, [], tail}
 use native.Mathlib.Omega.{arith}
 use lib.Dec.{eqb}
-use lib.ListN.{length, set, take, getD, length-set}
-use Rattle.rules.specs.Sets.{joined, without}
-use Rattle.rules.specs.Box.{Letter}
+use lib.ListN.{length, set}
 use Rattle.rules.specs.Site.{Site, Outcome, isLink}
 use Rattle.rules.specs.Needs.{Need, ruled}
 use Rattle.rules.specs.Step.{refused, did, elect, presented, risen, step}
@@ -17,14 +15,14 @@ use Rattle.rules.specs.declared.model.Refusal.{Refusal}
 use Rattle.rules.specs.declared.model.Setting.{Setting}
 use Rattle.rules.specs.declared.model.Verdict.{Verdict}
 use Rattle.laws.proofs.Logic.{true≠false}
-use Rattle.laws.proofs.StepLaws.{changed}
-use Rattle.memory.specs.Memory.{rowWidth, siteWords, siteOf, readable, memoryForm}
+use Rattle.memory.specs.Memory.{rowWidth, pastSite, pastLinks, siteOf, readable}
+use Rattle.memory.specs.Memory.{memoryForm}
 use Rattle.memory.specs.After.{settingAt, linksOf, RowsPut, LinksPut}
 use Rattle.memory.proofs.LentLaws.{form-readable, setting-same, readable-rows, readable-made}
 use Rattle.site.specs.General.{generalPut, withGeneral}
 use Rattle.site.proofs.GeneralLaws.{general-length, general-past, general-put}
 use Rattle.site.proofs.GeneralLaws.{general-readable}
-use Rattle.site.specs.Entries.{pastSite, pastLinks, After}
+use Rattle.site.specs.Entries.{After}
 use Rattle.site.specs.Verdicts.{verdictOf}
 use Rattle.rules.specs.Step.{loseNeeds}
 use Rattle.site.proofs.AfterLaws.{refused-after, changed-after, rows-same, site-changed}
@@ -79,10 +77,12 @@ module _ (xs ls : List ℕ) (f : memoryForm xs ls ≡ true) where
         ∙ ap (λ (r : Outcome). r .next) (sym e);
     kept = λ t. absurd (true≠false (sym t));
     past-site = general-past xs' _ _ (o .next .n * rowWidth (o .next .J))
-        ∙ subst (λ (p : Outcome). pastSite (p .next) xs' ≡ pastSite (p .next) xs) (sym e)
+        ∙ subst (λ (p : Outcome).
+        pastSite (p .next .n) (p .next .J) xs' ≡ pastSite (p .next .n) (p .next .J) xs) (sym e)
         (rows .past);
-    past-links = subst (λ (p : Outcome). pastLinks (p .next) ls' ≡ pastLinks (p .next) ls) (sym e)
-        (links .past);
+    past-links = subst (λ (p : Outcome).
+        pastLinks (p .next .n) (p .next .J) (p .next .L) ls'
+        ≡ pastLinks (p .next .n) (p .next .J) (p .next .L) ls) (sym e) (links .past);
     site-words = general-length xs' _ _ ∙ rows .words;
     links-words = links .words;
     readable = λ h.

@@ -1,17 +1,14 @@
 -- A fresh site in the words.
-use Prim.Native.Nat.{ℕ, suc, _+_, _*_, _<_, _≤_}
-use mathlib.Core.Path.{_≡_, refl, sym, ap, _∙_, subst}
+use Prim.Native.Nat.{ℕ, suc, _+_, _*_, _≤_}
+use mathlib.Core.Path.{_≡_, sym, ap, _∙_, subst}
 use mathlib.Core.Bool.{Bool, true, false, _&&_}
-use mathlib.Core.List.{List, [], _∷_}
+use mathlib.Core.List.{List, []}
 use native.Mathlib.Omega.{arith}
 use lib.Dec.{leb}
-use lib.ListN.{length, take, drop, getD}
-use lib.Seq.{getD-take}
+use lib.ListN.{length, getD}
 use Rattle.rules.specs.Sizes.{mostBoxes, sizesForm}
 use Rattle.rules.specs.Sets.{fullSet}
-use Rattle.rules.specs.Box.{Box, Letter}
 use Rattle.rules.specs.Site.{Outcome, fresh, freshBox}
-use Rattle.rules.specs.Step.{did}
 use Rattle.rules.specs.declared.model.Answer.{Answer}
 use Rattle.rules.specs.declared.model.Refusal.{Refusal}
 use Rattle.rules.specs.declared.model.Setting.{Setting}
@@ -21,12 +18,12 @@ use Rattle.laws.proofs.FormKept.{fresh-form}
 use Rattle.laws.proofs.FormLaws.{sizes-says}
 use Rattle.laws.proofs.SetLaws.{set-small, set-up, set-full}
 use Rattle.memory.specs.Memory.{rowWidth, siteWords, linksWords, boxIn, linkIn, siteOf, readable}
-use Rattle.memory.specs.Memory.{memoryForm}
-use Rattle.memory.specs.After.{settingAt, boxesOf, linksOf, RowsLent, LinksLent, RowsPut, LinksPut}
+use Rattle.memory.specs.Memory.{pastSite, pastLinks, memoryForm}
+use Rattle.memory.specs.After.{settingAt, RowsPut, LinksPut}
 use Rattle.memory.proofs.FormLaws.{words-say}
 use Rattle.memory.proofs.LentLaws.{setting-same, readable-made, form-both}
 use Rattle.site.specs.General.{settingPut}
-use Rattle.site.specs.Entries.{pastSite, pastLinks, After, FreshMade, freshOn}
+use Rattle.site.specs.Entries.{After, FreshMade, freshOn}
 use Rattle.site.proofs.GeneralLaws.{setting-length, setting-past, setting-put}
 use Rattle.site.proofs.AfterLaws.{no-needs, need-met, need-not, refused-after}
 
@@ -96,7 +93,7 @@ module _ (xs ls : List ℕ) (n J L : ℕ) where
           (ap form fresh-site ∙ fresh-form n J L h)
 
       pub fresh-done : sizesForm n J L ≡ true → enough ≡ true → length xs0 ≡ length xs
-          → drop (siteWords n J) xs0 ≡ drop (siteWords n J) xs
+          → pastSite n J xs0 ≡ pastSite n J xs
           → After (freshOn xs ls n J L) xs ls xs' ls' Answer.Done
       unfolding freshOn fresh
       fresh-done h e w past =
@@ -105,10 +102,12 @@ module _ (xs ls : List ℕ) (n J L : ℕ) where
             answer = ap (λ (r : Outcome). r .answer) (sym is);
             site = fresh-site ∙ ap (λ (r : Outcome). r .next) (sym is);
             kept = λ t. absurd (true≠false (sym t));
-            past-site = subst (λ (p : Outcome). pastSite (p .next) xs' ≡ pastSite (p .next) xs)
+            past-site = subst (λ (p : Outcome).
+                pastSite (p .next .n) (p .next .J) xs' ≡ pastSite (p .next .n) (p .next .J) xs)
                 (sym is) (rows .past ∙ past);
-            past-links = subst (λ (p : Outcome). pastLinks (p .next) ls' ≡ pastLinks (p .next) ls)
-                (sym is) (links .past);
+            past-links = subst (λ (p : Outcome).
+                pastLinks (p .next .n) (p .next .J) (p .next .L) ls'
+                ≡ pastLinks (p .next .n) (p .next .J) (p .next .L) ls) (sym is) (links .past);
             site-words = rows .words ∙ w;
             links-words = links .words;
             readable = λ r. readable-made xs' ls' 0 (rw known (rows .lent))
@@ -148,6 +147,6 @@ module _ (xs ls : List ℕ) (n J L : ℕ) where
       record {
         after = fresh-done xs0 xs' ls' known rows' links' h g
             (ap length put ∙ setting-length (knowing w) xs)
-            (ap (drop (siteWords n J)) put ∙ setting-past (knowing w) xs (n * rowWidth J));
+            (ap (pastSite n J) put ∙ setting-past (knowing w) xs (n * rowWidth J));
         form = λ t. by-form xs0 xs' ls' known rows' links' h;
       }

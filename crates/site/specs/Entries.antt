@@ -4,31 +4,27 @@ use mathlib.Core.Path.{_≡_}
 use mathlib.Core.Bool.{true, false, _&&_, cond}
 use mathlib.Core.List.{List, [], _∷_}
 use lib.Dec.{leb}
-use lib.ListN.{length, drop}
+use lib.ListN.{length}
 use Rattle.rules.specs.Sizes.{sizesForm}
 use Rattle.rules.specs.Answers.{isRefusal}
-use Rattle.rules.specs.Site.{Site, Outcome, fresh}
+use Rattle.rules.specs.Site.{Outcome, fresh}
 use Rattle.rules.specs.Needs.{need, ruled}
 use Rattle.rules.specs.Step.{refused, did, step, holds}
 use Rattle.rules.specs.declared.model.Answer.{Answer}
 use Rattle.rules.specs.declared.model.Call.{Call}
 use Rattle.rules.specs.declared.model.Refusal.{Refusal}
-use Rattle.memory.specs.Memory.{siteWords, linksWords, siteOf, readable, memoryForm}
-
--- the words past those of the site
-abbrev pub pastSite : Site → List ℕ → List ℕ
-pastSite s xs = drop (siteWords (s .n) (s .J)) xs
-
-abbrev pub pastLinks : Site → List ℕ → List ℕ
-pastLinks s ls = drop (linksWords (s .n) (s .J) (s .L)) ls
+use Rattle.memory.specs.Memory.{siteWords, linksWords, pastSite, pastLinks, siteOf, readable}
+use Rattle.memory.specs.Memory.{memoryForm}
 
 -- the outcome o of a call on the words xs and ls: they have become xs' and ls', and a was answered
 pub record After (o : Outcome) (xs ls xs' ls' : List ℕ) (a : Answer) : Type 0 where
   pub answer : a ≡ o .answer
   pub site : siteOf xs' ls' ≡ o .next
   pub kept : isRefusal a ≡ true → (xs' ≡ xs) × (ls' ≡ ls)
-  pub past-site : pastSite (o .next) xs' ≡ pastSite (o .next) xs
-  pub past-links : pastLinks (o .next) ls' ≡ pastLinks (o .next) ls
+  pub past-site : pastSite (o .next .n) (o .next .J) xs' ≡ pastSite (o .next .n) (o .next .J) xs
+  pub past-links :
+      pastLinks (o .next .n) (o .next .J) (o .next .L) ls'
+      ≡ pastLinks (o .next .n) (o .next .J) (o .next .L) ls
   pub site-words : length xs' ≡ length xs
   pub links-words : length ls' ≡ length ls
   pub readable : readable xs ls ≡ true → readable xs' ls' ≡ true

@@ -19,7 +19,7 @@ use Rattle.row.specs.Row.{boxOf, rowFits}
 use Rattle.link.specs.Link.{linkWidth, linkOf}
 use Rattle.link.specs.Holds.{Holds}
 use Rattle.memory.specs.Memory.{rowWidth, siteWords, linksWords, rowAt, linkAt, linkIndex, siteOf}
-use Rattle.memory.specs.Memory.{memoryForm}
+use Rattle.memory.specs.Memory.{pastLinks, memoryForm}
 use Rattle.memory.specs.After.{settingAt, GeneralLent, RowsLent, LinksLent}
 use Rattle.memory.proofs.LentLaws.{readable-made, form-both}
 use Rattle.memory.proofs.SizeLaws.{link-is, index-below}
@@ -250,15 +250,15 @@ module _ (n J L d e : ℕ) (ds ks : List ℕ) (bs : List Box) (lks : List (List 
     pub site-held : (xs ls : List ℕ) → siteWords n J ≤ length xs → linksWords n J L ≤ length ls
         → length ds ≡ length xs - 5 → length ks ≡ length ls
         → drop (n * rowWidth J) ds ≡ drop (n * rowWidth J) (drop 5 xs)
-        → drop (linksWords n J L) ks ≡ drop (linksWords n J L) ls
+        → pastLinks n J L ks ≡ pastLinks n J L ls
         → HoldsSite xs ls words ks held
     site-held xs ls room wide lds lks rest rest' = record {
       form = site-form (omega arith) (omega arith);
       site = site-listed;
       site-words = omega arith;
       links-words = lks;
-      site-rest = sym (drop-drop (n * rowWidth J) 5 words) ∙ rest ∙ drop-drop (n * rowWidth J) 5 xs;
-      links-rest = rest';
+      past-site = sym (drop-drop (n * rowWidth J) 5 words) ∙ rest ∙ drop-drop (n * rowWidth J) 5 xs;
+      past-links = rest';
     }
 
 -- ---- the words when everything is stored

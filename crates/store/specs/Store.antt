@@ -8,7 +8,7 @@ use Rattle.words.specs.Rows.{part}
 use Rattle.rules.specs.Box.{Box, Letter}
 use Rattle.place.specs.Place.{letterAt, placeFits}
 use Rattle.row.specs.Row.{boxOf, rowFits}
-use Rattle.memory.specs.Memory.{siteWords, linksWords, siteOf, memoryForm}
+use Rattle.memory.specs.Memory.{siteWords, linksWords, pastSite, pastLinks, siteOf, memoryForm}
 use Rattle.cells.specs.Cells.{Stands, Found}
 use Rattle.image.specs.Parts.{Listed, nIn, JIn, LIn, listed, listedBytes, GoodListed}
 
@@ -46,9 +46,8 @@ pub record HoldsSite (xs ls ys ks : List ℕ) (t : Listed) : Type 0 where
   pub site : listed (siteOf ys ks) ≡ t
   pub site-words : length ys ≡ length xs
   pub links-words : length ks ≡ length ls
-  pub site-rest : drop (siteWords (nIn t) (JIn t)) ys ≡ drop (siteWords (nIn t) (JIn t)) xs
-  pub links-rest :
-      drop (linksWords (nIn t) (JIn t) (LIn t)) ks ≡ drop (linksWords (nIn t) (JIn t) (LIn t)) ls
+  pub past-site : pastSite (nIn t) (JIn t) ys ≡ pastSite (nIn t) (JIn t) xs
+  pub past-links : pastLinks (nIn t) (JIn t) (LIn t) ks ≡ pastLinks (nIn t) (JIn t) (LIn t) ls
 
 -- whatever bodies by form stand at `at`, the words hold them now
 abbrev pub SiteStored : List ℕ → ℕ → List ℕ → List ℕ → List ℕ → List ℕ → Type 0
