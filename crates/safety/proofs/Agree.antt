@@ -200,7 +200,8 @@ module _ (s : Site) (i : Inv s) (c : ℕ) (c-in : In c (s .n)) (f : Formed s)
   abbrev link′ : Links
   link′ =
       posted (s .link) c
-      (Out.To (others (setting s c)) (mailOf Kind.Commit (s .box c .head .kept .pn) (st .last + 1) 0))
+      (Out.To (others (setting s c))
+      (mailOf Kind.Commit (s .box c .head .kept .pn) (st .last + 1) 0))
       (s .box c .records)
 
   five : In c mostBoxes

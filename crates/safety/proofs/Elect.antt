@@ -73,7 +73,9 @@ module _ (s : Site) (c : ℕ) (i : Inv s) (f : Formed s) (e : Elects s c) where
         subst (λ (j : ℕ). store (s .box b) .storedPn ≤ store (s .box j) .pn) (is-c (j .0) (j .1))
         (k .N-pn b (j .0) h (j .1) (j .2))
 
-    ripe : Ripe (s .n) (s .present) (s .box) (i .agreed) (store (s .box c) .pn) (store (s .box c) .last)
+    ripe :
+        Ripe (s .n) (s .present) (s .box) (i .agreed)
+        (store (s .box c) .pn) (store (s .box c) .last)
     ripe = record {
       pns = λ b h t. ap (λ (j : ℕ). store (s .box j) .pn) (is-c b h);
       storedPns = stored;

@@ -83,8 +83,8 @@ epoch2 =
     ∷ []
 
 -- "Epoch number 4. The monitor mon2 is elected as the leader with the quorum of mon2 and mon3. ..
--- The monitor mon2 receives accept responses from mon3 and commits the value v2. The monitor mon1 is
--- restored .. before mon3 receives the commit message with v2."
+-- The monitor mon2 receives accept responses from mon3 and commits the value v2. The monitor mon1
+-- is restored .. before mon3 receives the commit message with v2."
 pub epoch4 : List Call
 epoch4 =
     Call.Elect 2

@@ -143,7 +143,8 @@ module _ {n w : ℕ} {box : ℕ → Box} {link : Links} {g : Agreement} (L : Liv
   pub mails-moved : (a b : ℕ) → All (PostAfter a b) (link a b)
   mails-moved a b =
       All-map
-      (λ m h ab. mail-moved w g (L .c) (L .x) a _ _ b _ _ (moved-all a) (moved-all b) (read m) (h ab))
+      (λ m h ab.
+      mail-moved w g (L .c) (L .x) a _ _ b _ _ (moved-all a) (moved-all b) (read m) (h ab))
       (L .mails a b)
 
   module _ (link′ : Links) (d-here : has w d ≡ true) (ne : d ≡ L .c → ⊥)
@@ -163,7 +164,8 @@ module _ {n w : ℕ} {box : ℕ → Box} {link : Links} {g : Agreement} (L : Liv
     apart-c : upd box d v (L .c) ≡ box (L .c)
     apart-c = upd-other box d v (L .c) (λ e. ne (sym e))
 
-    ripe-moved : Ripe n w box g P (store (L .x) .last) → Ripe n w (upd box d v) g P (store (L .x) .last)
+    ripe-moved : Ripe n w box g P (store (L .x) .last)
+        → Ripe n w (upd box d v) g P (store (L .x) .last)
     ripe-moved k = record {
       pns = λ b i j. moved-all b .promise (k .pns b i j);
       storedPns = upd-all (λ b y. In b n → store y .storedPn ≤ P) box d

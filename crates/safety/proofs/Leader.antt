@@ -18,7 +18,8 @@ use Rattle.safety.proofs.Inv.{Agreement, VotedFor, MailOk, PostOk, Last
 use Rattle.safety.proofs.Inv.{AcceptOk, Ripe, Asking, Hearing, Settled, Live}
 
 -- `Live`, the leader c and its box x given
-pub record Led (n w : ℕ) (box : ℕ → Box) (link : Links) (g : Agreement) (c : ℕ) (x : Box) : Type 0 where
+pub record Led (n w : ℕ) (box : ℕ → Box) (link : Links) (g : Agreement) (c : ℕ) (x : Box)
+    : Type 0 where
   pub c-in : In c n
   pub lead : x .head .leads ≡ true
   pub only : (b : ℕ) → In b n → box b .head .leads ≡ true → b ≡ c

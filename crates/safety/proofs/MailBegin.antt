@@ -1,4 +1,4 @@
--- A Begin is taken: the box holds the leader's record at last+1, under the leader's pn, and says so.
+-- A Begin is taken: the box holds the leader's record at last+1, under its pn, and says so.
 use Prim.Native.Nat.{ℕ, suc, _+_, _≤_, _<_}
 use mathlib.Core.Path.{_≡_, refl, sym, ap, _∙_, subst}
 use mathlib.Core.Bool.{_&&_, cond}

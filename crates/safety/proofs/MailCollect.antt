@@ -123,7 +123,8 @@ module _ (s : Site) (i : Inv s) (a b : ℕ) (y : Letter) (ys : List Letter)
   abbrev answer : Letter
   answer = record {
     head =
-        mailOf Kind.Last (max (s .box b .head .kept .pn) (y .head .pn)) (s .box b .head .kept .last) u;
+        mailOf Kind.Last (max (s .box b .head .kept .pn) (y .head .pn))
+        (s .box b .head .kept .last) u;
     records = s .box b .records;
   }
 

@@ -29,8 +29,9 @@ unfolding onCommit tookKept posted
 inv-commit s i a b y ys r = by-settled Inv s (popped s a b) b _ _ _ _ i (inv-popped s a b i)
     (λ go. record {
       agreed = i .agreed;
-      core = core-kept (i .core) b v (r .to) (box-took st (i .core .boxes b (r .to)) l rs low prefix)
-          (omega arith) (grown .up) refl;
+      core =
+          core-kept (i .core) b v (r .to)
+          (box-took st (i .core .boxes b (r .to)) l rs low prefix) (omega arith) (grown .up) refl;
       ranks = ranks-kept (i .ranks) b v (r .to) refl refl;
       live = λ z. live-read L a b y ys (r .head) v moved (ok .to) ne refl refl refl;
     })

@@ -402,8 +402,8 @@ module _ (s : Site) (i : Inv s) (a c : ℕ) (y : Letter) (ys : List Letter)
         (T .same) (T .old))
         (λ b h. cases b h (same? b a))
         (λ b bn h m k.
-        found-chosen (i .agreed) (st .last) (t .last) best best-ok (grown .up) (y .head) rs reached k
-        (found b bn h m k (same? b a)))
+        found-chosen (i .agreed) (st .last) (t .last) best best-ok (grown .up) (y .head) rs reached
+        k (found b bn h m k (same? b a)))
         count
 
   -- ---- the three together

@@ -27,7 +27,8 @@ inv-lease s i a b y ys r = by-settled Inv s (popped s a b) b _ _ _ _ i (inv-popp
       core = core-kept (i .core) b v (r .to) (i .core .boxes b (r .to)) (omega arith) (omega arith)
           refl;
       ranks = ranks-kept (i .ranks) b v (r .to) refl refl;
-      live = λ z. live-read L a b y ys (r .head) v (moved-refl (L .x) (store (s .box b))) (ok .to) ne
+      live = λ z.
+          live-read L a b y ys (r .head) v (moved-refl (L .x) (store (s .box b))) (ok .to) ne
           refl refl refl;
     })
   where

@@ -172,7 +172,8 @@ module _ (G : ℕ → ℕ → Type 0) where
       };
       sent =
           rw e
-          (subst (G (x .head .kept .last)) (sym (stored-at (x .head .kept .pn) r (store x) shaped)) g);
+          (subst (G (x .head .kept .last))
+          (sym (stored-at (x .head .kept .pn) r (store x) shaped)) g);
     }
 
     -- nothing happens

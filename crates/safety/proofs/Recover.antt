@@ -32,7 +32,8 @@ module _ (s : Site) (i : Inv s) (c : ℕ) (c-in : In c (s .n))
   abbrev x : Box
   x = record {
     head =
-        withKept (promising P (s .box c .head .kept)) (withPhase Phase.SendCollect (s .box c .head));
+        withKept (promising P (s .box c .head .kept))
+        (withPhase Phase.SendCollect (s .box c .head));
     records = s .box c .records;
   }
 

@@ -74,7 +74,8 @@ abbrev pub Peer : ℕ → ℕ → Bool → List Letter → List Letter → Type 
 Peer P pn answered to from = Or (Unasked P pn answered to from) (Asked P answered to from)
 
 -- R is the set of boxes that answered the leader c's pn P, and the count is theirs
-pub record Counted (n w P replies : ℕ) (pn : ℕ → ℕ) (link : Links) (c : ℕ) (R : ℕ → Bool) : Type 0 where
+pub record Counted (n w P replies : ℕ) (pn : ℕ → ℕ) (link : Links) (c : ℕ) (R : ℕ → Bool)
+    : Type 0 where
   pub own : R c ≡ true
   pub present : Within n R (has w)
   pub count : tally n R ≡ replies

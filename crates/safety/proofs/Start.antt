@@ -85,7 +85,8 @@ module _ (w : ℕ) (g : Agreement) (c : ℕ) (y z : Box) (r : ℕ) (shaped : Sha
 
 module _ (s : Site) (i : Inv s) (c : ℕ) (c-in : In c (s .n)) (h : s .box c .head .leads ≡ true)
     (z : even (s .epoch) ≡ true) (ph : phaseOf (s .box c) ≡ 4 → ⊥)
-    (k : Ripe (s .n) (s .present) (s .box) (i .agreed) (store (s .box c) .pn) (store (s .box c) .last))
+    (k : Ripe (s .n) (s .present) (s .box) (i .agreed)
+    (store (s .box c) .pn) (store (s .box c) .last))
     (y : Box) (y-leads : y .head .leads ≡ true) where
   abbrev a : Store
   a = store (s .box c)
@@ -188,7 +189,8 @@ module _ (s : Site) (i : Inv s) (c : ℕ) (c-in : In c (s .n)) (h : s .box c .he
     unfolding leased others posted written enclosed
     inv-leased = record {
       agreed = i .agreed;
-      core = core-kept (i .core) c rest c-in (i .core .boxes c c-in) (omega arith) (omega arith) refl;
+      core =
+          core-kept (i .core) c rest c-in (i .core .boxes c c-in) (omega arith) (omega arith) refl;
       ranks = ranks-kept (i .ranks) c rest c-in refl refl;
       live = λ e.
           lead-live c L rest y-leads _ (i .agreed)

@@ -1,5 +1,5 @@
--- Demand 3, in statements alone: what is true of every run of the model's calls (`fresh`, `step` and
--- `run` of the crate rules). A refused call leaves the site, so "any calls" leaves nothing out.
+-- Demand 3, in statements alone: what is true of every run of the model's calls (`fresh`, `step`
+-- and `run` of the crate rules). A refused call leaves the site, so "any calls" leaves nothing out.
 use Prim.Native.Nat.{ℕ, _-_, _≤_}
 use mathlib.Core.Path.{_≡_}
 use mathlib.Core.Bool.{true}
