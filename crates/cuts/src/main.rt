@@ -1,5 +1,5 @@
-// Feeds the trace on standard input to the library in pieces of 1, 2, 63, 64 and 65 bytes and whole,
-// into buffers of different lengths, and writes what it says: the same each time.
+// Feeds the trace on standard input to the library in pieces of 1, 2, 63, 64 and 65 bytes and
+// whole, into buffers of different lengths, and writes what it says: the same each time.
 ghost use mathlib.Core.Path.{_≡_};
 ghost use Prim.Native.Nat.{min};
 use libc::STDIN_FILENO;

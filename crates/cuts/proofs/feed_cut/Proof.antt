@@ -14,7 +14,9 @@ part-fits : (m n : ℕ) (l : List ℕ) → m ≤ length (take n l) → m ≤ n
 part-fits m n l h = omega (arith, length-take n l)
 
 abbrev Inv-loop : tie.InvT-loop
-Inv-loop input size site₀ links₀ out₀ n f₀ i₀ site links out f i = (i ≤ n) × (n ≡ length input) × (length site ≡ length site₀) × (length links ≡ length links₀) × (length out ≡ length out₀)
+Inv-loop input size site₀ links₀ out₀ n f₀ i₀ site links out f i =
+    (i ≤ n) × (n ≡ length input)
+    × (length site ≡ length site₀) × (length links ≡ length links₀) × (length out ≡ length out₀)
 
 abbrev μ-loop : tie.MeasureT-loop
 μ-loop input size site₀ links₀ out₀ n f₀ i₀ site links out f i = n - i
@@ -32,7 +34,9 @@ least-requires : tie.Need-least-requires Inv-loop μ-loop
 least-requires c κs = search needs
 
 add-e : tie.Need-add-e Inv-loop μ-loop
-add-e c = omega (arith, c .least .ensures, (c .before .before .before .before .before .before .before .before) .good .0 .0)
+add-e c =
+    let start = c .before .before .before .before .before .before .before .before in
+    omega (arith, c .least .ensures, start .good .0 .0)
 
 sub-feed-piece : tie.Need-sub-feed-piece Inv-loop μ-loop
 sub-feed-piece c = omega arith
@@ -41,40 +45,109 @@ part-feed-piece-start : tie.Need-part-feed-piece-start Inv-loop μ-loop
 part-feed-piece-start c = search needs
 
 part-feed-piece-end : tie.Need-part-feed-piece-end Inv-loop μ-loop
-part-feed-piece-end c = omega (arith, c .least .ensures, c .before .before .loop .inv .0, c .before .before .loop .inv .1)
+part-feed-piece-end c =
+    let at-loop = c .before .before in
+    omega (arith, c .least .ensures, at-loop .loop .inv .0, at-loop .loop .inv .1)
 
 feed-piece-requires : tie.Need-feed-piece-requires Inv-loop μ-loop
 feed-piece-requires c κs = search needs
 
 slice-reshare-prefix-write-all : tie.Need-slice-reshare-prefix-write-all Inv-loop μ-loop
-slice-reshare-prefix-write-all c = piece-fits (c .before .before .before .before .before .before .feed-piece .ensures) .0
+slice-reshare-prefix-write-all c =
+    piece-fits (c .before .before .before .before .before .before .feed-piece .ensures) .0
 
 slice-aggregate-write-all : tie.Need-slice-aggregate-write-all Inv-loop μ-loop
-slice-aggregate-write-all c = sym (length-take-le _ _ (piece-fits (c .before .before .before .before .before .before .before .feed-piece .ensures) .0))
+slice-aggregate-write-all c =
+    let at-feed-piece = c .before .before .before .before .before .before .before in
+    sym (length-take-le _ _ (piece-fits (at-feed-piece .feed-piece .ensures) .0))
 
 write-all-requires : tie.Need-write-all-requires Inv-loop μ-loop
 write-all-requires c κs = search needs
 
 same-length : tie.Need-same-length Inv-loop μ-loop
-same-length c = c .before .before .before .before .before .before .before .before .before .before .site .given ∙ c .before .before .before .before .before .before .before .before .before .before .before .before .before .before .before .before .before .before .loop .inv .2
+same-length c =
+    let at-out = c .before .before .before .before .before .before in
+    let at-site = at-out .before .before .before .before in
+    let at-loop = at-site .before .before .before .before .before .before .before .before in
+    at-site .site .given ∙ at-loop .loop .inv .2
 
 same-length-2 : tie.Need-same-length-2 Inv-loop μ-loop
-same-length-2 c = c .before .before .before .before .before .before .before .before .links .given ∙ c .before .before .before .before .before .before .before .before .before .before .before .before .before .before .before .before .before .before .loop .inv .3
+same-length-2 c =
+    let at-links = c .before .before .before .before .before .before .before .before in
+    let at-feed-piece = at-links .before .before .before in
+    let at-loop = at-feed-piece .before .before .before .before .before .before .before in
+    at-links .links .given ∙ at-loop .loop .inv .3
 
 same-length-3 : tie.Need-same-length-3 Inv-loop μ-loop
-same-length-3 c = c .before .before .before .before .before .before .out .given ∙ c .before .before .before .before .before .before .before .before .before .before .before .before .before .before .before .before .before .before .loop .inv .4
+same-length-3 c =
+    let at-out = c .before .before .before .before .before .before in
+    let at-feed-piece = at-out .before .before .before .before .before in
+    let at-loop = at-feed-piece .before .before .before .before .before .before .before in
+    at-out .out .given ∙ at-loop .loop .inv .4
 
 returns : tie.Need-returns Inv-loop μ-loop
 returns c = search needs
 
 add-i : tie.Need-add-i Inv-loop μ-loop
-add-i c = let part = part-fits (c .before .before .before .before .before .before .before .before .before .before .before .before .feed-piece .result .took) (c .before .before .before .before .before .before .before .before .before .before .before .before .before .before .before .before .before .before .before .loop .i + c .before .before .before .before .before .before .before .before .before .before .before .before .before .before .before .before .before .least .result - c .before .before .before .before .before .before .before .before .before .before .before .before .before .before .before .before .before .before .before .loop .i) (drop (c .before .before .before .before .before .before .before .before .before .before .before .before .before .before .before .before .before .before .before .loop .i) ((c .before .before .before .before .before .before .before .before .before .before .before .before .before .before .before .before .before .before .before .before .before .before .before .before .before) .args .input .now)) (piece-fits (c .before .before .before .before .before .before .before .before .before .before .before .before .feed-piece .ensures) .1) in omega (arith, part, c .before .before .before .before .before .before .before .before .before .before .before .before .before .before .before .before .before .least .ensures, c .before .before .before .before .before .before .before .before .before .before .before .before .before .before .before .before .before .before .before .loop .inv .0, c .before .before .before .before .before .before .before .before .before .before .before .before .before .before .before .before .before .before .before .loop .inv .1, (c .before .before .before .before .before .before .before .before .before .before .before .before .before .before .before .before .before .before .before .before .before .before .before .before .before) .good .0 .0)
+add-i c =
+    let at-out = c .before .before .before .before .before .before .before in
+    let at-feed-piece = at-out .before .before .before .before .before in
+    let at-least = at-feed-piece .before .before .before .before .before in
+    let at-loop = at-least .before .before in
+    let start = at-loop .before .before .before .before .before .before in
+    let part = part-fits (at-feed-piece .feed-piece .result .took)
+    (at-loop .loop .i + at-least .least .result - at-loop .loop .i)
+    (drop (at-loop .loop .i) (start .args .input .now))
+    (piece-fits (at-feed-piece .feed-piece .ensures) .1) in
+    omega (
+      arith,
+      part,
+      at-least .least .ensures,
+      at-loop .loop .inv .0,
+      at-loop .loop .inv .1,
+      start .good .0 .0,
+    )
 
 loop-less : tie.Need-loop-less Inv-loop μ-loop
-loop-less c = let part = part-fits (c .before .before .before .before .before .before .before .before .before .before .before .before .feed-piece .result .took) (c .before .before .before .before .before .before .before .before .before .before .before .before .before .before .before .before .before .before .before .loop .i + c .before .before .before .before .before .before .before .before .before .before .before .before .before .before .before .before .before .least .result - c .before .before .before .before .before .before .before .before .before .before .before .before .before .before .before .before .before .before .before .loop .i) (drop (c .before .before .before .before .before .before .before .before .before .before .before .before .before .before .before .before .before .before .before .loop .i) ((c .before .before .before .before .before .before .before .before .before .before .before .before .before .before .before .before .before .before .before .before .before .before .before .before .before) .args .input .now)) (piece-fits (c .before .before .before .before .before .before .before .before .before .before .before .before .feed-piece .ensures) .1) in omega (arith, part, c .before .if1 .left, c .before .before .before .before .before .before .before .before .before .before .before .before .before .before .before .before .before .least .ensures, c .before .before .before .before .before .before .before .before .before .before .before .before .before .before .before .before .before .before .loop-test .taken)
+loop-less c =
+    let at-out = c .before .before .before .before .before .before .before in
+    let at-feed-piece = at-out .before .before .before .before .before in
+    let at-least = at-feed-piece .before .before .before .before .before in
+    let at-loop-test = at-least .before in
+    let at-loop = at-loop-test .before in
+    let start = at-loop .before .before .before .before .before .before in
+    let part = part-fits (at-feed-piece .feed-piece .result .took)
+    (at-loop .loop .i + at-least .least .result - at-loop .loop .i)
+    (drop (at-loop .loop .i) (start .args .input .now))
+    (piece-fits (at-feed-piece .feed-piece .ensures) .1) in
+    omega (
+      arith,
+      part,
+      c .before .if1 .left,
+      at-least .least .ensures,
+      at-loop-test .loop-test .taken,
+    )
 
 loop-again : tie.Need-loop-again Inv-loop μ-loop
-loop-again c = let part = part-fits (c .before .before .before .before .before .before .before .before .before .before .before .before .feed-piece .result .took) (c .before .before .before .before .before .before .before .before .before .before .before .before .before .before .before .before .before .before .before .loop .i + c .before .before .before .before .before .before .before .before .before .before .before .before .before .before .before .before .before .least .result - c .before .before .before .before .before .before .before .before .before .before .before .before .before .before .before .before .before .before .before .loop .i) (drop (c .before .before .before .before .before .before .before .before .before .before .before .before .before .before .before .before .before .before .before .loop .i) ((c .before .before .before .before .before .before .before .before .before .before .before .before .before .before .before .before .before .before .before .before .before .before .before .before .before) .args .input .now)) (piece-fits (c .before .before .before .before .before .before .before .before .before .before .before .before .feed-piece .ensures) .1) in (omega (arith, part, c .before .before .before .before .before .before .before .before .before .before .before .before .before .before .before .before .before .least .ensures, c .before .before .before .before .before .before .before .before .before .before .before .before .before .before .before .before .before .before .loop-test .taken), c .before .before .before .before .before .before .before .before .before .before .before .before .before .before .before .before .before .before .before .loop .inv .1, c .before .before .before .before .before .before .before .before .before .before .before .site .given ∙ c .before .before .before .before .before .before .before .before .before .before .before .before .before .before .before .before .before .before .before .loop .inv .2, c .before .before .before .before .before .before .before .before .before .links .given ∙ c .before .before .before .before .before .before .before .before .before .before .before .before .before .before .before .before .before .before .before .loop .inv .3, c .before .before .before .before .before .before .before .out .given ∙ c .before .before .before .before .before .before .before .before .before .before .before .before .before .before .before .before .before .before .before .loop .inv .4)
+loop-again c =
+    let at-out = c .before .before .before .before .before .before .before in
+    let at-links = at-out .before .before in
+    let at-site = at-links .before .before in
+    let at-feed-piece = at-site .before in
+    let at-least = at-feed-piece .before .before .before .before .before in
+    let at-loop-test = at-least .before in
+    let at-loop = at-loop-test .before in
+    let start = at-loop .before .before .before .before .before .before in
+    let part = part-fits (at-feed-piece .feed-piece .result .took)
+    (at-loop .loop .i + at-least .least .result - at-loop .loop .i)
+    (drop (at-loop .loop .i) (start .args .input .now))
+    (piece-fits (at-feed-piece .feed-piece .ensures) .1) in (
+      omega (arith, part, at-least .least .ensures, at-loop-test .loop-test .taken),
+      at-loop .loop .inv .1,
+      at-site .site .given ∙ at-loop .loop .inv .2,
+      at-links .links .given ∙ at-loop .loop .inv .3,
+      at-out .out .given ∙ at-loop .loop .inv .4,
+    )
 
 feed-end-requires : tie.Need-feed-end-requires Inv-loop μ-loop
 feed-end-requires c κs = search needs
@@ -83,7 +156,8 @@ slice-reshare-prefix-write-all-2 : tie.Need-slice-reshare-prefix-write-all-2 Inv
 slice-reshare-prefix-write-all-2 c = end-fits (c .before .before .feed-end .ensures)
 
 slice-aggregate-write-all-2 : tie.Need-slice-aggregate-write-all-2 Inv-loop μ-loop
-slice-aggregate-write-all-2 c = sym (length-take-le _ _ (end-fits (c .before .before .before .feed-end .ensures)))
+slice-aggregate-write-all-2 c =
+    sym (length-take-le _ _ (end-fits (c .before .before .before .feed-end .ensures)))
 
 write-all-requires-2 : tie.Need-write-all-requires-2 Inv-loop μ-loop
 write-all-requires-2 c κs = search needs
@@ -95,7 +169,9 @@ same-length-5 : tie.Need-same-length-5 Inv-loop μ-loop
 same-length-5 c = c .before .before .before .before .before .before .before .loop .inv .3
 
 same-length-6 : tie.Need-same-length-6 Inv-loop μ-loop
-same-length-6 c = c .before .before .before .out2 .given ∙ c .before .before .before .before .before .before .before .loop .inv .4
+same-length-6 c =
+    c .before .before .before .out2 .given
+    ∙ c .before .before .before .before .before .before .before .loop .inv .4
 
 returns-2 : tie.Need-returns-2 Inv-loop μ-loop
 returns-2 c = search needs
