@@ -12,13 +12,17 @@ use Rattle.replay.proofs.feed_all.Statement.{statement}
 use Rattle.replay.proofs.feed_all.Tie as tie
 
 abbrev Inv-loop : tie.InvT-loop
-Inv-loop piece site₀ links₀ out₀ g₀ i₀ site links out g i = (answerMost ≤ length out) × Kept (feedingOf g₀ site₀ links₀) piece site₀ links₀ site links out₀ out i g
+Inv-loop piece site₀ links₀ out₀ g₀ i₀ site links out g i =
+    (answerMost ≤ length out)
+    × Kept (feedingOf g₀ site₀ links₀) piece site₀ links₀ site links out₀ out i g
 
 abbrev μ-loop : tie.MeasureT-loop
 μ-loop piece site₀ links₀ out₀ g₀ i₀ site links out g i = length piece - i
 
 loop-holds : tie.Need-loop-holds Inv-loop μ-loop
-loop-holds c = ((c .before .before .before .before) .pre .0, kept-none ((c .before .before .before .before) .args .f) _ _ _ _ ((c .before .before .before .before) .pre .1))
+loop-holds c =
+    let start = c .before .before .before .before in
+    (start .pre .0, kept-none (start .args .f) _ _ _ _ (start .pre .1))
 
 sub-feed-formed : tie.Need-sub-feed-formed Inv-loop μ-loop
 sub-feed-formed c = c .before .loop .inv .1 .within
@@ -33,22 +37,50 @@ feed-formed-requires : tie.Need-feed-formed-requires Inv-loop μ-loop
 feed-formed-requires c κs = c .before .before .before .before .before .loop .inv .1 .lent
 
 slice-reshare-prefix-write-all : tie.Need-slice-reshare-prefix-write-all Inv-loop μ-loop
-slice-reshare-prefix-write-all c = c .before .before .before .before .before .before .feed-formed .ensures .fits
+slice-reshare-prefix-write-all c =
+    c .before .before .before .before .before .before .feed-formed .ensures .fits
 
 slice-aggregate-write-all : tie.Need-slice-aggregate-write-all Inv-loop μ-loop
-slice-aggregate-write-all c = sym (length-take-le _ _ (c .before .before .before .before .before .before .before .feed-formed .ensures .fits))
+slice-aggregate-write-all c =
+    let at-feed-formed = c .before .before .before .before .before .before .before in
+    sym (length-take-le _ _ (at-feed-formed .feed-formed .ensures .fits))
 
 write-all-requires : tie.Need-write-all-requires Inv-loop μ-loop
 write-all-requires c κs = search needs
 
 add-i : tie.Need-add-i Inv-loop μ-loop
-add-i c = let on = goes-on ((c .before .before .before .before .before .before .before .before .before .before .before .before .before .before .before .before .before .before .before .before .before) .args .piece .now) (c .before .before .before .before .before .before .before .before .before .before .before .before .before .before .before .before .loop .site) (c .before .before .before .before .before .before .before .before .before .before .before .before .before .before .before .before .loop .links) _ _ (c .before .before .before .before .before .before .before .before .before .before .before .before .before .before .before .before .loop .out) _ (c .before .before .before .before .before .before .before .before .before .before .before .before .before .before .before .before .loop .i) (c .before .before .before .before .before .before .before .before .before .before .before .before .before .before .before .before .loop .g) (c .before .before .before .before .before .before .before .before .before .before .feed-formed .result) (c .before .before .before .before .before .before .before .before .before .before .before .before .before .before .before .loop-test .taken) (c .before .before .before .before .before .before .before .before .before .before .before .before .before .before .before .before .loop .inv .0) (c .before .before .before .before .before .before .before .before .before .before .feed-formed .ensures) in omega (arith, on .1, (c .before .before .before .before .before .before .before .before .before .before .before .before .before .before .before .before .before .before .before .before .before) .good .1 .0 .0)
+add-i c =
+    let fed = c .before .before .before .before .before .before .before .before .before .before in
+    let at-loop-test = fed .before .before .before .before .before in
+    let at-loop = at-loop-test .before in
+    let start = at-loop .before .before .before .before .before in
+    let on = goes-on (start .args .piece .now) (at-loop .loop .site) (at-loop .loop .links) _ _
+    (at-loop .loop .out) _ (at-loop .loop .i) (at-loop .loop .g)
+    (fed .feed-formed .result) (at-loop-test .loop-test .taken) (at-loop .loop .inv .0)
+    (fed .feed-formed .ensures) in
+    omega (arith, on .1, start .good .1 .0 .0)
 
 loop-less : tie.Need-loop-less Inv-loop μ-loop
-loop-less c = let on = goes-on ((c .before .before .before .before .before .before .before .before .before .before .before .before .before .before .before .before .before .before .before .before .before) .args .piece .now) (c .before .before .before .before .before .before .before .before .before .before .before .before .before .before .before .before .loop .site) (c .before .before .before .before .before .before .before .before .before .before .before .before .before .before .before .before .loop .links) _ _ (c .before .before .before .before .before .before .before .before .before .before .before .before .before .before .before .before .loop .out) _ (c .before .before .before .before .before .before .before .before .before .before .before .before .before .before .before .before .loop .i) (c .before .before .before .before .before .before .before .before .before .before .before .before .before .before .before .before .loop .g) (c .before .before .before .before .before .before .before .before .before .before .feed-formed .result) (c .before .before .before .before .before .before .before .before .before .before .before .before .before .before .before .loop-test .taken) (c .before .before .before .before .before .before .before .before .before .before .before .before .before .before .before .before .loop .inv .0) (c .before .before .before .before .before .before .before .before .before .before .feed-formed .ensures) in omega (arith, on .0, on .1)
+loop-less c =
+    let fed = c .before .before .before .before .before .before .before .before .before .before in
+    let at-loop-test = fed .before .before .before .before .before in
+    let at-loop = at-loop-test .before in
+    let start = at-loop .before .before .before .before .before in
+    let on = goes-on (start .args .piece .now) (at-loop .loop .site) (at-loop .loop .links) _ _
+    (at-loop .loop .out) _ (at-loop .loop .i) (at-loop .loop .g)
+    (fed .feed-formed .result) (at-loop-test .loop-test .taken) (at-loop .loop .inv .0)
+    (fed .feed-formed .ensures) in
+    omega (arith, on .0, on .1)
 
 loop-again : tie.Need-loop-again Inv-loop μ-loop
-loop-again c = let more = kept-more _ _ _ _ _ _ _ _ (c .before .before .before .before .before .before .before .before .before .before .before .before .before .before .before .before .loop .i) (c .before .before .before .before .before .before .before .before .before .before .before .before .before .before .before .before .loop .g) (c .before .before .before .before .before .before .before .before .before .before .feed-formed .result) (c .before .before .before .before .before .before .before .before .before .before .before .before .before .before .before .loop-test .taken) (c .before .before .before .before .before .before .before .before .before .before .before .before .before .before .before .before .loop .inv .0) (c .before .before .before .before .before .before .before .before .before .before .before .before .before .before .before .before .loop .inv .1) (c .before .before .before .before .before .before .before .before .before .before .feed-formed .ensures) in (omega (arith, more .out, c .before .before .before .before .before .before .before .before .before .before .before .before .before .before .before .before .loop .inv .0, c .before .before .before .before .before .before .before .before .before .before .before .before .before .before .before .before .loop .inv .1 .out), more)
+loop-again c =
+    let fed = c .before .before .before .before .before .before .before .before .before .before in
+    let at-loop-test = fed .before .before .before .before .before in
+    let at-loop = at-loop-test .before in
+    let more = kept-more _ _ _ _ _ _ _ _ (at-loop .loop .i) (at-loop .loop .g)
+    (fed .feed-formed .result) (at-loop-test .loop-test .taken) (at-loop .loop .inv .0)
+    (at-loop .loop .inv .1) (fed .feed-formed .ensures) in
+    (omega (arith, more .out, at-loop .loop .inv .0, at-loop .loop .inv .1 .out), more)
 
 same-length : tie.Need-same-length Inv-loop μ-loop
 same-length c = c .before .loop .inv .1 .site

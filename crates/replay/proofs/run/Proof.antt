@@ -11,7 +11,10 @@ use Rattle.replay.proofs.run.Statement.{statement}
 use Rattle.replay.proofs.run.Tie as tie
 
 abbrev Inv-loop : tie.InvT-loop
-Inv-loop site₀ links₀ input₀ out₀ f₀ turns₀ site links input out f turns = (answerMost ≤ length out) × Lent (f .stage) site links × (length site ≡ length site₀) × (length links ≡ length links₀) × (length input ≡ length input₀) × (length out ≡ length out₀)
+Inv-loop site₀ links₀ input₀ out₀ f₀ turns₀ site links input out f turns =
+    (answerMost ≤ length out) × Lent (f .stage) site links
+    × (length site ≡ length site₀) × (length links ≡ length links₀)
+    × (length input ≡ length input₀) × (length out ≡ length out₀)
 
 abbrev μ-loop : tie.MeasureT-loop
 μ-loop site₀ links₀ input₀ out₀ f₀ turns₀ site links input out f turns = turns
@@ -20,22 +23,49 @@ start-requires : tie.Need-start-requires Inv-loop μ-loop
 start-requires c κs = search needs
 
 loop-holds : tie.Need-loop-holds Inv-loop μ-loop
-loop-holds c = ((c .before .before .before .before .before) .pre .2, lent-first (c .start .result) _ _ (c .start .ensures) ((c .before .before .before .before .before) .pre .0) ((c .before .before .before .before .before) .pre .1), refl, refl, refl, refl)
+loop-holds c =
+    let start = c .before .before .before .before .before in (
+      start .pre .2,
+      lent-first (c .start .result) _ _ (c .start .ensures) (start .pre .0) (start .pre .1),
+      refl,
+      refl,
+      refl,
+      refl,
+    )
 
 read-some-requires : tie.Need-read-some-requires Inv-loop μ-loop
-read-some-requires c κs = (c .before .before .before .before .before .loop .inv .0, c .before .before .before .before .before .loop .inv .1)
+read-some-requires c κs =
+    let at-loop = c .before .before .before .before .before in
+    (at-loop .loop .inv .0, at-loop .loop .inv .1)
 
 same-length : tie.Need-same-length Inv-loop μ-loop
-same-length c = c .before .before .before .before .before .before .before .before .before .before .site .given ∙ c .before .before .before .before .before .before .before .before .before .before .before .before .before .before .before .before .before .loop .inv .2
+same-length c =
+    let at-out = c .before .before .before .before in
+    let at-site = at-out .before .before .before .before .before .before in
+    let at-loop = at-site .before .before .before .before .before .before .before in
+    at-site .site .given ∙ at-loop .loop .inv .2
 
 same-length-2 : tie.Need-same-length-2 Inv-loop μ-loop
-same-length-2 c = c .before .before .before .before .before .before .before .before .links .given ∙ c .before .before .before .before .before .before .before .before .before .before .before .before .before .before .before .before .before .loop .inv .3
+same-length-2 c =
+    let at-links = c .before .before .before .before .before .before .before .before in
+    let at-read-some = at-links .before .before .before in
+    let at-loop = at-read-some .before .before .before .before .before .before in
+    at-links .links .given ∙ at-loop .loop .inv .3
 
 same-length-3 : tie.Need-same-length-3 Inv-loop μ-loop
-same-length-3 c = c .before .before .before .before .before .before .input .given ∙ c .before .before .before .before .before .before .before .before .before .before .before .before .before .before .before .before .before .loop .inv .4
+same-length-3 c =
+    let at-input = c .before .before .before .before .before .before in
+    let at-read-some = at-input .before .before .before .before .before in
+    let at-loop = at-read-some .before .before .before .before .before .before in
+    at-input .input .given ∙ at-loop .loop .inv .4
 
 same-length-4 : tie.Need-same-length-4 Inv-loop μ-loop
-same-length-4 c = c .before .before .before .before .out .given ∙ c .before .before .before .before .before .before .before .before .before .before .before .before .before .before .before .before .before .loop .inv .5
+same-length-4 c =
+    let at-out = c .before .before .before .before in
+    let at-input = at-out .before .before in
+    let at-read-some = at-input .before .before .before .before .before in
+    let at-loop = at-read-some .before .before .before .before .before .before in
+    at-out .out .given ∙ at-loop .loop .inv .5
 
 returns : tie.Need-returns Inv-loop μ-loop
 returns c = search needs
@@ -47,7 +77,20 @@ loop-less : tie.Need-loop-less Inv-loop μ-loop
 loop-less c = search needs
 
 loop-again : tie.Need-loop-again Inv-loop μ-loop
-loop-again c = (omega (arith, c .before .before .before .before .out .given, c .before .before .before .before .before .before .before .before .before .before .before .before .before .before .before .before .before .loop .inv .0), c .before .before .before .before .before .before .before .before .before .before .before .read-some .ensures, c .before .before .before .before .before .before .before .before .before .before .site .given ∙ c .before .before .before .before .before .before .before .before .before .before .before .before .before .before .before .before .before .loop .inv .2, c .before .before .before .before .before .before .before .before .links .given ∙ c .before .before .before .before .before .before .before .before .before .before .before .before .before .before .before .before .before .loop .inv .3, c .before .before .before .before .before .before .input .given ∙ c .before .before .before .before .before .before .before .before .before .before .before .before .before .before .before .before .before .loop .inv .4, c .before .before .before .before .out .given ∙ c .before .before .before .before .before .before .before .before .before .before .before .before .before .before .before .before .before .loop .inv .5)
+loop-again c =
+    let at-out = c .before .before .before .before in
+    let at-input = at-out .before .before in
+    let at-links = at-input .before .before in
+    let at-site = at-links .before .before in
+    let at-read-some = at-site .before in
+    let at-loop = at-read-some .before .before .before .before .before .before in (
+      omega (arith, at-out .out .given, at-loop .loop .inv .0),
+      at-read-some .read-some .ensures,
+      at-site .site .given ∙ at-loop .loop .inv .2,
+      at-links .links .given ∙ at-loop .loop .inv .3,
+      at-input .input .given ∙ at-loop .loop .inv .4,
+      at-out .out .given ∙ at-loop .loop .inv .5,
+    )
 
 same-length-5 : tie.Need-same-length-5 Inv-loop μ-loop
 same-length-5 c = c .before .loop .inv .2

@@ -10,7 +10,8 @@ slice-reshare-prefix-write-all : tie.Need-slice-reshare-prefix-write-all
 slice-reshare-prefix-write-all c = end-fits (c .before .before .feed-end .ensures)
 
 slice-aggregate-write-all : tie.Need-slice-aggregate-write-all
-slice-aggregate-write-all c = sym (length-take-le _ _ (end-fits (c .before .before .before .feed-end .ensures)))
+slice-aggregate-write-all c =
+    sym (length-take-le _ _ (end-fits (c .before .before .before .feed-end .ensures)))
 
 pub write-end-spec : {M : Type 1} → statement M
 write-end-spec =
