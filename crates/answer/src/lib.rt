@@ -5,7 +5,8 @@ ghost use mathlib.Core.Bool.{true};
 ghost use Prim.Native.Nat.{_≤_};
 ghost use lib.ListN.{length, take};
 ghost use Rattle.memory.specs.Memory.{siteOf, memoryForm};
-ghost use Rattle.answer.specs.Says.{lends as lendsEnough, textRoom, OutcomeIs, ImageIs, AnswerIs};
+ghost use Rattle.answer.specs.Says.{lends as lendsEnough, textRoom};
+ghost use Rattle.answer.specs.Says.{OutcomeIs, ImageIs, AnswerIs};
 use ask::Asked;
 use lines::Line;
 use rules::model::Answer;
@@ -44,8 +45,8 @@ fn answer_formed(
     requires { ⌜ memoryForm (now site) (now links) ≡ true ⌝ }
     requires { ⌜ textRoom (length (now image)) ≤ length (now out) ⌝ }
     ensures { λ r.
-        ⌜ OutcomeIs l (siteOf (now (site .entry)) (now (links .entry))) (length (now (image .entry)))
-        (now (out .entry)) r (now (out .exit)) ⌝ }
+        ⌜ OutcomeIs l (siteOf (now (site .entry)) (now (links .entry)))
+        (length (now (image .entry))) (now (out .entry)) r (now (out .exit)) ⌝ }
 {
     let a = serve::serve(site, links, l);
     tell::tell(a, site, links, image, out)

@@ -85,7 +85,8 @@ pub(crate) fn tell(a: Answer, site: &[u64], links: &[u64], image: &mut [u8], out
     requires { ⌜ memoryForm (now site) (now links) ≡ true ⌝ }
     requires { ⌜ textRoom (length (now image)) ≤ length (now out) ⌝ }
     ensures { λ r.
-        ⌜ TellIs (fits (length (now (image .entry))) a (imageIn (now (site .entry)) (now (links .entry))))
+        ⌜ TellIs
+        (fits (length (now (image .entry))) a (imageIn (now (site .entry)) (now (links .entry))))
         (answerText a (imageIn (now (site .entry)) (now (links .entry))))
         (now (out .entry)) r (now (out .exit)) ⌝ }
 {

@@ -12,8 +12,8 @@ fn length_of(t: Told) -> usize {
     }
 }
 
-// How long the answer to a line is, which stands at the front of out, or 0 where the line's site has
-// no room in the words.
+// How long the answer to a line is, which stands at the front of out, or 0 where the line's site
+// has no room in the words.
 fn answer_in(
     line: &[u8],
     image: &mut [u8],

@@ -6,27 +6,19 @@ use Rattle.answer.proofs.answer_formed.Statement.{statement}
 use Rattle.answer.proofs.answer_formed.Tie as tie
 
 tell-requires : tie.Need-tell-requires
-tell-requires c κs = (
-  c .before .before .before .before .before .before .before .before .serve
-      .ensures .form,
-  c .before .before .before .before .before .before .before .before .before
-      .before .before .before .before .before .before .pre .1,
-)
+tell-requires c κs =
+    let at-serve = c .before .before .before .before .before .before .before .before in
+    let start = at-serve .before .before .before .before .before .before .before in
+    (at-serve .serve .ensures .form, start .pre .1)
 
 returns : tie.Need-returns
-returns c = outcome-is ((c .before .before .before .before .before .before .before .before .before
-    .before .before .before .before .before .before .before .before .before .before .before) .args
-    .l) ((c .before .before .before .before .before .before .before .before .before .before .before
-    .before .before .before .before .before .before .before .before .before) .args .site .now) ((c
-    .before .before .before .before .before .before .before .before .before .before .before .before
-    .before .before .before .before .before .before .before .before) .args .links .now) (c .before
-    .before .before .before .before .before .before .before .before .before .before .before .before
-    .serve .last .0) (c .before .before .before .before .before .before .before .before .before
-    .before .before .before .before .serve .last .1 .0) (length ((c .before .before .before .before
-    .before .before .before .before .before .before .before .before .before .before .before .before
-    .before .before .before .before) .args .image .now)) (c .before .before .before .before .before
-    .before .before .before .before .before .before .before .before .serve .ensures) (c .before
-    .before .before .before .tell .ensures)
+returns c =
+    let told = c .before .before .before .before in
+    let at-serve = told .before .before .before .before .before .before .before .before .before in
+    let start = at-serve .before .before .before .before .before .before .before in
+    outcome-is (start .args .l) (start .args .site .now) (start .args .links .now)
+    (at-serve .serve .last .0) (at-serve .serve .last .1 .0) (length (start .args .image .now))
+    (at-serve .serve .ensures) (told .tell .ensures)
 
 pub answer-formed-spec : {M : Type 1} → statement M
 answer-formed-spec =

@@ -1,59 +1,60 @@
 -- `answer::answer_image` meets its contract.
 use mathlib.Core.Path.{sym, _∙_, refl}
 use native.Mathlib.Omega.{arith}
-use Rattle.answer.proofs.AnswerLaws.{read-front, read-done, read-short, read-none, image-none, image-some}
+use Rattle.answer.proofs.AnswerLaws.{read-front, read-done, read-short, read-none}
+use Rattle.answer.proofs.AnswerLaws.{image-none, image-some}
 use borrow.Author.Needs.{needs}
 use Rattle.answer.proofs.answer_image.Statement.{statement}
 use Rattle.answer.proofs.answer_image.Tie as tie
 
 answer-formed-requires : tie.Need-answer-formed-requires
-answer-formed-requires c κs = (
-  read-done (c .before .before .before .before .before .before .before
-      .before .before .before .read .ensures) (sym (c .before .before .before .before .before
-      .answer-number .ensures) ∙ c .before .before .before .before .if1 .taken) .form,
-  c .before
-      .before .before .before .before .before .before .before .before .before .before .before .before
-      .before .before .before .before .before .before .pre .1,
-)
+answer-formed-requires c κs =
+    let at-if1 = c .before .before .before .before in
+    let at-answer-number = at-if1 .before in
+    let at-read = at-answer-number .before .before .before .before .before in
+    let start = at-read .before .before .before .before .before .before .before .before .before in (
+      read-done (at-read .read .ensures)
+          (sym (at-answer-number .answer-number .ensures) ∙ at-if1 .if1 .taken) .form,
+      start .pre .1,
+    )
 
 returns : tie.Need-returns
-returns c = image-some (read-done (read-front ((c .before .before .before .before .before .before
-    .before .before .before .before .before .before .before .before .before .before .before .before
-    .before .before .before .before .before .before .before .before .before .before) .args .image
-    .now) ((c .before .before .before .before .before .before .before .before .before .before
-    .before .before .before .before .before .before .before .before .before .before .before .before
-    .before .before .before .before .before .before) .args .n) (c .before .before .before .before
-    .before .before .before .before .before .before .before .before .before .before .before .before
-    .before .before .before .read .ensures)) (sym (c .before .before .before .before .before
-    .before .before .before .before .before .before .before .before .before .answer-number
-    .ensures) ∙ c .before .before .before .before .before .before .before .before .before .before
-    .before .before .before .if1 .taken)) (c .before .before .before .before .before .before
-    .before .before .answer-formed .ensures)
+returns c =
+    let at-answer-formed = c .before .before .before .before .before .before .before .before in
+    let at-if1 = at-answer-formed .before .before .before .before .before in
+    let at-answer-number = at-if1 .before in
+    let at-read = at-answer-number .before .before .before .before .before in
+    let start = at-read .before .before .before .before .before .before .before .before .before in
+    image-some
+    (read-done (read-front (start .args .image .now) (start .args .n) (at-read .read .ensures))
+    (sym (at-answer-number .answer-number .ensures) ∙ at-if1 .if1 .taken))
+    (at-answer-formed .answer-formed .ensures)
 
 returns-2 : tie.Need-returns-2
-returns-2 c = read-short _ _ _ (read-front ((c .before .before .before .before .before .before
-    .before .before .before .before .before .before .before .before .before .before) .args .image
-    .now) ((c .before .before .before .before .before .before .before .before .before .before
-    .before .before .before .before .before .before) .args .n) (c .before .before .before .before
-    .before .before .before .read .ensures)) (sym (c .before .before .answer-number .ensures) ∙ c
-    .if2 .taken)
+returns-2 c =
+    let at-answer-number = c .before .before in
+    let at-read = at-answer-number .before .before .before .before .before in
+    let start = at-read .before .before .before .before .before .before .before .before .before in
+    read-short _ _ _
+    (read-front (start .args .image .now) (start .args .n) (at-read .read .ensures))
+    (sym (at-answer-number .answer-number .ensures) ∙ c .if2 .taken)
 
 put-refusal-requires : tie.Need-put-refusal-requires
 put-refusal-requires c κs = (omega arith, refl)
 
 returns-3 : tie.Need-returns-3
 returns-3 c =
+    let at-put-refusal = c .before .before in
+    let at-if2 = at-put-refusal .before .before in
+    let at-if1 = at-if2 .before in
+    let at-answer-number = at-if1 .before in
+    let at-read = at-answer-number .before .before .before .before .before in
+    let start = at-read .before .before .before .before .before .before .before .before .before in
     image-none
-    (read-none (read-front ((c .before .before .before .before .before .before .before .before
-    .before .before .before .before .before .before .before .before .before .before .before
-    .before) .args .image .now) ((c .before .before .before .before .before .before .before
-    .before .before .before .before .before .before .before .before .before .before .before
-    .before .before) .args .n) (c .before .before .before .before .before .before .before
-    .before .before .before .before .read .ensures)) (λ e. c .before .before .before .before
-    .before .if1 .left (c .before .before .before .before .before .before .answer-number
-    .ensures ∙ e)) (λ e. c .before .before .before .before .if2 .left (c .before .before
-    .before .before .before .before .answer-number .ensures ∙ e)))
-    (omega arith) (c .before .before .put-refusal .ensures)
+    (read-none (read-front (start .args .image .now) (start .args .n) (at-read .read .ensures))
+    (λ e. at-if1 .if1 .left (at-answer-number .answer-number .ensures ∙ e))
+    (λ e. at-if2 .if2 .left (at-answer-number .answer-number .ensures ∙ e))) (omega arith)
+    (at-put-refusal .put-refusal .ensures)
 
 pub answer-image-spec : {M : Type 1} → statement M
 answer-image-spec =

@@ -20,60 +20,46 @@ loop-holds : tie.Need-loop-holds Inv-loop μ-loop
 loop-holds c = (refl, refl, refl, refl, refl, refl)
 
 same-length : tie.Need-same-length Inv-loop μ-loop
-same-length c = c .before .before .before .before .before .before .read .kept .1 .0 ∙ c .before
-    .before .before .before .before .before .before .before .before .loop .inv .0
+same-length c =
+    c .before .before .before .before .before .before .read .kept .1 .0
+    ∙ c .before .before .before .before .before .before .before .before .before .loop .inv .0
 
 same-length-2 : tie.Need-same-length-2 Inv-loop μ-loop
-same-length-2 c = c .before .before .before .before .before .before .before .before .before .loop
-    .inv .1
+same-length-2 c =
+    c .before .before .before .before .before .before .before .before .before .loop .inv .1
 
 same-length-3 : tie.Need-same-length-3 Inv-loop μ-loop
-same-length-3 c = c .before .before .before .before .before .before .before .before .before .loop
-    .inv .2
+same-length-3 c =
+    c .before .before .before .before .before .before .before .before .before .loop .inv .2
 
 same-length-4 : tie.Need-same-length-4 Inv-loop μ-loop
-same-length-4 c = c .before .before .before .before .before .before .before .before .before .loop
-    .inv .3
+same-length-4 c =
+    c .before .before .before .before .before .before .before .before .before .loop .inv .3
 
 same-length-5 : tie.Need-same-length-5 Inv-loop μ-loop
-same-length-5 c = c .before .before .before .before .before .before .before .before .before .loop
-    .inv .4
+same-length-5 c =
+    c .before .before .before .before .before .before .before .before .before .loop .inv .4
 
 same-length-6 : tie.Need-same-length-6 Inv-loop μ-loop
-same-length-6 c = c .before .before .before .before .before .before .before .before .before .loop
-    .inv .5
+same-length-6 c =
+    c .before .before .before .before .before .before .before .before .before .loop .inv .5
 
 returns : tie.Need-returns Inv-loop μ-loop
 returns c = tt
 
 loop-again : tie.Need-loop-again Inv-loop μ-loop
-loop-again c = (
-  c .before .before .before .before .before .before .before .before .before .before .before
-      .before .before .before .before .before .before .before .before .before .before .before
-      .before .read .kept .1 .0 ∙ c .before .before .before .before .before .before .before
-      .before .before .before .before .before .before .before .before .before .before .before
-      .before .before .before .before .before .before .before .before .loop .inv .0,
-  c .before .before .before .before .before .before .before .before .before .before .take-piece
-      .kept .1 .0 ∙ c .before .before .before .before .before .before .before .before .before
-      .before .before .before .before .before .before .before .before .before .before .before
-      .before .before .before .before .before .before .loop .inv .1,
-  c .before .before .before .before .before .before .before .before .before .before .take-piece
-      .kept .1 .1 .1 .0 ∙ c .before .before .before .before .before .before .before .before
-      .before .before .before .before .before .before .before .before .before .before .before
-      .before .before .before .before .before .before .before .loop .inv .2,
-  c .before .before .before .before .before .before .before .before .before .before .take-piece
-      .kept .1 .1 .1 .1 .0 ∙ c .before .before .before .before .before .before .before .before
-      .before .before .before .before .before .before .before .before .before .before .before
-      .before .before .before .before .before .before .before .loop .inv .3,
-  c .before .before .before .before .before .before .before .before .before .before .take-piece
-      .kept .1 .1 .1 .1 .1 .0 ∙ c .before .before .before .before .before .before .before .before
-      .before .before .before .before .before .before .before .before .before .before .before
-      .before .before .before .before .before .before .before .loop .inv .4,
-  c .before .before .before .before .before .before .before .before .before .before .take-piece
-      .kept .1 .1 .1 .1 .1 .1 .0 ∙ c .before .before .before .before .before .before .before
-      .before .before .before .before .before .before .before .before .before .before .before
-      .before .before .before .before .before .before .before .before .loop .inv .5,
-)
+loop-again c =
+    let took = c .before .before .before .before .before .before .before .before .before .before in
+    let lent = took .before .before .before .before .before .before in
+    let at-read = lent .before .before .before .before .before .before .before in
+    let at-loop = at-read .before .before .before in (
+      at-read .read .kept .1 .0 ∙ at-loop .loop .inv .0,
+      took .take-piece .kept .1 .0 ∙ at-loop .loop .inv .1,
+      took .take-piece .kept .1 .1 .1 .0 ∙ at-loop .loop .inv .2,
+      took .take-piece .kept .1 .1 .1 .1 .0 ∙ at-loop .loop .inv .3,
+      took .take-piece .kept .1 .1 .1 .1 .1 .0 ∙ at-loop .loop .inv .4,
+      took .take-piece .kept .1 .1 .1 .1 .1 .1 .0 ∙ at-loop .loop .inv .5,
+    )
 
 same-length-7 : tie.Need-same-length-7 Inv-loop μ-loop
 same-length-7 c = c .before .loop .inv .0

@@ -33,56 +33,38 @@ part-hold-end : tie.Need-part-hold-end Inv-loop μ-loop
 part-hold-end c = omega (arith, c .before .find .ensures .0, c .before .find .ensures .1)
 
 end-line-requires : tie.Need-end-line-requires Inv-loop μ-loop
-end-line-requires c κs = omega (
-  arith,
-  held-inside (c .before .before .before .before .before
-      .before .before .hold .ensures),
-  c .before .before .before .before .before .before .before
-      .hold .kept .0,
-)
+end-line-requires c κs =
+    let at-hold = c .before .before .before .before .before .before .before in
+    omega (arith, held-inside (at-hold .hold .ensures), at-hold .hold .kept .0)
 
 add-i : tie.Need-add-i Inv-loop μ-loop
-add-i c = omega (
-  arith,
-  c .before .before .before .before .before .before .before .before .before
-      .before .before .before .before .before .before .before .before .before .before .find .ensures
-      .1,
-)
+add-i c =
+    let found =
+    (let at-end-line = c .before .before .before .before .before .before .before .before in
+    let at-hold = at-end-line .before .before .before .before .before .before .before .before in
+    at-hold .before .before .before .find .ensures .1) in
+    omega (arith, found)
 
 loop-less : tie.Need-loop-less Inv-loop μ-loop
-loop-less c = omega (
-  arith,
-  c .before .before .before .before .before .before .before .before
-      .before .before .before .before .before .before .before .before .before .before .before .find
-      .ensures .0,
-)
+loop-less c =
+    let at-end-line = c .before .before .before .before .before .before .before .before in
+    let at-hold = at-end-line .before .before .before .before .before .before .before .before in
+    let at-find = at-hold .before .before .before in
+    omega (arith, at-find .find .ensures .0)
 
 loop-again : tie.Need-loop-again Inv-loop μ-loop
-loop-again c = (
-  omega (
-    arith,
-    c .before .before .before .before .before .before .before .before .before .before
-        .before .before .before .before .before .before .before .before .before .find .ensures .1,
-  ),
-  c .before .before .before .before .before .before .before .before .before .before .before .before
-      .before .before .before .before .hold .kept .0 ∙ c .before .before .before .before .before
-      .before .before .before .before .before .before .before .before .before .before .before
-      .before .before .before .before .before .loop .inv .1,
-  c .before .before .before .before .before .before .before .before .end-line .kept .1 .1 .1 .0 ∙ c
-      .before .before .before .before .before .before .before .before .before .before .before
-      .before .before .before .before .before .before .before .before .before .before .loop .inv .2,
-  c .before .before .before .before .before .before .before .before .end-line .kept .1 .1 .1 .1 .0
-      ∙ c .before .before .before .before .before .before .before .before .before .before .before
-      .before .before .before .before .before .before .before .before .before .before .loop .inv .3,
-  c .before .before .before .before .before .before .before .before .end-line .kept .1 .1 .1 .1 .1
-      .0 ∙ c .before .before .before .before .before .before .before .before .before .before
-      .before .before .before .before .before .before .before .before .before .before .before .loop
-      .inv .4,
-  c .before .before .before .before .before .before .before .before .end-line .kept .1 .1 .1 .1 .1
-      .1 .0 ∙ c .before .before .before .before .before .before .before .before .before .before
-      .before .before .before .before .before .before .before .before .before .before .before .loop
-      .inv .5,
-)
+loop-again c =
+    let at-end-line = c .before .before .before .before .before .before .before .before in
+    let at-hold = at-end-line .before .before .before .before .before .before .before .before in
+    let at-find = at-hold .before .before .before in
+    let at-loop = at-find .before .before in (
+      omega (arith, at-find .find .ensures .1),
+      at-hold .hold .kept .0 ∙ at-loop .loop .inv .1,
+      at-end-line .end-line .kept .1 .1 .1 .0 ∙ at-loop .loop .inv .2,
+      at-end-line .end-line .kept .1 .1 .1 .1 .0 ∙ at-loop .loop .inv .3,
+      at-end-line .end-line .kept .1 .1 .1 .1 .1 .0 ∙ at-loop .loop .inv .4,
+      at-end-line .end-line .kept .1 .1 .1 .1 .1 .1 .0 ∙ at-loop .loop .inv .5,
+    )
 
 same-length : tie.Need-same-length Inv-loop μ-loop
 same-length c = c .before .loop .inv .1

@@ -1,5 +1,6 @@
 -- `answer::ask::ask` meets its contract.
-use Rattle.answer.proofs.AskLaws.{found-is, no-space-asks-nothing, not-served-asks-nothing, rest-all, asked-so}
+use Rattle.answer.proofs.AskLaws.{found-is, no-space-asks-nothing, not-served-asks-nothing}
+use Rattle.answer.proofs.AskLaws.{rest-all, asked-so}
 use Prim.Native.Nat.{_+_, _-_}
 use mathlib.Core.Path.{sym, _∙_}
 use native.Mathlib.Omega.{arith}
@@ -14,38 +15,32 @@ returns c = no-space-asks-nothing _ _ _ (found-is _ _ (c .before .find .ensures 
 
 returns-2 : tie.Need-returns-2
 returns-2 c =
-    let line = (c .before .before .before .before .before .before .before .before) .args .line .now
-    in
-    let e = c .before .before .before .before .before .find .result in
-    not-served-asks-nothing _ _ _ _ _ (found-is _ _ (c .before .before .before .before .before
-    .find .ensures .0))
-    (rest-all line e (length line - (e + 1)) (omega arith))
-    (c .before .before .read-line .ensures) (sym (c .before .serves .ensures) ∙ not-true (c .before
-    .serves .result) (c .if2 .taken))
+    let at-read-line = c .before .before in
+    let at-find = at-read-line .before .before .before in
+    let start = at-find .before .before .before in
+    let line = start .args .line .now in
+    let e = at-find .find .result in
+    not-served-asks-nothing _ _ _ _ _ (found-is _ _ (at-find .find .ensures .0))
+    (rest-all line e (length line - (e + 1)) (omega arith)) (at-read-line .read-line .ensures)
+    (sym (c .before .serves .ensures) ∙ not-true (c .before .serves .result) (c .if2 .taken))
 
 returns-3 : tie.Need-returns-3
 returns-3 c =
-    let line = (c .before .before .before .before .before .before .before .before .before .before
-    .before .before .before .before) .args .line .now in
-    let e = c .before .before .before .before .before .before .before .before .before .before
-    .before .find .result in
-    asked-so line ((c .before .before .before .before .before .before .before .before .before
-    .before .before .before .before .before) .args .image .now) _ e (e - 0) (length line - (e +
-    1)) (found-is _ _ (c .before .before .before .before .before .before .before .before
-    .before .before .before .find .ensures .0)) (omega (
-      arith,
-      c .before .before .before
-          .before .before .before .before .before .before .before .before .find .ensures .1,
-      c
-          .before .before .before .before .before .before .before .before .before .before .if1
-          .left,
-    )) (omega arith) (omega arith) (c .before .before .before .before .before .before
-    .before .before .read-line .ensures) (sym (c .before .before .before .before .before
-    .before .before .serves .ensures) ∙ not-false (c .before .before .before .before .before
-    .before .before .serves .result) (c .before .before .before .before .before .before .if2
-    .left)) (c .before .before .before .before .before .before .before .before .before .before
-    .before .before .before .before .pre) (c .before .before .before .read-hex .ensures) (c
-    .found .ensures)
+    let at-read-hex = c .before .before .before in
+    let at-if2 = at-read-hex .before .before .before in
+    let at-serves = at-if2 .before in
+    let at-read-line = at-serves .before in
+    let at-if1 = at-read-line .before .before in
+    let at-find = at-if1 .before in
+    let start = at-find .before .before .before in
+    let line = start .args .line .now in
+    let e = at-find .find .result in
+    asked-so line (start .args .image .now) _ e (e - 0) (length line - (e + 1))
+    (found-is _ _ (at-find .find .ensures .0))
+    (omega (arith, at-find .find .ensures .1, at-if1 .if1 .left)) (omega arith) (omega arith)
+    (at-read-line .read-line .ensures)
+    (sym (at-serves .serves .ensures) ∙ not-false (at-serves .serves .result) (at-if2 .if2 .left))
+    (start .pre) (at-read-hex .read-hex .ensures) (c .found .ensures)
 
 pub ask-spec : {M : Type 1} → statement M
 ask-spec =

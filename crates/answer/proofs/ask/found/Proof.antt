@@ -6,8 +6,7 @@ use Rattle.answer.proofs.ask.found.Statement.{statement}
 use Rattle.answer.proofs.ask.found.Tie as tie
 
 returns : tie.Need-returns
-returns c = ap (λ h. askedOf h ((c .before .before .before) .args .l)) (sym (c .before .h .given
-    .1))
+returns c = ap (λ h. askedOf h (c .before .before .before .args .l)) (sym (c .before .h .given .1))
 
 returns-2 : tie.Need-returns-2
 returns-2 c = ap (λ h. askedOf h ((c .before .before) .args .l)) (sym (c .enum-told .given .1))

@@ -17,65 +17,57 @@ abbrev μ-loop : tie.MeasureT-loop
 μ-loop line₀ len piece n m j₀ line j = m - j
 
 loop-holds : tie.Need-loop-holds Inv-loop μ-loop
-loop-holds c = (
-  omega arith,
-  refl,
-  paste-zero ((c .before .before .before .before) .args .line
-      .now) (c .before .least .result) ((c .before .before .before .before) .args .piece .now),
-)
+loop-holds c =
+    let start = c .before .before .before .before in (
+      omega arith,
+      refl,
+      paste-zero (start .args .line .now) (c .before .least .result) (start .args .piece .now),
+    )
 
 shared-slice-read-line : tie.Need-shared-slice-read-line Inv-loop μ-loop
 shared-slice-read-line c = omega (arith, c .before .before .before .least2 .ensures)
 
 add-line : tie.Need-add-line Inv-loop μ-loop
-add-line c = omega (
-  arith,
-  c .before .before .before .before .least .ensures,
-  c .before .before
-      .before .least2 .ensures,
-)
+add-line c =
+    let at-least2 = c .before .before .before in
+    let at-least = at-least2 .before in
+    omega (arith, at-least .least .ensures, at-least2 .least2 .ensures)
 
 slice-write-line : tie.Need-slice-write-line Inv-loop μ-loop
-slice-write-line c = omega (
-  arith,
-  c .before .before .before .before .least .ensures,
-  c .before
-      .before .before .least2 .ensures,
-)
+slice-write-line c =
+    let at-least2 = c .before .before .before in
+    let at-least = at-least2 .before in
+    omega (arith, at-least .least .ensures, at-least2 .least2 .ensures)
 
 loop-again : tie.Need-loop-again Inv-loop μ-loop
-loop-again c = (
-  omega arith,
-  length-set (c .before .before .loop .line) _ _ ∙ c .before .before .loop .inv .1,
-  copied-more ((c .before .before .before .before .before .before .before) .args .line .now) ((c
-      .before .before .before .before .before .before .before) .args .piece .now) _ (c .before
-      .before .before .before .least .result) (c .before .before .loop .j) (omega (
-        arith,
-        c .before
-            .before .before .before .least .ensures,
-        c .before .before .before .least2 .ensures,
-      )) (omega
-      (arith, c .before .before .before .least2 .ensures)) (c .before .before .loop .inv .2),
-)
+loop-again c =
+    let at-loop = c .before .before in
+    let at-least2 = at-loop .before in
+    let at-least = at-least2 .before in
+    let start = at-least .before .before .before in (
+      omega arith,
+      length-set (at-loop .loop .line) _ _ ∙ at-loop .loop .inv .1,
+      copied-more (start .args .line .now) (start .args .piece .now) _ (at-least .least .result)
+          (at-loop .loop .j) (omega (arith, at-least .least .ensures, at-least2 .least2 .ensures))
+          (omega (arith, at-least2 .least2 .ensures)) (at-loop .loop .inv .2),
+    )
 
 add-result : tie.Need-add-result Inv-loop μ-loop
-add-result c = omega (
-  arith,
-  c .before .before .before .least .ensures,
-  c .before .before .least2
-      .ensures,
-)
+add-result c =
+    omega (arith, c .before .before .before .least .ensures, c .before .before .least2 .ensures)
 
 same-length : tie.Need-same-length Inv-loop μ-loop
 same-length c = c .before .loop .inv .1
 
 returns : tie.Need-returns Inv-loop μ-loop
-returns c = kept-is ((c .before .before .before .before .before .before) .args .line .now) ((c
-    .before .before .before .before .before .before) .args .piece .now) _ ((c .before .before
-    .before .before .before .before) .args .len) (c .before .before .before .least .result) (c
-    .before .before .least2 .result) (c .before .loop .j) (c .before .before .before .least
-    .ensures) (c .before .before .least2 .ensures) (c .loop-test .left) (c .before .loop .inv .0)
-    (c .before .loop .inv .2)
+returns c =
+    let at-least2 = c .before .before in
+    let at-least = at-least2 .before in
+    let start = at-least .before .before .before in
+    kept-is (start .args .line .now) (start .args .piece .now) _ (start .args .len)
+    (at-least .least .result) (at-least2 .least2 .result) (c .before .loop .j)
+    (at-least .least .ensures) (at-least2 .least2 .ensures) (c .loop-test .left)
+    (c .before .loop .inv .0) (c .before .loop .inv .2)
 
 pub hold-spec : {M : Type 1} → statement M
 hold-spec =

@@ -9,12 +9,15 @@ returns : tie.Need-returns
 returns c = unasked (c .enum-told .given .1) refl (c .before .before .before .before .pre)
 
 returns-2 : tie.Need-returns-2
-returns-2 c = stepped (c .before .before .before .before .before .before .before .before .l .given
-    .1) (c .before .before .before .before .step-formed .ensures)
+returns-2 c =
+    stepped (c .before .before .before .before .before .before .before .before .l .given .1)
+    (c .before .before .before .before .step-formed .ensures)
 
 returns-3 : tie.Need-returns-3
-returns-3 c = held (c .before .before .before .before .l2 .given .1) (c .before .before .before
-    .before .before .before .before .before .pre) (c .holds-formed .ensures)
+returns-3 c =
+    let at-l2 = c .before .before .before .before in
+    let start = at-l2 .before .before .before .before in
+    held (at-l2 .l2 .given .1) (start .pre) (c .holds-formed .ensures)
 
 returns-4 : tie.Need-returns-4
 returns-4 c = unasked (c .enum-told2 .given .1) refl (c .before .before .before .before .pre)

@@ -5,8 +5,9 @@ use Rattle.answer.proofs.tell.put_discarded.Statement.{statement}
 use Rattle.answer.proofs.tell.put_discarded.Tie as tie
 
 returns : tie.Need-returns
-returns c = then (c .before .before .before .before .before .before .put-bytes .ensures) (c .before
-    .before .put-cause .ensures)
+returns c =
+    then (c .before .before .before .before .before .before .put-bytes .ensures)
+    (c .before .before .put-cause .ensures)
 
 pub put-discarded-spec : {M : Type 1} → statement M
 put-discarded-spec =

@@ -7,11 +7,15 @@ use Rattle.answer.proofs.tell.put_image.Statement.{statement}
 use Rattle.answer.proofs.tell.put_image.Tie as tie
 
 returns : tie.Need-returns
-returns c = at-most (omega arith) (spelled (image-text _ _ (c .before .before .before .before
-    .before .before .before .before .before .before .before .before .before .before .pre .1)) (then
-    (c .before .before .before .before .before .before .before .before .before .before .put-word
-    .ensures) (then (c .before .before .before .before .before .before .put-hex .ensures) (c
-    .before .before .put-byte .ensures))))
+returns c =
+    let at-put-byte = c .before .before in
+    let at-put-hex = at-put-byte .before .before .before .before in
+    let at-put-word = at-put-hex .before .before .before .before in
+    let start = at-put-word .before .before .before .before in
+    at-most (omega arith)
+    (spelled (image-text _ _ (start .pre .1))
+    (then (at-put-word .put-word .ensures)
+    (then (at-put-hex .put-hex .ensures) (at-put-byte .put-byte .ensures))))
 
 pub put-image-spec : {M : Type 1} → statement M
 put-image-spec =

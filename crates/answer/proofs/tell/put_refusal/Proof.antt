@@ -8,12 +8,17 @@ use Rattle.answer.proofs.tell.put_refusal.Statement.{statement}
 use Rattle.answer.proofs.tell.put_refusal.Tie as tie
 
 returns : tie.Need-returns
-returns c = spelled (refusal-text _ _ (c .before .before .before .before .before .before .before
-    .before .before .before .before .before .before .before .pre .1)) (then (c .before .before
-    .before .before .before .before .before .before .before .before .before .put-word .ensures)
-    (then (spelled (ap decimal (c .before .before .before .before .before .before .before .before
-    .answer-number .ensures)) (c .before .before .before .before .before .before .put-decimal
-    .ensures)) (c .before .before .put-byte .ensures)))
+returns c =
+    let at-put-byte = c .before .before in
+    let at-put-decimal = at-put-byte .before .before .before .before in
+    let at-answer-number = at-put-decimal .before .before in
+    let at-put-word = at-answer-number .before .before .before in
+    let start = at-put-word .before .before .before in
+    spelled (refusal-text _ _ (start .pre .1))
+    (then (at-put-word .put-word .ensures)
+    (then
+    (spelled (ap decimal (at-answer-number .answer-number .ensures))
+    (at-put-decimal .put-decimal .ensures)) (at-put-byte .put-byte .ensures)))
 
 pub put-refusal-spec : {M : Type 1} → statement M
 put-refusal-spec =

@@ -14,8 +14,9 @@ returns-2 c = word-wrote (c .before .before .before .before .before .enum-told2 
     arith) (c .before .before .put-bytes2 .ensures)
 
 returns-3 : tie.Need-returns-3
-returns-3 c = word-wrote (c .before .before .before .before .before .a .given .1) (omega arith) (c
-    .before .before .put-discarded .ensures)
+returns-3 c =
+    word-wrote (c .before .before .before .before .before .a .given .1) (omega arith)
+    (c .before .before .put-discarded .ensures)
 
 returns-4 : tie.Need-returns-4
 returns-4 c = word-wrote (c .before .before .before .before .before .enum-told3 .given .1) (omega
