@@ -77,5 +77,16 @@ use Rattle.trace.specs.Replay.{lineText, lineNext, replay}
 use Rattle.starred.specs.Table.{stars, starBytes, told}
 
 pub starred : each told stars ≡ true
-unfolding stars starBytes ones onesIn pick all each every tally sizesForm proper recordForm bit joined without digit has setForm fullSet inState inPhase newPn firstCause unless settled others isHeld underOf tookKept tookBook cleared noted heard behind lagging improves bettered raised counted uncounted answered lastVerdict onLast unagreedOf onCollect beginVerdict onBegin acceptVerdict onAccept onCommit onLease ofKind onMail elected canRecover recover canCollect bestHeld collect started leased canReady hasPrevious ready canOffer offer canPropose propose canAgree agree canFinish finish acted heldAt written enclosed freshHead fresh posted room countForm peerForm formBox formKind formLetter formLink form ruled byAnswer delivered elect presented step agreedAs holds decimalOf spaced doneText refusedText starts wordOf grown finished byteRead bytesRead lineOf readLine linesFrom texts traceSizes opened played judged upTo toldText toldNext lineText lineNext replay le chain numbersFrom boxesOf bySender linksOf generalBody boxBody letterBytes linkBytes mailBody bodies contents tableOf imageOf
+unfolding stars starBytes ones onesIn pick all each every tally sizesForm proper recordForm bit
+    joined without digit has setForm fullSet inState inPhase newPn firstCause unless settled others
+    isHeld underOf tookKept tookBook cleared noted heard behind lagging improves bettered raised
+    counted uncounted answered lastVerdict onLast unagreedOf onCollect beginVerdict onBegin
+    acceptVerdict onAccept onCommit onLease ofKind onMail elected canRecover recover canCollect
+    bestHeld collect started leased canReady hasPrevious ready canOffer offer canPropose propose
+    canAgree agree canFinish finish acted heldAt written enclosed freshHead fresh posted room
+    countForm peerForm formBox formKind formLetter formLink form ruled byAnswer delivered elect
+    presented step agreedAs holds decimalOf spaced doneText refusedText starts wordOf grown finished
+    byteRead bytesRead lineOf readLine linesFrom texts traceSizes opened played judged upTo toldText
+    toldNext lineText lineNext replay le chain numbersFrom boxesOf bySender linksOf generalBody
+    boxBody letterBytes linkBytes mailBody bodies contents tableOf imageOf
 starred = refl

@@ -13,8 +13,8 @@ use crate::spots;
 use lines::Line;
 use std::num::wrapping_add_usize;
 
-// What a line is. Told: text, or so many words that are lent from now on. Put: a word is put. See: a
-// box or a link is shown. Own: an event at a box by itself. Trace: a line of the paper's trace.
+// What a line is. Told: text, or so many words that are lent from now on. Put: a word is put. See:
+// a box or a link is shown. Own: an event at a box by itself. Trace: a line of the paper's trace.
 enum Kind {
     Told(Told),
     Put(Put),
