@@ -76,8 +76,11 @@ since-fed {input} {output} {f} {xs} {ls} {piece} {xs'} {ls'} {before} {after} {g
           ∙ (ap (λ (q : Feeding Course). feedNext courseNext q p) (w .next)
           ∙ sym (next-append courseNext courseText s input p));
       text =
-          ap (λ (t : List ℕ). output ++ t) (front before after _ (g .at) (v .bytes) (v .end) (v .fits))
-          ∙ (ap (λ (t : List ℕ). t ++ feedText courseNext courseText (feedingOf f xs ls) p) (w .text)
+          ap (λ (t : List ℕ). output ++ t)
+          (front before after _ (g .at) (v .bytes) (v .end) (v .fits))
+          ∙ (ap
+          (λ (t : List ℕ). t ++ feedText courseNext courseText (feedingOf f xs ls) p)
+          (w .text)
           ∙ (ap
           (λ (q : Feeding Course).
           feedText courseNext courseText s input ++ feedText courseNext courseText q p)
@@ -133,7 +136,8 @@ whole = record {
       let t = endText courseText (feedingOf f xs ls) in
       let room = end-room before (subst (λ (b : Answer). isRefusal b ≡ false) (v .answer) a) in
       ap (λ (u : List ℕ). output ++ u)
-      (front before after t (e .at) (s .bytes) (omega (arith, s .end)) (omega (arith, s .few, s .room, room)))
+      (front before after t (e .at) (s .bytes) (omega (arith, s .end))
+      (omega (arith, s .few, s .room, room)))
       ∙ (ap (λ (u : List ℕ). u ++ t) (z .text)
       ∙ (ap
       (λ (q : Feeding Course).

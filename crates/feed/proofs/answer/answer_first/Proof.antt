@@ -7,7 +7,10 @@ use Rattle.feed.proofs.answer.answer_first.Statement.{statement}
 use Rattle.feed.proofs.answer.answer_first.Tie as tie
 
 returns : tie.Need-returns
-returns c = open-first _ _ _ _ (c .before .before .before .before .before .before .before .before .line .given .1) (c .before .before .before .before .open-site .ensures)
+returns c =
+    let at-open-site = c .before .before .before .before in
+    let at-line = at-open-site .before .before .before .before in
+    open-first _ _ _ _ (at-line .line .given .1) (at-open-site .open-site .ensures)
 
 returns-2 : tie.Need-returns-2
 returns-2 c = other-first _ _ _ (ap opens (c .enum-told .given .1))

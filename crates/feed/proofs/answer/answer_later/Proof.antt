@@ -13,10 +13,20 @@ returns-2 : tie.Need-returns-2
 returns-2 c = misplaced _ _ _ (c .before .before .if1 .left) _ (ap plays (c .enum-told .given .1))
 
 returns-3 : tie.Need-returns-3
-returns-3 c = called _ _ _ (c .before .before .before .before .before .before .before .before .before .before .if1 .left) _ _ _ _ _ (c .before .before .before .before .before .before .before .before .line .given .1) (c .before .before .before .before .step-formed .ensures)
+returns-3 c =
+    let at-step-formed = c .before .before .before .before in
+    let at-line = at-step-formed .before .before .before .before in
+    let at-if1 = at-line .before .before in
+    called _ _ _ (at-if1 .if1 .left) _ _ _ _ _ (at-line .line .given .1)
+    (at-step-formed .step-formed .ensures)
 
 returns-4 : tie.Need-returns-4
-returns-4 c = asked _ _ _ (c .before .before .before .before .before .before .if1 .left) _ _ _ _ _ _ (c .before .before .before .before .line2 .given .1) (c .holds-formed .ensures) ((c .before .before .before .before .before .before .before .before .before) .pre)
+returns-4 c =
+    let at-line2 = c .before .before .before .before in
+    let at-if1 = at-line2 .before .before in
+    let start = at-if1 .before .before .before in
+    asked _ _ _ (at-if1 .if1 .left) _ _ _ _ _ _ (at-line2 .line2 .given .1)
+    (c .holds-formed .ensures) (start .pre)
 
 returns-5 : tie.Need-returns-5
 returns-5 c = misplaced _ _ _ (c .before .before .if1 .left) _ (ap plays (c .enum-told2 .given .1))

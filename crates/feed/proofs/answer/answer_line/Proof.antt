@@ -6,10 +6,17 @@ use Rattle.feed.proofs.answer.answer_line.Statement.{statement}
 use Rattle.feed.proofs.answer.answer_line.Tie as tie
 
 answer-requires : tie.Need-answer-requires
-answer-requires c κs = ((c .before .before .before .before .before .before .before .before) .pre .2, lent-as (sym (c .before .before .before .keep .ensures .stage)) ((c .before .before .before .before .before .before .before .before) .pre .3))
+answer-requires c κs =
+    let at-keep = c .before .before .before in
+    let start = at-keep .before .before .before .before .before in
+    (start .pre .2, lent-as (sym (at-keep .keep .ensures .stage)) (start .pre .3))
 
 returns : tie.Need-returns
-returns c = line-turn ((c .before .before .before .before .before .before .before .before .before .before .before .before .before .before .before) .args .f) _ _ _ _ _ _ _ (c .before .before .before .before .before .before .before .before .before .before .keep .ensures) (c .before .before .before .before .before .before .answer .ensures)
+returns c =
+    let at-answer = c .before .before .before .before .before .before in
+    let at-keep = at-answer .before .before .before .before in
+    let start = at-keep .before .before .before .before .before in
+    line-turn (start .args .f) _ _ _ _ _ _ _ (at-keep .keep .ensures) (at-answer .answer .ensures)
 
 pub answer-line-spec : {M : Type 1} → statement M
 answer-line-spec =

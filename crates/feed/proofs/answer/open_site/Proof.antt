@@ -8,7 +8,12 @@ returns : tie.Need-returns
 returns c = open-large _ _ _ _ _ (c .if1 .taken)
 
 returns-2 : tie.Need-returns-2
-returns-2 c = open-made _ _ _ _ _ _ _ _ (c .before .before .before .before .fresh .ensures) (c .before .before .before .before .before .before .before .if1 .left) ((c .before .before .before .before .before .before .before .before .before .before) .pre .0) ((c .before .before .before .before .before .before .before .before .before .before) .pre .1)
+returns-2 c =
+    let at-fresh = c .before .before .before .before in
+    let at-if1 = at-fresh .before .before .before in
+    let start = at-if1 .before .before .before in
+    open-made _ _ _ _ _ _ _ _ (at-fresh .fresh .ensures) (at-if1 .if1 .left) (start .pre .0)
+    (start .pre .1)
 
 pub open-site-spec : {M : Type 1} → statement M
 open-site-spec =

@@ -8,7 +8,9 @@ returns : tie.Need-returns
 returns c = end-short _ _ (c .if1 .taken)
 
 returns-2 : tie.Need-returns-2
-returns-2 c = end-said _ _ _ _ (c .before .before .before .before .if1 .left) (c .before .before .put-end .ensures)
+returns-2 c =
+    end-said _ _ _ _ (c .before .before .before .before .if1 .left)
+    (c .before .before .put-end .ensures)
 
 pub feed-end-spec : {M : Type 1} → statement M
 feed-end-spec =

@@ -7,16 +7,42 @@ use Rattle.feed.proofs.entries.feed_piece.Statement.{statement}
 use Rattle.feed.proofs.entries.feed_piece.Tie as tie
 
 returns : tie.Need-returns
-returns c = not-formed ((c .before .before .before .before .before .before .before .before) .args .f) _ _ _ _ (sym (c .before .is-formed .ensures) ∙ not-true _ (c .if1 .taken))
+returns c =
+    not-formed (c .before .before .before .before .before .before .before .before .args .f) _ _ _ _
+    (sym (c .before .is-formed .ensures) ∙ not-true _ (c .if1 .taken))
 
 returns-2 : tie.Need-returns-2
-returns-2 c = no-room ((c .before .before .before .before .before .before .before .before .before .before) .args .f) _ _ _ _ (sym (c .before .before .before .is-formed .ensures) ∙ not-false _ (c .before .before .if1 .left)) (sym (c .before .has-room .ensures) ∙ not-true _ (c .if2 .taken))
+returns-2 c =
+    let at-if1 = c .before .before in
+    let at-is-formed = at-if1 .before in
+    let start = at-is-formed .before .before .before .before .before .before .before in
+    no-room (start .args .f) _ _ _ _
+    (sym (at-is-formed .is-formed .ensures) ∙ not-false _ (at-if1 .if1 .left))
+    (sym (c .before .has-room .ensures) ∙ not-true _ (c .if2 .taken))
 
 feed-formed-requires : tie.Need-feed-formed-requires
-feed-formed-requires c κs = suits ((c .before .before .before .before .before .before .before .before .before .before .before .before .before) .args .f) ((c .before .before .before .before .before .before .before .before .before .before .before .before .before) .args .piece .now) _ _ ((c .before .before .before .before .before .before .before .before .before .before .before .before .before) .args .out .now) (sym (c .before .before .before .before .before .before .is-formed .ensures) ∙ not-false _ (c .before .before .before .before .before .if1 .left)) (sym (c .before .before .before .before .has-room .ensures) ∙ not-false _ (c .before .before .before .if2 .left))
+feed-formed-requires c κs =
+    let at-if2 = c .before .before .before in
+    let at-has-room = at-if2 .before in
+    let at-if1 = at-has-room .before in
+    let at-is-formed = at-if1 .before in
+    let start = at-is-formed .before .before .before .before .before .before .before in
+    suits (start .args .f) (start .args .piece .now) _ _ (start .args .out .now)
+    (sym (at-is-formed .is-formed .ensures) ∙ not-false _ (at-if1 .if1 .left))
+    (sym (at-has-room .has-room .ensures) ∙ not-false _ (at-if2 .if2 .left))
 
 returns-3 : tie.Need-returns-3
-returns-3 c = well-fed ((c .before .before .before .before .before .before .before .before .before .before .before .before .before .before .before .before .before .before .before .before) .args .f) _ _ _ _ _ _ _ _ (sym (c .before .before .before .before .before .before .before .before .before .before .before .before .before .is-formed .ensures) ∙ not-false _ (c .before .before .before .before .before .before .before .before .before .before .before .before .if1 .left)) (sym (c .before .before .before .before .before .before .before .before .before .before .before .has-room .ensures) ∙ not-false _ (c .before .before .before .before .before .before .before .before .before .before .if2 .left)) (c .before .before .before .before .before .before .feed-formed .ensures)
+returns-3 c =
+    let at-feed-formed = c .before .before .before .before .before .before in
+    let at-if2 = at-feed-formed .before .before .before .before in
+    let at-has-room = at-if2 .before in
+    let at-if1 = at-has-room .before in
+    let at-is-formed = at-if1 .before in
+    let start = at-is-formed .before .before .before .before .before .before .before in
+    well-fed (start .args .f) _ _ _ _ _ _ _ _
+    (sym (at-is-formed .is-formed .ensures) ∙ not-false _ (at-if1 .if1 .left))
+    (sym (at-has-room .has-room .ensures) ∙ not-false _ (at-if2 .if2 .left))
+    (at-feed-formed .feed-formed .ensures)
 
 pub feed-piece-spec : {M : Type 1} → statement M
 feed-piece-spec =

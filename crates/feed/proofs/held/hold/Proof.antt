@@ -31,12 +31,12 @@ least-requires-2 : tie.Need-least-requires-2 Inv-loop μ-loop
 least-requires-2 c κs = search tests
 
 loop-holds : tie.Need-loop-holds Inv-loop μ-loop
-loop-holds c = (
-  omega arith,
-  paste-zero ((c .before .before .before) .args .line) (c .before .least
-      .result) (drop ((c .before .before .before) .args .i) ((c .before .before .before) .args .piece
-      .now)),
-)
+loop-holds c =
+    let start = c .before .before .before in (
+      omega arith,
+      paste-zero (start .args .line) (c .before .least .result)
+          (drop (start .args .i) (start .args .piece .now)),
+    )
 
 add-next : tie.Need-add-next Inv-loop μ-loop
 add-next c = search tests
@@ -57,30 +57,29 @@ loop-less : tie.Need-loop-less Inv-loop μ-loop
 loop-less c = search tests
 
 loop-again : tie.Need-loop-again Inv-loop μ-loop
-loop-again c = (
-  omega arith,
-  copy-more ((c .before .before .before .before .before .before) .args
-      .line) ((c .before .before .before .before .before .before) .args .piece .now) _ (c .before
-      .before .before .before .least .result) ((c .before .before .before .before .before .before)
-      .args .i) (c .before .before .loop .j) (omega (
-        arith,
-        line-length (c .before .before .before
-            .before .before .before),
-        c .before .before .before .before .least .ensures,
-        c .before .before
-            .before .least2 .ensures,
-      )) (omega (arith, c .before .before .before .least2 .ensures)) (c
-      .before .before .loop .inv .1),
-)
+loop-again c =
+    let at-loop = c .before .before in
+    let at-least2 = at-loop .before in
+    let at-least = at-least2 .before in
+    let start = at-least .before .before in (
+      omega arith,
+      copy-more (start .args .line) (start .args .piece .now) _ (at-least .least .result)
+          (start .args .i) (at-loop .loop .j)
+          (omega (arith, line-length start, at-least .least .ensures, at-least2 .least2 .ensures))
+          (omega (arith, at-least2 .least2 .ensures)) (at-loop .loop .inv .1),
+    )
 
 add-t10 : tie.Need-add-t10 Inv-loop μ-loop
 add-t10 c = search tests
 
 returns : tie.Need-returns Inv-loop μ-loop
-returns c = held-end _ _ _ _ _ _ _ _ _ (line-length (c .before .before .before .before .before)) (c
-    .before .before .before .least .ensures) (c .before .before .least2 .ensures) ((c .before
-    .before .before .before .before) .pre .0) ((c .before .before .before .before .before) .pre .1)
-    (c .loop-test .left) (c .before .loop .inv .0) (c .before .loop .inv .1)
+returns c =
+    let at-least2 = c .before .before in
+    let at-least = at-least2 .before in
+    let start = at-least .before .before in
+    held-end _ _ _ _ _ _ _ _ _ (line-length start) (at-least .least .ensures)
+    (at-least2 .least2 .ensures) (start .pre .0) (start .pre .1) (c .loop-test .left)
+    (c .before .loop .inv .0) (c .before .loop .inv .1)
 
 pub hold-spec : {M : Type 1} → statement M
 hold-spec =

@@ -23,13 +23,14 @@ shared-slice-read-if1 : tie.Need-shared-slice-read-if1 Inv-loop μ-loop
 shared-slice-read-if1 c = search tests
 
 returns : tie.Need-returns Inv-loop μ-loop
-returns c = record {
-  from = c .before .before .before .loop .inv .0;
-  to = c .before .before .before
-      .loop .inv .1;
-  plain = c .before .before .before .loop .inv .2;
-  newline = λ h. c .if1 .taken;
-}
+returns c =
+    let at-loop = c .before .before .before in
+    record {
+      from = at-loop .loop .inv .0;
+      to = at-loop .loop .inv .1;
+      plain = at-loop .loop .inv .2;
+      newline = λ h. c .if1 .taken;
+    }
 
 add-e : tie.Need-add-e Inv-loop μ-loop
 add-e c = search tests
@@ -38,19 +39,18 @@ loop-less : tie.Need-loop-less Inv-loop μ-loop
 loop-less c = search tests
 
 loop-again : tie.Need-loop-again Inv-loop μ-loop
-loop-again c = (
-  omega arith,
-  omega arith,
-  plain-more _ _ _ (c .before .before .before .loop .inv
-      .0) (omega arith) (c .before .before .before .loop .inv .2) (c .if1 .left),
-)
+loop-again c =
+    let at-loop = c .before .before .before in (
+      omega arith,
+      omega arith,
+      plain-more _ _ _ (at-loop .loop .inv .0) (omega arith) (at-loop .loop .inv .2) (c .if1 .left),
+    )
 
 returns-2 : tie.Need-returns-2 Inv-loop μ-loop
 returns-2 c = record {
   from = c .before .loop .inv .0;
   to = c .before .loop .inv .1;
-  plain = c
-      .before .loop .inv .2;
+  plain = c .before .loop .inv .2;
   newline = λ h. absurd (omega arith);
 }
 

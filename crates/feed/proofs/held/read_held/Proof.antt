@@ -13,15 +13,15 @@ line-length : (s : tie.Start) → length (s .args .t1) ≡ 65
 line-length s = search tests
 
 slice-aggregate-read-line : tie.Need-slice-aggregate-read-line
-slice-aggregate-read-line c = cut-length _ _ 65 _ (line-length (c .before .before)) (c .before
-    .least .ensures)
+slice-aggregate-read-line c =
+    cut-length _ _ 65 _ (line-length (c .before .before)) (c .before .least .ensures)
 
 returns : tie.Need-returns
-returns c = c .read-line .ensures ∙ ap readLine (cut-take _ _ 65 _ (omega (
-  arith,
-  line-length (c
-      .before .before .before),
-)) (c .before .before .least .ensures))
+returns c =
+    let at-least = c .before .before in
+    let start = at-least .before in
+    c .read-line .ensures
+    ∙ ap readLine (cut-take _ _ 65 _ (omega (arith, line-length start)) (at-least .least .ensures))
 
 pub read-held-spec : {M : Type 1} → statement M
 read-held-spec =

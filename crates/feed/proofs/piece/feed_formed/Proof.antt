@@ -10,7 +10,9 @@ use Rattle.feed.proofs.piece.feed_formed.Statement.{statement}
 use Rattle.feed.proofs.piece.feed_formed.Tie as tie
 
 abbrev Inv-loop : tie.InvT-loop
-Inv-loop piece site₀ links₀ out₀ n g₀ at₀ i₀ e₀ site links out g at i e = (n ≡ length piece) × (length (take (g₀ .len) (g₀ .line)) ≤ 65) × Kept (feedingOf g₀ site₀ links₀) piece site₀ links₀ site links out₀ out n i e g at
+Inv-loop piece site₀ links₀ out₀ n g₀ at₀ i₀ e₀ site links out g at i e =
+    (n ≡ length piece) × (length (take (g₀ .len) (g₀ .line)) ≤ 65)
+    × Kept (feedingOf g₀ site₀ links₀) piece site₀ links₀ site links out₀ out n i e g at
 
 abbrev μ-loop : tie.MeasureT-loop
 μ-loop piece site₀ links₀ out₀ n g₀ at₀ i₀ e₀ site links out g at i e = n - e
@@ -22,28 +24,73 @@ line-end-requires : tie.Need-line-end-requires Inv-loop μ-loop
 line-end-requires c κs = search needs
 
 loop-holds : tie.Need-loop-holds Inv-loop μ-loop
-loop-holds c = (refl, short-held ((c .before .before .before .before .before) .args .f .line) ((c .before .before .before .before .before) .args .f .len) (line-length (c .before .before .before .before .before)), kept-none ((c .before .before .before .before .before) .args .f) _ _ _ _ _ _ (c .line-end .ensures) ((c .before .before .before .before .before) .pre))
+loop-holds c =
+    let start = c .before .before .before .before .before in (
+      refl,
+      short-held (start .args .f .line) (start .args .f .len) (line-length start),
+      kept-none (start .args .f) _ _ _ _ _ _ (c .line-end .ensures) (start .pre),
+    )
 
 sub-loop : tie.Need-sub-loop Inv-loop μ-loop
 sub-loop c = omega (arith, c .loop .inv .2 .wrote .few, c .loop .inv .2 .wrote .room)
 
 answer-line-requires : tie.Need-answer-line-requires Inv-loop μ-loop
-answer-line-requires c κs = let on = goes-on (c .before .before .before .before .loop .e) (length ((c .before .before .before .before .before .before .before .before .before .before) .args .piece .now)) (length (c .before .before .before .before .loop .out) - c .before .before .before .before .loop .at) (c .before .before .before .loop-test .taken) in (c .before .before .before .before .loop .inv .2 .end .from, omega (arith, c .before .before .before .before .loop .inv .0, c .before .before .before .before .loop .inv .2 .end .to), omega (arith, on .1), c .before .before .before .before .loop .inv .2 .lent)
+answer-line-requires c κs =
+    let at-loop-test = c .before .before .before in
+    let at-loop = at-loop-test .before in
+    let start = at-loop .before .before .before .before .before .before in
+    let on = goes-on (at-loop .loop .e) (length (start .args .piece .now))
+    (length (at-loop .loop .out) - at-loop .loop .at) (at-loop-test .loop-test .taken) in (
+      at-loop .loop .inv .2 .end .from,
+      omega (arith, at-loop .loop .inv .0, at-loop .loop .inv .2 .end .to),
+      omega (arith, on .1),
+      at-loop .loop .inv .2 .lent,
+    )
 
 add-i : tie.Need-add-i Inv-loop μ-loop
 add-i c = search needs
 
 line-end-requires-2 : tie.Need-line-end-requires-2 Inv-loop μ-loop
-line-end-requires-2 c κs = let on = goes-on (c .before .before .before .before .before .before .before .before .before .before .before .before .loop .e) (length ((c .before .before .before .before .before .before .before .before .before .before .before .before .before .before .before .before .before .before) .args .piece .now)) (length (c .before .before .before .before .before .before .before .before .before .before .before .before .loop .out) - c .before .before .before .before .before .before .before .before .before .before .before .before .loop .at) (c .before .before .before .before .before .before .before .before .before .before .before .loop-test .taken) in (omega (arith, on .0), omega (arith, c .before .before .before .before .before .before .before .before .before .before .before .before .loop .inv .0))
+line-end-requires-2 c κs =
+    let at-answer-line = c .before .before .before .before .before .before .before in
+    let at-loop-test = at-answer-line .before .before .before .before in
+    let at-loop = at-loop-test .before in
+    let start = at-loop .before .before .before .before .before .before in
+    let on = goes-on (at-loop .loop .e) (length (start .args .piece .now))
+    (length (at-loop .loop .out) - at-loop .loop .at) (at-loop-test .loop-test .taken) in
+    (omega (arith, on .0), omega (arith, at-loop .loop .inv .0))
 
 loop-less : tie.Need-loop-less Inv-loop μ-loop
-loop-less c = let on = goes-on (c .before .before .before .before .before .before .before .before .before .before .before .before .before .loop .e) (length ((c .before .before .before .before .before .before .before .before .before .before .before .before .before .before .before .before .before .before .before) .args .piece .now)) (length (c .before .before .before .before .before .before .before .before .before .before .before .before .before .loop .out) - c .before .before .before .before .before .before .before .before .before .before .before .before .before .loop .at) (c .before .before .before .before .before .before .before .before .before .before .before .before .loop-test .taken) in omega (arith, on .0, c .line-end2 .ensures .from, c .line-end2 .ensures .to)
+loop-less c =
+    let at-answer-line = c .before .before .before .before .before .before .before .before in
+    let at-loop-test = at-answer-line .before .before .before .before in
+    let at-loop = at-loop-test .before in
+    let start = at-loop .before .before .before .before .before .before in
+    let on = goes-on (at-loop .loop .e) (length (start .args .piece .now))
+    (length (at-loop .loop .out) - at-loop .loop .at) (at-loop-test .loop-test .taken) in
+    omega (arith, on .0, c .line-end2 .ensures .from, c .line-end2 .ensures .to)
 
 loop-again : tie.Need-loop-again Inv-loop μ-loop
-loop-again c = let on = goes-on (c .before .before .before .before .before .before .before .before .before .before .before .before .before .loop .e) (length ((c .before .before .before .before .before .before .before .before .before .before .before .before .before .before .before .before .before .before .before) .args .piece .now)) (length (c .before .before .before .before .before .before .before .before .before .before .before .before .before .loop .out) - c .before .before .before .before .before .before .before .before .before .before .before .before .before .loop .at) (c .before .before .before .before .before .before .before .before .before .before .before .before .loop-test .taken) in (c .before .before .before .before .before .before .before .before .before .before .before .before .before .loop .inv .0, c .before .before .before .before .before .before .before .before .before .before .before .before .before .loop .inv .1, kept-more _ _ _ _ _ _ _ _ _ _ _ _ _ (c .before .before .before .before .before .before .before .before .answer-line .result) (c .before .before .before .before .before .before .before .before .before .before .before .before .before .loop .inv .1) (c .before .before .before .before .before .before .before .before .before .before .before .before .before .loop .inv .0) (on .0) (omega (arith, on .1, c .before .before .before .before .before .before .before .before .before .before .before .before .before .loop .inv .2 .wrote .room)) (c .before .before .before .before .before .before .before .before .before .before .before .before .before .loop .inv .2) (c .before .before .before .before .before .before .before .before .answer-line .ensures) (c .line-end2 .ensures))
+loop-again c =
+    let at-answer-line = c .before .before .before .before .before .before .before .before in
+    let at-loop-test = at-answer-line .before .before .before .before in
+    let at-loop = at-loop-test .before in
+    let start = at-loop .before .before .before .before .before .before in
+    let on = goes-on (at-loop .loop .e) (length (start .args .piece .now))
+    (length (at-loop .loop .out) - at-loop .loop .at) (at-loop-test .loop-test .taken) in (
+      at-loop .loop .inv .0,
+      at-loop .loop .inv .1,
+      kept-more _ _ _ _ _ _ _ _ _ _ _ _ _ (at-answer-line .answer-line .result)
+          (at-loop .loop .inv .1) (at-loop .loop .inv .0) (on .0)
+          (omega (arith, on .1, at-loop .loop .inv .2 .wrote .room)) (at-loop .loop .inv .2)
+          (at-answer-line .answer-line .ensures) (c .line-end2 .ensures),
+    )
 
 keep-requires : tie.Need-keep-requires Inv-loop μ-loop
-keep-requires c κs = (c .before .loop .inv .2 .end .from, omega (arith, c .before .loop .inv .0, c .before .loop .inv .2 .end .to))
+keep-requires c κs = (
+  c .before .loop .inv .2 .end .from,
+  omega (arith, c .before .loop .inv .0, c .before .loop .inv .2 .end .to),
+)
 
 same-length : tie.Need-same-length Inv-loop μ-loop
 same-length c = c .before .before .loop .inv .2 .site
@@ -55,7 +102,10 @@ same-length-3 : tie.Need-same-length-3 Inv-loop μ-loop
 same-length-3 c = c .before .before .loop .inv .2 .wrote .room
 
 returns : tie.Need-returns Inv-loop μ-loop
-returns c = kept-all _ _ _ _ _ _ _ _ _ _ _ (c .before .before .loop .inv .1) (c .before .before .loop .inv .0) (c .before .loop-test .left) (c .before .before .loop .inv .2) (c .keep .ensures)
+returns c =
+    let at-loop = c .before .before in
+    kept-all _ _ _ _ _ _ _ _ _ _ _ (at-loop .loop .inv .1) (at-loop .loop .inv .0)
+    (c .before .loop-test .left) (at-loop .loop .inv .2) (c .keep .ensures)
 
 pub feed-formed-spec : {M : Type 1} → statement M
 feed-formed-spec =

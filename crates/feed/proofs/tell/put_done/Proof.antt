@@ -7,48 +7,35 @@ use Rattle.feed.proofs.tell.put_done.Statement.{statement}
 use Rattle.feed.proofs.tell.put_done.Tie as tie
 
 add-w : tie.Need-add-w
-add-w c = omega (
-  arith,
-  c .size2 .ensures,
-  (c .before .before .before .before .before .before) .pre
-      .1 .loads,
-)
+add-w c =
+    let start = c .before .before .before .before .before .before in
+    omega (arith, c .size2 .ensures, start .pre .1 .loads)
 
 put-lasts-requires : tie.Need-put-lasts-requires
-put-lasts-requires c κs = (
-  omega (
-    arith,
-    c .before .before .before .before .before .before .before
-        .before .before .before .before .before .size .ensures,
-    (c .before .before .before .before
-        .before .before .before .before .before .before .before .before .before .before .before
-        .before) .pre .1 .boxes,
-  ),
-  rows-fit _ _ _ (c .before .before .before .before .before .before
-      .before .before .before .before .before .before .size .ensures) (c .before .before .before
-      .before .before .before .before .before .before .before .size2 .ensures) ((c .before .before
-      .before .before .before .before .before .before .before .before .before .before .before .before
-      .before .before) .pre .1),
-  omega arith,
-)
+put-lasts-requires c κs =
+    let at-put-next = c .before .before .before in
+    let at-size2 = at-put-next .before .before .before .before .before .before .before in
+    let at-size = at-size2 .before .before in
+    let start = at-size .before .before .before .before in (
+      omega (arith, at-size .size .ensures, start .pre .1 .boxes),
+      rows-fit _ _ _ (at-size .size .ensures) (at-size2 .size2 .ensures) (start .pre .1),
+      omega arith,
+    )
 
 returns : tie.Need-returns
-returns c = done-is _ _ _ _ (c .before .before .before .before .before .before .before .before
-    .before .before .before .before .before .before .before .before .before .before .before .size
-    .ensures) (c .before .before .before .before .before .before .before .before .before .before
-    .before .before .before .before .before .before .before .size2 .ensures) (omega (
-      arith,
-      c
-          .before .before .before .before .before .before .before .before .before .before .before .before
-          .before .before .before .before .before .before .before .size .ensures,
-      (c .before .before
-          .before .before .before .before .before .before .before .before .before .before .before .before
-          .before .before .before .before .before .before .before .before .before) .pre .1 .boxes,
-    )) (then
-    (c .before .before .before .before .before .before .before .before .before .before .before
-    .before .before .before .before .put-decimal .ensures) (then (c .before .before .before .before
-    .before .before .before .before .before .before .put-next .ensures) (then (c .before .before
-    .before .before .before .before .put-lasts .ensures) (c .before .before .put-byte .ensures))))
+returns c =
+    let at-put-byte = c .before .before in
+    let at-put-lasts = at-put-byte .before .before .before .before in
+    let at-put-next = at-put-lasts .before .before .before .before in
+    let at-put-decimal = at-put-next .before .before .before .before .before in
+    let at-size2 = at-put-decimal .before .before in
+    let at-size = at-size2 .before .before in
+    let start = at-size .before .before .before .before in
+    done-is _ _ _ _ (at-size .size .ensures) (at-size2 .size2 .ensures)
+    (omega (arith, at-size .size .ensures, start .pre .1 .boxes))
+    (then (at-put-decimal .put-decimal .ensures)
+    (then (at-put-next .put-next .ensures)
+    (then (at-put-lasts .put-lasts .ensures) (at-put-byte .put-byte .ensures))))
 
 pub put-done-spec : {M : Type 1} → statement M
 put-done-spec =

@@ -17,11 +17,9 @@ abbrev μ-loop : tie.MeasureT-loop
 μ-loop out₀ at site n w p₀ i₀ out p i = n - i
 
 loop-holds : tie.Need-loop-holds Inv-loop μ-loop
-loop-holds c = (
-  omega arith,
-  lasts-none _ ((c .before .before) .args .site .now) ((c .before
-      .before) .args .w) _,
-)
+loop-holds c =
+    let start = c .before .before in
+    (omega arith, lasts-none _ (start .args .site .now) (start .args .w) _)
 
 row-at-requires : tie.Need-row-at-requires Inv-loop μ-loop
 row-at-requires c κs = (omega arith, omega arith)
@@ -45,23 +43,25 @@ loop-less : tie.Need-loop-less Inv-loop μ-loop
 loop-less c = search tests
 
 loop-again : tie.Need-loop-again Inv-loop μ-loop
-loop-again c = (
-  omega arith,
-  lasts-more ((c .before .before .before .before .before .before .before
-      .before .before .before) .args .site .now) ((c .before .before .before .before .before .before
-      .before .before .before .before) .args .w) (c .before .before .before .before .before .before
-      .before .loop .i) (c .before .before .before .before .before .row-at .result) (c .before
-      .before .before .before .before .row-at .ensures .0) (c .before .before .before .before .before
-      .before .before .loop .inv .1) (c .before .before .put-next .ensures),
-)
+loop-again c =
+    let at-put-next = c .before .before in
+    let at-row-at = at-put-next .before .before .before in
+    let at-loop = at-row-at .before .before in
+    let start = at-loop .before .before .before in (
+      omega arith,
+      lasts-more (start .args .site .now) (start .args .w) (at-loop .loop .i)
+          (at-row-at .row-at .result) (at-row-at .row-at .ensures .0) (at-loop .loop .inv .1)
+          (at-put-next .put-next .ensures),
+    )
 
 same-length : tie.Need-same-length Inv-loop μ-loop
 same-length c = c .before .loop .inv .1 .room
 
 returns : tie.Need-returns Inv-loop μ-loop
-returns c = lasts-done ((c .before .before .before .before) .args .site .now) ((c .before .before
-    .before .before) .args .w) _ _ (c .loop-test .left) (c .before .loop .inv .0) (c .before .loop
-    .inv .1)
+returns c =
+    let start = c .before .before .before .before in
+    lasts-done (start .args .site .now) (start .args .w) _ _ (c .loop-test .left)
+    (c .before .loop .inv .0) (c .before .loop .inv .1)
 
 pub put-lasts-spec : {M : Type 1} → statement M
 put-lasts-spec =
