@@ -7,11 +7,10 @@ use mathlib.Core.List.{List}
 use Rattle.rules.specs.Numbers.{answerNumber}
 use Rattle.rules.specs.Answers.{isRefusal}
 use Rattle.rules.specs.Own.{OwnOutcome}
-use Rattle.rules.specs.declared.model.Act.{Act}
 use Rattle.rules.specs.declared.model.Call.{Call}
 use Rattle.rules.specs.declared.model.Setting.{Setting}
 use Rattle.site.specs.Entries.{After, FreshMade, stepOn, freshOn}
-use Rattle.own.specs.Entry.{Owned, actOn, mailOn}
+use Rattle.own.specs.Entry.{Owned}
 use Rattle.own.specs.Lent.{StillReads}
 
 -- `step` of the call d on the words xs and ls: they have become xs' and ls', and r was answered
@@ -26,7 +25,8 @@ pub record Freshened (n J L : ℕ) (xs ls xs' ls' : List ℕ) (r : ℕ) : Type 0
 
 -- the outcome o of a box by itself, on the row x, the tray out and the set to: they have become x',
 -- out' and to', and r was answered. A refused call leaves the set too.
-pub record Alone (s : Setting) (o : OwnOutcome) (x out x' out' : List ℕ) (to to' r : ℕ) : Type 0 where
+pub record Alone (s : Setting) (o : OwnOutcome) (x out x' out' : List ℕ) (to to' r : ℕ)
+    : Type 0 where
   pub number : r ≡ answerNumber (o .answer)
   pub owned : Owned s o x out x' out' (o .answer) (o .to)
   pub reads : StillReads s x x' out' (o .to)

@@ -18,8 +18,9 @@ fn unless(refused: bool, before: u32, set: u32) -> u32
 
 fn acted(row: &mut [u64], out: &mut [u64], to: &mut u32, s: Setting, a: Act) -> u32
     ensures { λ r.
-        ⌜ Alone s (actOn s (now (row .entry)) a (now (out .entry))) (now (row .entry))
-        (now (out .entry)) (now (row .exit)) (now (out .exit)) (now (to .entry)) (now (to .exit)) r ⌝ }
+        ⌜ Alone s (actOn s (now (row .entry)) a (now (out .entry)))
+        (now (row .entry)) (now (out .entry)) (now (row .exit)) (now (out .exit))
+        (now (to .entry)) (now (to .exit)) r ⌝ }
 {
     let sent = own::act(row, out, s, a);
     let answer = sent.answer;
