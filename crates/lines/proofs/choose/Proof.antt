@@ -1,3 +1,4 @@
+-- `lines::choose` meets its contract.
 use Rattle.rules.proofs.Tests.{tests}
 use Rattle.rules.specs.Pick.{pick}
 use Rattle.lines.proofs.choose.Statement.{statement}

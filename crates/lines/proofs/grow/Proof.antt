@@ -1,3 +1,4 @@
+-- `lines::grow` meets its contract.
 use borrow.Author.Needs.{needs}
 use Rattle.rules.proofs.Tests.{tests}
 use Rattle.lines.specs.Read.{grown}

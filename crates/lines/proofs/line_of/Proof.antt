@@ -1,3 +1,4 @@
+-- `lines::line_of` meets its contract.
 use Prim.Native.Nat.{ℕ}
 use mathlib.Core.Path.{sym, _∙_, ap}
 use mathlib.Core.Bool.{_||_, not}
@@ -20,10 +21,15 @@ returns c =
 returns-2 : tie.Need-returns-2
 unfolding lineOf
 returns-2 c =
-    let a = c .before .before .before .before .before .args in
-    c .line-with .ensures ∙ sym (ap (λ (k : ℕ). pick (a .n .bad || not (eqb (a .n .count) k))
-    L.Unreadable (lineWith (a .w) (a .n))) (sym (c .before .before .before .before .arity
-    .ensures)) ∙ pick-false _ _ _ (c .before .if1 .left))
+    let at-arity = c .before .before .before .before in
+    let start = at-arity .before in
+    let a = start .args in
+    c .line-with .ensures
+    ∙ sym
+    (ap
+    (λ (k : ℕ). pick (a .n .bad || not (eqb (a .n .count) k)) L.Unreadable (lineWith (a .w) (a .n)))
+    (sym (at-arity .arity .ensures))
+    ∙ pick-false _ _ _ (c .before .if1 .left))
 
 pub line-of-spec : {M : Type 1} → statement M
 line-of-spec =

@@ -1,3 +1,4 @@
+-- `lines::line_with` meets its contract.
 use borrow.Author.Needs.{needs}
 use Rattle.lines.proofs.line_with.Statement.{statement}
 use Rattle.lines.proofs.line_with.Tie as tie

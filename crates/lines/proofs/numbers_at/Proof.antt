@@ -1,3 +1,4 @@
+-- `lines::numbers_at` meets its contract.
 use Prim.Native.Nat.{_+_, _-_}
 use mathlib.Core.Path.{_≡_, sym, _∙_, ap}
 use lib.ListN.{length, drop}
@@ -17,8 +18,9 @@ none-requires : tie.Need-none-requires Inv-loop μ-loop
 none-requires c κs = search tests
 
 loop-holds : tie.Need-loop-holds Inv-loop μ-loop
-loop-holds c = ap (λ n. bytesRead n (drop (c .before .before .args .at) (c .before .before .args .s
-    .now))) (c .none .ensures)
+loop-holds c =
+    ap (λ n. bytesRead n (drop (c .before .before .args .at) (c .before .before .args .s .now)))
+    (c .none .ensures)
 
 shared-slice-read-next : tie.Need-shared-slice-read-next Inv-loop μ-loop
 shared-slice-read-next c = search tests
@@ -34,17 +36,19 @@ loop-less c = search tests
 
 loop-again : tie.Need-loop-again Inv-loop μ-loop
 loop-again c =
-    ap (λ n. bytesRead n (drop (c .before .before .before .loop .i + 1) (c .before .before .before
-    .before .before .before .args .s .now))) (c .next .ensures)
-    ∙ (sym (read-on _ _ _ (c .before .before .loop-test .taken)) ∙ c .before .before .before .loop
-    .inv)
+    let at-loop-test = c .before .before in
+    let at-loop = at-loop-test .before in
+    let start = at-loop .before .before .before in
+    ap (λ n. bytesRead n (drop (at-loop .loop .i + 1) (start .args .s .now))) (c .next .ensures)
+    ∙ (sym (read-on _ _ _ (at-loop-test .loop-test .taken)) ∙ at-loop .loop .inv)
 
 finish-requires : tie.Need-finish-requires Inv-loop μ-loop
 finish-requires c κs = search tests
 
 returns : tie.Need-returns Inv-loop μ-loop
-returns c = c .finish .ensures ∙ ap finished (sym (read-end _ _ _ (c .before .loop-test .left)) ∙ c
-    .before .before .loop .inv)
+returns c =
+    c .finish .ensures
+    ∙ ap finished (sym (read-end _ _ _ (c .before .loop-test .left)) ∙ c .before .before .loop .inv)
 
 pub numbers-at-spec : {M : Type 1} → statement M
 numbers-at-spec =

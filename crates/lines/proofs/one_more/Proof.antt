@@ -1,3 +1,4 @@
+-- `lines::one_more` meets its contract.
 use borrow.Author.Needs.{needs}
 use Rattle.rules.proofs.Tests.{tests}
 use Rattle.rules.specs.Pick.{pick}

@@ -1,3 +1,4 @@
+-- `lines::or_word` meets its contract.
 use borrow.Author.Needs.{needs}
 use Rattle.rules.specs.Pick.{pick}
 use Rattle.lines.proofs.or_word.Statement.{statement}

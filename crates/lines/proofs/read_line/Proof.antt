@@ -1,3 +1,4 @@
+-- `lines::read_line` meets its contract.
 use mathlib.Core.Path.{sym}
 use borrow.Author.Tests.{le-ltb}
 use borrow.Author.Needs.{needs}
@@ -14,14 +15,15 @@ returns c = search tests
 returns-2 : tie.Need-returns-2
 unfolding readLine
 returns-2 c =
+    let at-width = c .before .before in
+    let at-word-at = at-width .before in
+    let at-if1 = at-word-at .before in
     simp (
       c .line-of .ensures,
       c .before .numbers-at .ensures,
-      c .before .before .width .ensures,
-      c
-          .before .before .before .word-at .ensures,
-    )
-    (sym (pick-false _ _ _ (le-ltb _ _ (c .before .before .before .before .if1 .left))))
+      at-width .width .ensures,
+      at-word-at .word-at .ensures,
+    ) (sym (pick-false _ _ _ (le-ltb _ _ (at-if1 .if1 .left))))
 
 pub read-line-spec : {M : Type 1} → statement M
 read-line-spec =

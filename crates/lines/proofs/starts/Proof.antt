@@ -1,3 +1,4 @@
+-- `lines::starts` meets its contract.
 use Prim.Native.Nat.{_-_}
 use mathlib.Core.Path.{_≡_, sym, _∙_, refl}
 use lib.ListN.{length, drop}
@@ -17,8 +18,9 @@ loop-holds : tie.Need-loop-holds Inv-loop μ-loop
 loop-holds c = refl
 
 returns : tie.Need-returns Inv-loop μ-loop
-returns c = sym (starts-short _ _ _ (c .before .loop-test .taken) (c .if1 .taken)) ∙ c .before
-    .before .loop .inv
+returns c =
+    sym (starts-short _ _ _ (c .before .loop-test .taken) (c .if1 .taken))
+    ∙ c .before .before .loop .inv
 
 shared-slice-read-if2 : tie.Need-shared-slice-read-if2 Inv-loop μ-loop
 shared-slice-read-if2 c = search tests
@@ -27,9 +29,12 @@ shared-slice-read-if2-2 : tie.Need-shared-slice-read-if2-2 Inv-loop μ-loop
 shared-slice-read-if2-2 c = search tests
 
 returns-2 : tie.Need-returns-2 Inv-loop μ-loop
-returns-2 c = sym (starts-differ _ _ _ (c .before .before .before .before .loop-test .taken) (c
-    .before .before .before .if1 .left) (c .if2 .taken)) ∙ c .before .before .before .before
-    .before .loop .inv
+returns-2 c =
+    let at-if1 = c .before .before .before in
+    let at-loop-test = at-if1 .before in
+    let at-loop = at-loop-test .before in
+    sym (starts-differ _ _ _ (at-loop-test .loop-test .taken) (at-if1 .if1 .left) (c .if2 .taken))
+    ∙ at-loop .loop .inv
 
 add-i : tie.Need-add-i Inv-loop μ-loop
 add-i c = search tests
@@ -38,9 +43,12 @@ loop-less : tie.Need-loop-less Inv-loop μ-loop
 loop-less c = search tests
 
 loop-again : tie.Need-loop-again Inv-loop μ-loop
-loop-again c = sym (starts-on _ _ _ (c .before .before .before .before .loop-test .taken) (c
-    .before .before .before .if1 .left) (c .if2 .left)) ∙ c .before .before .before .before .before
-    .loop .inv
+loop-again c =
+    let at-if1 = c .before .before .before in
+    let at-loop-test = at-if1 .before in
+    let at-loop = at-loop-test .before in
+    sym (starts-on _ _ _ (at-loop-test .loop-test .taken) (at-if1 .if1 .left) (c .if2 .left))
+    ∙ at-loop .loop .inv
 
 returns-3 : tie.Need-returns-3 Inv-loop μ-loop
 returns-3 c = sym (starts-end _ _ _ (c .loop-test .left)) ∙ c .before .loop .inv

@@ -1,3 +1,4 @@
+-- `print::put_bytes` meets its contract.
 use Prim.Native.Nat.{_≤_, _-_, _+_}
 use native.Mathlib.Omega.{arith}
 use lib.ListN.{length, take}
@@ -32,11 +33,9 @@ loop-less : tie.Need-loop-less Inv-loop μ-loop
 loop-less c = search needs
 
 loop-again : tie.Need-loop-again Inv-loop μ-loop
-loop-again c = (
-  omega arith,
-  one-more _ _ (c .before .loop-test .taken) (c .before .before .loop
-      .inv .1),
-)
+loop-again c =
+    let at-loop = c .before .before in
+    (omega arith, one-more _ _ (c .before .loop-test .taken) (at-loop .loop .inv .1))
 
 add-result : tie.Need-add-result Inv-loop μ-loop
 add-result c = search needs

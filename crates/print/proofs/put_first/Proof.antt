@@ -1,3 +1,4 @@
+-- `print::put_first` meets its contract.
 use mathlib.Core.Path.{_≡_, sym}
 use native.Mathlib.Omega.{arith}
 use lib.ListN.{length}
@@ -14,23 +15,24 @@ slice-aggregate-put-bytes : tie.Need-slice-aggregate-put-bytes
 slice-aggregate-put-bytes c = sym (length-take-le _ _ (c .before .before .before .pre .1))
 
 put-bytes-requires : tie.Need-put-bytes-requires
-put-bytes-requires c κs = omega (
-  arith,
-  length-take-le (c .before .before .before .args .n) (c
-      .before .before .before .args .t3) (c .before .before .before .pre .1),
-  text-length (c .before
-      .before .before),
-)
+put-bytes-requires c κs =
+    let start = c .before .before .before in
+    omega (
+      arith,
+      length-take-le (start .args .n) (start .args .t3) (start .pre .1),
+      text-length start,
+    )
 
 returns : tie.Need-returns
-returns c = at-most (omega (
-  arith,
-  length-take-le (c .before .before .before .before .before
-      .before .args .n) (c .before .before .before .before .before .before .args .t3) (c .before
-      .before .before .before .before .before .pre .1),
-  text-length (c .before .before .before
-      .before .before .before),
-)) (c .before .before .put-bytes .ensures)
+returns c =
+    let at-put-bytes = c .before .before in
+    let start = at-put-bytes .before .before .before .before in
+    at-most
+    (omega (
+      arith,
+      length-take-le (start .args .n) (start .args .t3) (start .pre .1),
+      text-length start,
+    )) (at-put-bytes .put-bytes .ensures)
 
 pub put-first-spec : {M : Type 1} → statement M
 put-first-spec =

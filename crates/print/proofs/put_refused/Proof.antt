@@ -1,3 +1,4 @@
+-- `print::put_refused` meets its contract.
 use native.Mathlib.Omega.{arith}
 use borrow.Author.Needs.{needs}
 use Rattle.print.specs.Text.{refusedText}
@@ -7,11 +8,15 @@ use Rattle.print.proofs.put_refused.Tie as tie
 
 returns : tie.Need-returns
 unfolding refusedText
-returns c = at-most (omega arith) (then (c .before .before .before .before .before .before .before
-    .before .before .before .before .before .before .before .before .put-decimal .ensures) (then (c
-    .before .before .before .before .before .before .before .before .before .before .put-bytes
-    .ensures) (then (c .before .before .before .before .before .before .put-decimal2 .ensures) (c
-    .before .before .put-byte .ensures))))
+returns c =
+    let at-put-byte = c .before .before in
+    let at-put-decimal2 = at-put-byte .before .before .before .before in
+    let at-put-bytes = at-put-decimal2 .before .before .before .before in
+    let at-put-decimal = at-put-bytes .before .before .before .before .before in
+    at-most (omega arith)
+    (then (at-put-decimal .put-decimal .ensures)
+    (then (at-put-bytes .put-bytes .ensures)
+    (then (at-put-decimal2 .put-decimal2 .ensures) (at-put-byte .put-byte .ensures))))
 
 pub put-refused-spec : {M : Type 1} → statement M
 put-refused-spec =

@@ -1,3 +1,4 @@
+-- `lines::Numbers::finish` meets its contract.
 use borrow.Author.Needs.{needs}
 use Rattle.lines.specs.Read.{finished}
 use Rattle.lines.proofs.Numbers.finish.Statement.{statement}
