@@ -1,4 +1,4 @@
--- A text is the hex of at most one list of bytes, has no space in it, and `read_hex` has one answer.
+-- A text is the hex of at most one list of bytes and has no space; `read_hex` has one answer.
 use Prim.Native.Nat.{ℕ, zero, suc, _+_, _*_, _/_, _%_, _≤_, _<_}
 use mathlib.Core.Path.{_≡_, refl, ap, sym, _∙_}
 use mathlib.Core.List.{List, [], _∷_, _++_}

@@ -18,12 +18,15 @@ loop-holds : tie.Need-loop-holds Inv-loop μ-loop
 loop-holds c = (omega arith, λ k h. absurd (omega arith))
 
 returns : tie.Need-returns Inv-loop μ-loop
-returns c = λ d. omega (
-  arith,
-  d .each (c .before .before .before .before .loop .i) (c .before
-      .before .before .loop-test .taken),
-  c .before .value .ensures,
-)
+returns c =
+    let at-loop-test = c .before .before .before in
+    let at-loop = at-loop-test .before in
+    λ d.
+    omega (
+      arith,
+      d .each (at-loop .loop .i) (at-loop-test .loop-test .taken),
+      c .before .value .ensures,
+    )
 
 loop-again : tie.Need-loop-again Inv-loop μ-loop
 loop-again c = (

@@ -17,46 +17,45 @@ abbrev μ-loop : tie.MeasureT-loop
 μ-loop text out₀ i₀ out i = length out₀ - i
 
 loop-holds : tie.Need-loop-holds Inv-loop μ-loop
-loop-holds c = (
-  omega arith,
-  refl,
-  got-none ((c .before .before) .args .text .now) ((c .before
-      .before) .args .out .now),
-)
+loop-holds c =
+    let start = c .before .before in
+    (omega arith, refl, got-none (start .args .text .now) (start .args .out .now))
 
 mul-out : tie.Need-mul-out Inv-loop μ-loop
 mul-out c =
+    let at-value = c .before .before in
+    let at-loop = at-value .before .before .before in
+    let start = at-loop .before .before .before in
     omega (
       arith,
-      c .before .before .before .before .before .before .before .before .pre .0 .each (2 * c
-          .before .before .before .before .before .loop .i) (omega arith),
-      c .before .before .value .ensures,
+      start .pre .0 .each (2 * at-loop .loop .i) (omega arith),
+      at-value .value .ensures,
     )
 
 add-out : tie.Need-add-out Inv-loop μ-loop
 add-out c =
+    let at-value = c .before .before in
+    let at-loop = at-value .before .before .before in
+    let start = at-loop .before .before .before in
     omega (
       arith,
-      c .before .before .before .before .before .before .before .before .pre .0 .each (2 * c
-          .before .before .before .before .before .loop .i) (omega arith),
-      c .before .before .before .before .before .before .before .before .pre .0 .each (2 * c
-          .before .before .before .before .before .loop .i + 1) (omega arith),
-      c .before .before .value .ensures,
+      start .pre .0 .each (2 * at-loop .loop .i) (omega arith),
+      start .pre .0 .each (2 * at-loop .loop .i + 1) (omega arith),
+      at-value .value .ensures,
       c .value2 .ensures,
     )
 
 loop-again : tie.Need-loop-again Inv-loop μ-loop
-loop-again c = (
-  omega arith,
-  length-set (c .before .before .before .before .before .loop .out) (c .before .before .before
-      .before .before .loop .i) _ ∙ c .before .before .before .before .before .loop .inv .1,
-  got-more ((c .before .before .before .before .before .before .before .before) .args .text .now)
-      (c .before .before .before .before .before .loop .out) (c .before .before .before .before
-      .before .loop .i) (c .before .before .value .result) (c .value2 .result) (omega arith) (c
-      .before .before .before .before .before .before .before .before .pre .0) (omega arith) (c
-      .before .before .value .ensures .0) (c .value2 .ensures .0) (c .before .before .before
-      .before .before .loop .inv .2),
-)
+loop-again c =
+    let at-value = c .before .before in
+    let at-loop = at-value .before .before .before in
+    let start = at-loop .before .before .before in (
+      omega arith,
+      length-set (at-loop .loop .out) (at-loop .loop .i) _ ∙ at-loop .loop .inv .1,
+      got-more (start .args .text .now) (at-loop .loop .out) (at-loop .loop .i)
+          (at-value .value .result) (c .value2 .result) (omega arith) (start .pre .0) (omega arith)
+          (at-value .value .ensures .0) (c .value2 .ensures .0) (at-loop .loop .inv .2),
+    )
 
 returns : tie.Need-returns Inv-loop μ-loop
 returns c = got-all ((c .before .before .before .before) .args .text .now) (c .before .loop .out)

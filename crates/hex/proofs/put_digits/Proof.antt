@@ -20,12 +20,14 @@ loop-holds : tie.Need-loop-holds Inv-loop μ-loop
 loop-holds c = (omega arith, digits-none ((c .before .before) .args .src .now))
 
 loop-again : tie.Need-loop-again Inv-loop μ-loop
-loop-again c = (
-  omega arith,
-  digits-more _ _ (c .before .before .before .before .before .loop-test
-      .taken) (c .before .before .before .before .before .before .loop .inv .1) (c .before .before
-      .put-pair .ensures),
-)
+loop-again c =
+    let at-put-pair = c .before .before in
+    let at-loop-test = at-put-pair .before .before .before in
+    let at-loop = at-loop-test .before in (
+      omega arith,
+      digits-more _ _ (at-loop-test .loop-test .taken) (at-loop .loop .inv .1)
+          (at-put-pair .put-pair .ensures),
+    )
 
 same-length : tie.Need-same-length Inv-loop μ-loop
 same-length c = c .before .loop .inv .1 .room

@@ -9,8 +9,9 @@ returns c = hex-none ((c .before .before .before .before .before .before .before
     (c .before .before .before .before .if1 .taken) (c .before .before .put-byte .ensures)
 
 returns-2 : tie.Need-returns-2
-returns-2 c = hex-some ((c .before .before .before .before .before .before .before) .args .src
-    .now) (c .before .before .before .before .if1 .left) (c .before .before .put-digits .ensures)
+returns-2 c =
+    hex-some (c .before .before .before .before .before .before .before .args .src .now)
+    (c .before .before .before .before .if1 .left) (c .before .before .put-digits .ensures)
 
 pub put-hex-spec : {M : Type 1} → statement M
 put-hex-spec =

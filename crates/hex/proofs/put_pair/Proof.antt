@@ -5,9 +5,13 @@ use Rattle.hex.proofs.put_pair.Statement.{statement}
 use Rattle.hex.proofs.put_pair.Tie as tie
 
 returns : tie.Need-returns
-returns c = pair-wrote _ _ _ (c .before .before .before .before .before .before .before .before
-    .digit .ensures) (c .before .before .before .digit2 .ensures) (c .before .before .before
-    .before .before .before .before .put-byte .ensures) (c .before .before .put-byte2 .ensures)
+returns c =
+    let at-put-byte2 = c .before .before in
+    let at-digit2 = at-put-byte2 .before in
+    let at-put-byte = at-digit2 .before .before .before .before in
+    let at-digit = at-put-byte .before in
+    pair-wrote _ _ _ (at-digit .digit .ensures) (at-digit2 .digit2 .ensures)
+    (at-put-byte .put-byte .ensures) (at-put-byte2 .put-byte2 .ensures)
 
 pub put-pair-spec : {M : Type 1} → statement M
 put-pair-spec =

@@ -1,7 +1,8 @@
 -- `hex::value` meets its contract.
 use mathlib.Core.Path.{sym}
 use native.Mathlib.Omega.{arith}
-use Rattle.hex.proofs.HexLaws.{value-below, value-low, value-between, value-high, value-above}
+use Rattle.hex.proofs.HexLaws.{value-below, value-low, value-between, value-high}
+use Rattle.hex.proofs.HexLaws.{value-above}
 use borrow.Author.Needs.{needs}
 use Rattle.hex.proofs.value.Statement.{statement}
 use Rattle.hex.proofs.value.Tie as tie
