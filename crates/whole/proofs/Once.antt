@@ -9,7 +9,8 @@ use Rattle.whole.specs.Whole.{ImageFound, ImageIs}
 -- The place of the general body is told by the bytes.
 one-place : (src : List ℕ) (p q : ℕ) → ImageFound src p → ImageFound src q → p ≡ q
 one-place src p q f g =
-    let same = one-image (f .site) (g .site) (f .by-form) (g .by-form) (f .image ∙ sym (g .image)) in
+    let image = f .image ∙ sym (g .image) in
+    let same = one-image (f .site) (g .site) (f .by-form) (g .by-form) image in
     f .place ∙ ap (λ (n : ℕ). 4 + 8 * (n + 2)) (same .n) ∙ sym (g .place)
 
 pub check-once : (src : List ℕ) (a b : Walk) → ImageIs src a → ImageIs src b → a ≡ b
