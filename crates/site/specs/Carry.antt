@@ -61,7 +61,7 @@ pub record Knows (s : Setting) (xs ls : List ℕ) : Type 0 where
   pub form : memoryForm xs ls ≡ true
   pub setting : s ≡ settingAt xs (s .me)
 
--- a verdict carried out: the rows are elected, the links empty and the epoch has risen, or all stays
+-- a verdict carried out: the rows are elected, the links empty, the epoch has risen; or all stays
 abbrev pub ElectIs : Verdict → Setting → List ℕ → List ℕ → List ℕ → List ℕ → Answer → Type 0
 ElectIs Verdict.Go s xs ls xs' ls' a =
     (a ≡ Answer.Done)

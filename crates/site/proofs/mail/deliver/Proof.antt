@@ -1,11 +1,9 @@
 -- `site::mail::deliver` meets its contract.
-use mathlib.Core.Path.{refl, sym, ap, _∙_}
-use native.Mathlib.Omega.{arith}
+use mathlib.Core.Path.{sym, _∙_}
 use borrow.Author.Needs.{needs}
 use borrow.Author.Tests.{not-false}
-use Rattle.memory.specs.Memory.{siteOf}
 use Rattle.site.proofs.KnownLaws.{general-lent, links-lent}
-use Rattle.site.proofs.MailKnown.{link-yes, link-not, link-said, count-none, known-mail}
+use Rattle.site.proofs.MailKnown.{link-yes, link-not, count-none, known-mail}
 use Rattle.site.proofs.MailKnown.{delivered-known}
 use Rattle.site.proofs.TurnAfter.{no-link-delivers, deliver-empty}
 use Rattle.site.proofs.mail.deliver.Statement.{statement}
@@ -60,7 +58,8 @@ hand-over-requires c κs =
 returns-3 : tie.Need-returns-3
 returns-3 c =
     let at-hand-over = c .before .before .before .before in
-    let at-setting-of = at-hand-over .before .before .before .before .before .before .before .before in
+    let at-if2 = at-hand-over .before .before .before in
+    let at-setting-of = at-if2 .before .before .before .before .before in
     let start = at-setting-of .before .before .before .before in
     delivered-known (start .args .site .now) (start .args .links .now) (start .args .a)
     (start .args .b) _ (at-setting-of .setting-of .ensures) _ (at-hand-over .hand-over .ensures)

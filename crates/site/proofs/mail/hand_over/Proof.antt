@@ -30,7 +30,8 @@ returns c =
 
 pop-requires : tie.Need-pop-requires
 pop-requires c κs =
-    let start = c .before .before .before .before .before .before .before .before .before .before .before .before in
+    let at-head-start = c .before .before .before .before .before .before .before .before in
+    let start = at-head-start .before .before .before .before in
     let k = start .pre in
     (links-lent _ _ (k .0 .form) _ _ (k .0 .setting), (k .1 .0, k .1 .1))
 
