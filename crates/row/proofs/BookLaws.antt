@@ -34,7 +34,8 @@ take-part xs a k l h = take-take l k (drop a xs) (in-part xs a k l h .0)
 -- The elements a + 1 to l.
 drop-take : (xs : List ℕ) (a l : ℕ) → a ≤ l → l ≤ length xs → drop a (take l xs) ≡ part xs a (l - a)
 drop-take xs a l h m =
-    let long : length (drop a (take l xs)) ≤ l - a = simp (length-drop, length-take) (omega arith) in
+    let long : length (drop a (take l xs)) ≤ l - a =
+    simp (length-drop, length-take) (omega arith) in
     sym (take-all (l - a) (drop a (take l xs)) long)
     ∙ part-part 0 l a (l - a) xs (omega arith)
     ∙ ap (λ (k : ℕ). part xs k (l - a)) (zero-add a)
@@ -66,7 +67,8 @@ module _ (r p : List ℕ) where
         words = length-set r (20 + l) v;
         records =
             rw (add-one, drop-set-add 20 r l v, take-suc-set (drop 20 r) l v at)
-            (ap (λ (f : List ℕ). f ++ (v ∷ [])) (sym (take-part r 20 (getD r 19 0) l (w .book .0))));
+            (ap (λ (f : List ℕ). f ++ (v ∷ []))
+            (sym (take-part r 20 (getD r 19 0) l (w .book .0))));
       })
 
   -- The mail's place has the records that are taken ..

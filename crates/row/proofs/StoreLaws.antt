@@ -2,7 +2,7 @@
 use mathlib.Core.Path.{_≡_, refl, sym, ap}
 use mathlib.Core.Bool.{Bool, true, false, cond}
 use mathlib.Core.List.{List, [], _∷_, _++_}
-use Prim.Native.Nat.{ℕ, _+_, _-_, _≤_, _<_}
+use Prim.Native.Nat.{ℕ, _-_, _≤_, _<_}
 use native.Mathlib.Omega.{arith}
 use borrow.Author.Tests.{leb-false, le-leb}
 use lib.Dec.{leb}
@@ -18,7 +18,8 @@ use Rattle.row.proofs.NumberLaws.{flag-in, state-in, phase-in}
 module _ (n : ℕ) (ps : List ℕ) (five : length ps ≡ mostBoxes)
     (above : (k : ℕ) → n < k → k ≤ mostBoxes → getD ps (k - 1) 0 ≡ unknown) where
   -- Peer k is read as it was stored: its word, or unknown above n.
-  peer-back : (k : ℕ) → k ≤ mostBoxes → cond (leb k n) (getD ps (k - 1) 0) unknown ≡ getD ps (k - 1) 0
+  peer-back : (k : ℕ) → k ≤ mostBoxes
+      → cond (leb k n) (getD ps (k - 1) 0) unknown ≡ getD ps (k - 1) 0
   peer-back k m = go (leb k n) refl
     where
       go : (t : Bool) → leb k n ≡ t → cond t (getD ps (k - 1) 0) unknown ≡ getD ps (k - 1) 0

@@ -27,7 +27,8 @@ use Rattle.row.proofs.FormLaws.{RowFormed, formed}
 module _ (b : BoxState) (s : Setting) (inside : boundedBox b s ≡ true) where
   pub any-act-in : (a : Act) (mine : Held) → anyAct b s a mine ≡ acted a b s mine
   unfolding anyAct
-  any-act-in a mine = sym (guard-go b (boundedBox b s) (boundedBox b s) (acted a b s mine) refl inside)
+  any-act-in a mine =
+      sym (guard-go b (boundedBox b s) (boundedBox b s) (acted a b s mine) refl inside)
 
   pub any-mail-in : (sender : ℕ) (m : Mail) (one : ℕ) (next mine : Held) → boundedMail m ≡ true
       → anyMail b s sender m one next mine ≡ onMail b s sender m one next mine
