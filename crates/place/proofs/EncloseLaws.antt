@@ -42,7 +42,12 @@ module _ (p : List ℕ) (m : Mail) (ys : List ℕ) (count : ℕ) (long : length 
 
   pub filled-letter : letterAt filled ≡ record { head = m; records = ys }
   filled-letter = λ i. record {
-    head = record { kind = kind-back (m .kind) i; pn = m .pn; last = m .last; unagreed = m .unagreed };
+    head = record {
+      kind = kind-back (m .kind) i;
+      pn = m .pn;
+      last = m .last;
+      unagreed = m .unagreed;
+    };
     records = take-at ys (drop count (drop 5 p)) count long i;
   }
 
@@ -60,7 +65,8 @@ module _ (p : List ℕ) (m : Mail) (ys : List ℕ) (count : ℕ) (long : length 
 -- What the code of `enclose` has written is the letter.
 pub enclose-law : (p : List ℕ) (m : Mail) (rs : List ℕ) → Encloses p m rs
     → (from count : ℕ) (ws q : List ℕ)
-    → from ≡ enclosedFrom (m .kind) (m .last) → count ≡ enclosedCount (m .kind) (m .last) (length rs)
+    → from ≡ enclosedFrom (m .kind) (m .last)
+    → count ≡ enclosedCount (m .kind) (m .last) (length rs)
     → ws ≡ wordsOfMail m count → q ≡ splice (ws ++ drop 5 p) 5 count (part rs from count)
     → Enclosed p m rs q
 enclose-law p m rs ok from count ws q ef ec ew eq =

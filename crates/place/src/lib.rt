@@ -129,7 +129,8 @@ pub fn first_record(place: &[u64]) -> u64
 pub fn after_last(place: &[u64]) -> Held
     requires { ⌜ PlaceReadable (now place) ⌝ }
     ensures { λ r.
-        ⌜ r ≡ heldAt (letterAt (now (place .entry)) .records) (mailAt (now (place .entry)) .last) ⌝ }
+        ⌜ r ≡ heldAt (letterAt (now (place .entry)) .records)
+        (mailAt (now (place .entry)) .last) ⌝ }
 {
     let last = number(place[2]);
     held_at(records(place), last)
