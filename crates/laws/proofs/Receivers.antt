@@ -3,8 +3,6 @@ use Prim.Native.Nat.{ℕ}
 use mathlib.Core.Path.{_≡_, refl, sym, ap, _∙_}
 use mathlib.Core.Bool.{Bool, true, false, not, _&&_}
 use mathlib.Core.List.{List}
-use lib.Bits.{bitAnd}
-use lib.Dec.{eqb}
 use lib.ListN.{getD}
 use borrow.Author.Tests.{ne-eqb}
 use Rattle.rules.specs.Sizes.{mostBoxes}
@@ -16,7 +14,7 @@ use Rattle.rules.specs.Mails.{onCollect, onBegin, onAccept, onCommit, onLease, 
 use Rattle.rules.specs.Steps.{recover, collect, started, leased, hasPrevious, ready, offer, propose}
 use Rattle.rules.specs.Steps.{agree, finish, acted}
 use Rattle.rules.specs.Box.{Box, Letter, Event, own, mail, heldAt, mine, turnOf}
-use Rattle.laws.proofs.Types.{Act, BoxState, Kind, Out, Setting, Turn, Verdict}
+use Rattle.laws.proofs.Types.{Act, Kind, Out, Setting, Turn, Verdict}
 use Rattle.laws.proofs.Logic.{In, eqb-same, pick-elim}
 use Rattle.laws.proofs.SetLaws.{has-and, has-bit, has-without}
 use Rattle.laws.proofs.StepLaws.{by-verdict}
@@ -52,7 +50,8 @@ module _ (s : Setting) (x : Box) (me : In (s .me) mostBoxes) where
   act-apart Act.Recover = settled-apart _ _ tt
   act-apart Act.Collect = settled-apart _ _ not-others
   act-apart Act.Ready =
-      settled-apart _ _ (pick-elim Apart (hasPrevious (x .head)) (λ e. not-others) (λ e. not-others))
+      settled-apart _ _
+      (pick-elim Apart (hasPrevious (x .head)) (λ e. not-others) (λ e. not-others))
   act-apart (Act.Offer l r) = settled-apart _ _ tt
   act-apart Act.Propose = settled-apart _ _ not-others
   act-apart Act.Agree = settled-apart _ _ not-others
