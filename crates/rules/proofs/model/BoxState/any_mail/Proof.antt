@@ -1,6 +1,7 @@
 -- `rules::model::BoxState::any_mail` meets its contract.
 use mathlib.Core.Path.{sym, _∙_}
-use Rattle.rules.proofs.BoundLaws.{bounded-box, bounded-mail, both-of, first-of, second-of, guard-go, guard-stop}
+use Rattle.rules.proofs.BoundLaws.{bounded-box, bounded-mail, both-of, first-of, second-of}
+use Rattle.rules.proofs.BoundLaws.{guard-go, guard-stop}
 use Rattle.rules.specs.Bounds.{anyMail}
 use Rattle.rules.proofs.model.BoxState.any_mail.Statement.{statement}
 use Rattle.rules.proofs.model.BoxState.any_mail.Tie as tie
