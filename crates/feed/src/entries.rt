@@ -55,8 +55,8 @@ fn has_room(site: usize, links: usize, out: usize) -> bool
 // Feeds as much of the piece as out has room for; the caller feeds the rest next.
 pub fn feed_piece(f: Feed, piece: &[u8], site: &mut [u64], links: &mut [u64], out: &mut [u8]) -> Fed
     ensures { λ g.
-        ⌜ PieceFed f (now (piece .entry)) (now (site .entry)) (now (links .entry)) (now (site .exit))
-        (now (links .exit)) (now (out .entry)) (now (out .exit)) g ⌝ }
+        ⌜ PieceFed f (now (piece .entry)) (now (site .entry)) (now (links .entry))
+        (now (site .exit)) (now (links .exit)) (now (out .entry)) (now (out .exit)) g ⌝ }
 {
     let stage = f.stage;
     if !is_formed(stage, site, links) {

@@ -12,7 +12,8 @@ use Rattle.rules.specs.Site.{Site, freshBox}
 use Rattle.rules.specs.Form.{form}
 use Rattle.memory.specs.Memory.{linkIndex}
 use Rattle.image.specs.Image.{numbersFrom, boxesOf, linksOf, tableOf, imageOf}
-use Rattle.image.specs.Parts.{Listed, nIn, JIn, LIn, listed, bodiesIn, listedBytes, GoodListed}
+use Rattle.image.specs.Parts.{Listed, nIn, JIn, LIn, listed, bodiesIn, listedBytes}
+use Rattle.image.specs.Parts.{GoodListed}
 use Rattle.image.proofs.OrderLaws.{map-at, length-from, from-at, length-boxes, boxes-at}
 use Rattle.image.proofs.OrderLaws.{pairs-flat}
 use Rattle.image.proofs.ListedLaws.{good-listed}
