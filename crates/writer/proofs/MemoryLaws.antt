@@ -26,6 +26,7 @@ use Rattle.row.specs.Row.{boxOf, rowFits}
 use Rattle.link.specs.Link.{placeWidth, linkWidth, places, linkOf, linkFits}
 use Rattle.memory.specs.Memory.{rowWidth, siteWords, linksWords, rowAt, linkAt, siteOf}
 use Rattle.memory.specs.Memory.{roomy, memoryForm}
+use Rattle.memory.proofs.SizeLaws.{link-sizes}
 use Rattle.cells.specs.Cells.{Each}
 use Rattle.cells.proofs.ChainLaws.{each-at}
 use Rattle.image.specs.Image.{numbersFrom, boxesOf, bySender, linksOf}
@@ -172,10 +173,8 @@ module _ (xs ls : List ℕ) (e : memoryForm xs ls ≡ true) where
 
   pub memory-links : LinksFit links JIn LIn ls
   memory-links =
-      let z = memory-sizes in
       record {
-        loads = z .few-loads;
-        mails = z .few-mails;
+        sizes = link-sizes memory-sizes;
         width = links-words;
         each = at;
       }

@@ -12,7 +12,13 @@ use Rattle.words.specs.Rows.{part}
 use Rattle.words.proofs.PartLaws.{length-part}
 use Rattle.cells.specs.Cells.{chain, cells, Room, Wrote}
 use Rattle.cells.proofs.ChainLaws.{length-cells}
+use Rattle.rules.specs.Sizes.{sizesForm}
+use Rattle.rules.specs.Form.{form}
+use Rattle.rules.specs.declared.model.Setting.{Setting}
+use Rattle.laws.proofs.Logic.{passed}
 use Rattle.memory.specs.Memory.{siteOf, memoryForm}
+use Rattle.memory.specs.After.{settingAt, GeneralLent}
+use Rattle.memory.proofs.FormLaws.{general-lent}
 use Rattle.image.specs.Image.{boxBody, linkBytes, contents, tableOf}
 use Rattle.image.specs.Parts.{Listed, listed, bodiesIn, listedBytes}
 use Rattle.image.proofs.TableLaws.{length-contents, table-groups, image-in}
@@ -21,16 +27,28 @@ use Rattle.writer.specs.declared.Written.{Written}
 use Rattle.writer.specs.Fits.{linksIn, BoxesFit, boxesIn, LinksFit, tableIn, bodiesOf}
 use Rattle.writer.specs.Writer.{image, Measured, WriteIs, written}
 use Rattle.writer.proofs.BoxLaws.{length-boxes-in}
-use Rattle.writer.proofs.MemoryLaws.{memory-sizes, memory-boxes, memory-links, memory-listed}
+use Rattle.writer.proofs.MemoryLaws.{memory-formed, memory-boxes, memory-links}
+use Rattle.writer.proofs.MemoryLaws.{memory-listed}
 
--- The sizes as the code has read them.
+-- What the code reads of words by form.
 module _ (xs ls : List ℕ) (e : memoryForm xs ls ≡ true) where
   pub long-enough : 5 ≤ length xs
   long-enough = let w = memory-boxes xs ls e .width in omega arith
 
-  pub n-in : (n : ℕ) → n ≡ getD xs 0 0 → (1 ≤ n) × (n ≤ 5)
-  n-in n en = let z = memory-sizes xs ls e in
-      (omega (arith, z .some-boxes), omega (arith, z .few-boxes))
+  pub general-words : GeneralLent xs
+  unfolding form siteOf
+  general-words =
+      let t = passed _ (memory-formed xs ls e) in
+      general-lent (record {
+        words = long-enough;
+        sizes = t .0;
+        epoch = t .1 .0;
+        present = t .1 .1 .0;
+      })
+
+  pub sizes-read : (s : Setting) → s ≡ settingAt xs 0 → sizesForm (s .n) (s .j) (s .l) ≡ true
+  unfolding form siteOf
+  sizes-read s known = rw known (passed _ (memory-formed xs ls e) .0)
 
   pub boxes-fit : (n J : ℕ) → n ≡ getD xs 0 0 → J ≡ getD xs 1 0 → BoxesFit n J xs
   boxes-fit n J en eJ = rw (en, eJ) (memory-boxes xs ls e)

@@ -11,6 +11,7 @@ use Rattle.rules.specs.Box.{Box, Letter}
 use Rattle.place.specs.Place.{letterAt}
 use Rattle.row.specs.Row.{boxOf}
 use Rattle.link.specs.Link.{placeWidth, linkWidth, linkOf}
+use Rattle.link.specs.Holds.{LinkSizes}
 use Rattle.memory.specs.Memory.{rowWidth}
 use Rattle.cells.specs.Cells.{chain, cells}
 use Rattle.image.specs.Image.{numbersFrom, boxBody, linkBytes, contents}
@@ -47,8 +48,7 @@ abbrev pub linkRow : ℕ → ℕ → List ℕ → ℕ → List ℕ
 linkRow J L ls k = part ls (k * linkWidth J L) (linkWidth J L)
 
 pub record LinksFit (m J L : ℕ) (ls : List ℕ) : Type 0 where
-  pub loads : J ≤ mostLoads
-  pub mails : L ≤ mostMails
+  pub sizes : LinkSizes J L
   pub width : m * linkWidth J L ≤ length ls
   pub each : (k : ℕ) → k < m → LinkFits J L (linkRow J L ls k)
 

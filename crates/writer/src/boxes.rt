@@ -10,7 +10,7 @@ ghost use Rattle.cells.specs.Cells.{chain, cells, Room, Wrote};
 ghost use Rattle.image.specs.Image.{boxBody, contents};
 ghost use Rattle.writer.specs.Fits.{BoxFits, BoxesFit, boxesIn};
 
-fn box_length(row: &[u64], n: usize, j: usize) -> usize
+fn box_length(row: &[u64], n: usize, j: u32) -> usize
     requires { ⌜ BoxFits n j (now row) ⌝ }
     ensures { λ r. ⌜ (r ≡ length (boxBody n (boxOf n (now (row .entry))))) × (r ≤ 32860) ⌝ }
 {
@@ -18,12 +18,12 @@ fn box_length(row: &[u64], n: usize, j: usize) -> usize
 }
 
 // How long the bodies of boxes 1 to n are together.
-pub fn boxes_length(site: &[u64], n: usize, j: usize) -> usize
+pub fn boxes_length(site: &[u64], n: usize, j: u32) -> usize
     requires { ⌜ BoxesFit n j (now site) ⌝ }
     ensures { λ r.
         ⌜ (r ≡ length (chain (boxBody n) (boxesIn n j (now (site .entry))))) × (r ≤ 164300) ⌝ }
 {
-    let w = 20 + j;
+    let w = 20 + j as usize;
     let mut total = 0;
     let mut i = 0;
     while i < n {
@@ -41,7 +41,7 @@ pub fn write_contents(
     start: usize,
     site: &[u64],
     n: usize,
-    j: usize,
+    j: u32,
 ) -> usize
     requires { ⌜ BoxesFit n j (now site) ⌝ }
     requires { ⌜ start ≤ 80 ⌝ }
@@ -51,7 +51,7 @@ pub fn write_contents(
         ⌜ Wrote (cells 4 (contents start (map (boxBody n) (boxesIn n j (now (site .entry))))))
         (now (out .entry)) at (now (out .exit)) r ⌝ }
 {
-    let w = 20 + j;
+    let w = 20 + j as usize;
     let mut p = at;
     let mut o = start;
     let mut i = 0;
@@ -66,7 +66,7 @@ pub fn write_contents(
     p
 }
 
-fn write_box(out: &mut [u8], at: usize, row: &[u64], n: usize, j: usize) -> usize
+fn write_box(out: &mut [u8], at: usize, row: &[u64], n: usize, j: u32) -> usize
     requires { ⌜ BoxFits n j (now row) ⌝ }
     requires { ⌜ Room (boxBody n (boxOf n (now row))) (now out) at ⌝ }
     ensures { λ r.
@@ -82,14 +82,14 @@ fn write_box(out: &mut [u8], at: usize, row: &[u64], n: usize, j: usize) -> usiz
 }
 
 // The bodies of boxes 1 to n.
-pub fn write_boxes(out: &mut [u8], at: usize, site: &[u64], n: usize, j: usize) -> usize
+pub fn write_boxes(out: &mut [u8], at: usize, site: &[u64], n: usize, j: u32) -> usize
     requires { ⌜ BoxesFit n j (now site) ⌝ }
     requires { ⌜ Room (chain (boxBody n) (boxesIn n j (now site))) (now out) at ⌝ }
     ensures { λ r.
         ⌜ Wrote (chain (boxBody n) (boxesIn n j (now (site .entry))))
         (now (out .entry)) at (now (out .exit)) r ⌝ }
 {
-    let w = 20 + j;
+    let w = 20 + j as usize;
     let mut p = at;
     let mut i = 0;
     while i < n {

@@ -1,10 +1,9 @@
 // The writer of the site image: its length first, then every byte straight into the lent buffer.
 use rules::model::Refusal;
-use words::size;
 use words::word;
 ghost use mathlib.Core.Path.{_≡_};
 ghost use mathlib.Core.Bool.{true};
-ghost use Prim.Native.Nat.{_+_, _-_, _*_, _≤_};
+ghost use Prim.Native.Nat.{_+_, _*_, _≤_};
 ghost use lib.ListN.{length};
 ghost use Rattle.memory.specs.Memory.{memoryForm};
 ghost use Rattle.cells.specs.Cells.{chain, Room, Wrote};
@@ -12,20 +11,12 @@ ghost use Rattle.image.specs.Image.{boxBody};
 ghost use Rattle.writer.specs.Fits.{BoxesFit, LinksFit, boxesIn, tableIn, bodiesOf};
 ghost use Rattle.writer.specs.Writer.{Measured, LengthIs, WriteIs};
 
-pub mod boxes;
-pub mod mail;
+mod boxes;
+mod mail;
 
 pub enum Written {
     Length(usize),
     Refused(Refusal),
-}
-
-// How many ordered pairs of different boxes there are.
-fn pairs(n: usize) -> usize
-    requires { ⌜ (1 ≤ n) × (n ≤ 5) ⌝ }
-    ensures { λ r. ⌜ (r ≡ n * (n - 1)) × (r ≤ 20) ⌝ }
-{
-    n * (n - 1)
 }
 
 // How long the table of contents of n boxes, the general body and the mail is.
@@ -40,8 +31,8 @@ fn table_length(n: usize) -> usize
 // has, how long its boxes, its mail and the whole image are.
 pub struct Extent {
     pub n: usize,
-    pub j: usize,
-    pub l: usize,
+    pub j: u32,
+    pub l: u32,
     pub pairs: usize,
     pub boxes: usize,
     pub mail: usize,
@@ -53,17 +44,16 @@ fn measure(site: &[u64], links: &[u64]) -> Extent
     requires { ⌜ memoryForm (now site) (now links) ≡ true ⌝ }
     ensures { λ r. ⌜ Measured (now (site .entry)) (now (links .entry)) r ⌝ }
 {
-    let n = size(site[0]);
-    let j = size(site[1]);
-    let l = size(site[2]);
-    let m = pairs(n);
-    let boxes = boxes::boxes_length(site, n, j);
-    let mail = mail::links_length(links, m, j, l);
+    let s = memory::setting_of(site, 0);
+    let n = s.n as usize;
+    let m = memory::link_count(s);
+    let boxes = boxes::boxes_length(site, n, s.j);
+    let mail = mail::links_length(links, m, s.j, s.l);
     let total = table_length(n) + 20 + boxes + mail;
     Extent {
         n: n,
-        j: j,
-        l: l,
+        j: s.j,
+        l: s.l,
         pairs: m,
         boxes: boxes,
         mail: mail,
@@ -72,7 +62,7 @@ fn measure(site: &[u64], links: &[u64]) -> Extent
 }
 
 // The table of contents: the count, and the entries of the general body, the boxes and the mail.
-fn write_table(out: &mut [u8], site: &[u64], n: usize, j: usize, boxes: usize, mail: usize) -> usize
+fn write_table(out: &mut [u8], site: &[u64], n: usize, j: u32, boxes: usize, mail: usize) -> usize
     requires { ⌜ BoxesFit n j (now site) ⌝ }
     requires { ⌜ boxes ≡ length (chain (boxBody n) (boxesIn n j (now site))) ⌝ }
     requires { ⌜ boxes ≤ 164300 ⌝ }
@@ -97,8 +87,8 @@ fn write_bodies(
     site: &[u64],
     links: &[u64],
     n: usize,
-    j: usize,
-    l: usize,
+    j: u32,
+    l: u32,
     m: usize,
 ) -> usize
     requires { ⌜ BoxesFit n j (now site) × LinksFit m j l (now links) ⌝ }

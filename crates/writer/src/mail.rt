@@ -3,35 +3,26 @@ use words::size;
 ghost use mathlib.Core.Path.{_≡_};
 ghost use Prim.Native.Nat.{_+_, _*_, _≤_, _<_};
 ghost use lib.ListN.{length, getD};
-ghost use Rattle.rules.specs.Sizes.{mostLoads, mostMails};
 ghost use Rattle.place.specs.Place.{letterAt};
-ghost use Rattle.link.specs.Link.{linkWidth, linkOf};
+ghost use Rattle.link.specs.Link.{linkOf};
 ghost use Rattle.cells.specs.Cells.{chain, Room, Wrote};
 ghost use Rattle.image.specs.Image.{letterBytes, linkBytes};
 ghost use Rattle.writer.specs.Fits.{LetterFits, LinkFits, LetterIs, LinksFit, linksIn};
 
-// How many words a link has.
-pub fn link_width(j: usize, l: usize) -> usize
-    requires { ⌜ (j ≤ mostLoads) × (l ≤ mostMails) ⌝ }
-    ensures { λ r. ⌜ r ≡ linkWidth j l ⌝ }
-{
-    2 + l * (5 + j)
-}
-
 // Where the place of letter i begins.
-pub fn letter_at(link: &[u64], j: usize, l: usize, i: usize) -> usize
+pub fn letter_at(link: &[u64], j: u32, l: u32, i: usize) -> usize
     requires { ⌜ LinkFits j l (now link) ⌝ }
     requires { ⌜ i < getD (now link) 1 0 ⌝ }
     ensures { λ r. ⌜ LetterIs j l (now (link .entry)) i r ⌝ }
 {
     let first = size(link[0]);
-    let p = words::place(l, first, i);
-    2 + words::row_at(p, 5 + j, l)
+    let p = words::place(l as usize, first, i);
+    2 + words::row_at(p, 5 + j as usize, l as usize)
 }
 
 // ---- lengths
 
-fn letter_length(place: &[u64], j: usize) -> usize
+fn letter_length(place: &[u64], j: u32) -> usize
     requires { ⌜ LetterFits j (now place) ⌝ }
     ensures { λ r.
         ⌜ (r ≡ length (letterBytes (letterAt (now (place .entry))))) × (r ≤ 32788) ⌝ }
@@ -39,12 +30,12 @@ fn letter_length(place: &[u64], j: usize) -> usize
     20 + 8 * size(place[4])
 }
 
-fn letters_length(link: &[u64], j: usize, l: usize) -> usize
+fn letters_length(link: &[u64], j: u32, l: u32) -> usize
     requires { ⌜ LinkFits j l (now link) ⌝ }
     ensures { λ r.
         ⌜ (r ≡ length (chain letterBytes (linkOf j l (now (link .entry))))) × (r ≤ 524608) ⌝ }
 {
-    let w = 5 + j;
+    let w = 5 + j as usize;
     let count = size(link[1]);
     let mut total = 0;
     let mut i = 0;
@@ -56,7 +47,7 @@ fn letters_length(link: &[u64], j: usize, l: usize) -> usize
     total
 }
 
-fn link_length(link: &[u64], j: usize, l: usize) -> usize
+fn link_length(link: &[u64], j: u32, l: u32) -> usize
     requires { ⌜ LinkFits j l (now link) ⌝ }
     ensures { λ r.
         ⌜ (r ≡ length (linkBytes (linkOf j l (now (link .entry))))) × (r ≤ 524612) ⌝ }
@@ -65,13 +56,13 @@ fn link_length(link: &[u64], j: usize, l: usize) -> usize
 }
 
 // The mail body's length, of m links.
-pub fn links_length(links: &[u64], m: usize, j: usize, l: usize) -> usize
+pub fn links_length(links: &[u64], m: usize, j: u32, l: u32) -> usize
     requires { ⌜ LinksFit m j l (now links) ⌝ }
     requires { ⌜ m ≤ 20 ⌝ }
     ensures { λ r.
         ⌜ (r ≡ length (chain linkBytes (linksIn m j l (now (links .entry))))) × (r ≤ 10492240) ⌝ }
 {
-    let w = link_width(j, l);
+    let w = memory::link_width(j, l);
     let mut total = 0;
     let mut k = 0;
     while k < m {
@@ -84,7 +75,7 @@ pub fn links_length(links: &[u64], m: usize, j: usize, l: usize) -> usize
 
 // ---- bytes
 
-fn write_letter(out: &mut [u8], at: usize, place: &[u64], j: usize) -> usize
+fn write_letter(out: &mut [u8], at: usize, place: &[u64], j: u32) -> usize
     requires { ⌜ LetterFits j (now place) ⌝ }
     requires { ⌜ Room (letterBytes (letterAt (now place))) (now out) at ⌝ }
     ensures { λ r.
@@ -96,14 +87,14 @@ fn write_letter(out: &mut [u8], at: usize, place: &[u64], j: usize) -> usize
     cells::put_words(out, p, 8, &place[5..5 + count])
 }
 
-fn write_letters(out: &mut [u8], at: usize, link: &[u64], j: usize, l: usize) -> usize
+fn write_letters(out: &mut [u8], at: usize, link: &[u64], j: u32, l: u32) -> usize
     requires { ⌜ LinkFits j l (now link) ⌝ }
     requires { ⌜ Room (chain letterBytes (linkOf j l (now link))) (now out) at ⌝ }
     ensures { λ r.
         ⌜ Wrote (chain letterBytes (linkOf j l (now (link .entry))))
         (now (out .entry)) at (now (out .exit)) r ⌝ }
 {
-    let w = 5 + j;
+    let w = 5 + j as usize;
     let count = size(link[1]);
     let mut p = at;
     let mut i = 0;
@@ -115,7 +106,7 @@ fn write_letters(out: &mut [u8], at: usize, link: &[u64], j: usize, l: usize) ->
     p
 }
 
-fn write_link(out: &mut [u8], at: usize, link: &[u64], j: usize, l: usize) -> usize
+fn write_link(out: &mut [u8], at: usize, link: &[u64], j: u32, l: u32) -> usize
     requires { ⌜ LinkFits j l (now link) ⌝ }
     requires { ⌜ Room (linkBytes (linkOf j l (now link))) (now out) at ⌝ }
     ensures { λ r.
@@ -127,14 +118,14 @@ fn write_link(out: &mut [u8], at: usize, link: &[u64], j: usize, l: usize) -> us
 }
 
 // The mail body, of m links.
-pub fn write_links(out: &mut [u8], at: usize, links: &[u64], m: usize, j: usize, l: usize) -> usize
+pub fn write_links(out: &mut [u8], at: usize, links: &[u64], m: usize, j: u32, l: u32) -> usize
     requires { ⌜ LinksFit m j l (now links) ⌝ }
     requires { ⌜ Room (chain linkBytes (linksIn m j l (now links))) (now out) at ⌝ }
     ensures { λ r.
         ⌜ Wrote (chain linkBytes (linksIn m j l (now (links .entry))))
         (now (out .entry)) at (now (out .exit)) r ⌝ }
 {
-    let w = link_width(j, l);
+    let w = memory::link_width(j, l);
     let mut p = at;
     let mut k = 0;
     while k < m {

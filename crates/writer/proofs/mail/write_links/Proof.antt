@@ -61,7 +61,7 @@ cut c =
     (c3 .link-width .ensures)
 
 link-width-requires : tie.Need-link-width-requires Inv-loop μ-loop
-link-width-requires c κs = let f = c .before .before .pre .0 in (f .loads, f .mails)
+link-width-requires c κs = c .before .before .pre .0 .sizes
 
 loop-holds : tie.Need-loop-holds Inv-loop μ-loop
 loop-holds c =
