@@ -14,7 +14,7 @@ use Rattle.rules.specs.declared.model.Answer.{Answer}
 use Rattle.rules.specs.declared.model.Call.{Call}
 use Rattle.laws.proofs.Logic.{Or, left, right, decide, true≠false, and-yes, and-both, eqb-yes}
 use Rattle.laws.proofs.FormLaws.{sizes-says, is-box}
-use Rattle.laws.proofs.FormKept.{CallFits}
+use Rattle.laws.specs.Frames.{CallFits}
 use Rattle.laws.proofs.LeftAlone.{other-box}
 use Rattle.memory.specs.Memory.{siteWords, linksWords, siteOf, readable, memoryForm}
 use Rattle.memory.proofs.LentLaws.{form-readable}

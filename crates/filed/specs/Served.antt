@@ -5,7 +5,7 @@ use mathlib.Core.Path.{_≡_}
 use mathlib.Core.List.{List, [], _∷_}
 use Rattle.rules.specs.declared.model.Answer.{Answer}
 use Rattle.rules.specs.declared.model.Call.{Call}
-use Rattle.laws.proofs.FormKept.{CallFits}
+use Rattle.laws.specs.Frames.{CallFits}
 use Rattle.memory.specs.Memory.{siteOf}
 use Rattle.site.specs.Entries.{After, FreshMade, stepOn, holdsOn}
 

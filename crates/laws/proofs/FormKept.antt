@@ -26,23 +26,8 @@ use Rattle.laws.proofs.StepLaws.{readies, offers, proposes, agrees, fin
 use Rattle.laws.proofs.FrameLaws.{upd-all, posted-room}
 use Rattle.laws.proofs.StoreForm.{box-of, kept-part, best-part, peers-part, none-form}
 use Rattle.laws.proofs.StoreForm.{unknown-form}
+use Rattle.laws.specs.Frames.{CallFits}
 use Rattle.laws.proofs.TurnForm.{Fits, OutFits, EventFits, turn-fits}
-
--- the frame numbers of a call are numbers of 32 bits, as they are in code
-abbrev pub CallFits : Call → Type 0
-CallFits (Call.Elect c) = Unit {0}
-CallFits (Call.Recover c) = Unit {0}
-CallFits (Call.Collect c) = Unit {0}
-CallFits (Call.Ready c) = Unit {0}
-CallFits (Call.Offer c l r) = (l < 4294967296) × (r < 4294967296)
-CallFits (Call.Propose c) = Unit {0}
-CallFits (Call.Agree c) = Unit {0}
-CallFits (Call.Finish c) = Unit {0}
-CallFits (Call.Stop c) = Unit {0}
-CallFits (Call.Return c) = Unit {0}
-CallFits (Call.Timeout c) = Unit {0}
-CallFits (Call.Lose a b) = Unit {0}
-CallFits (Call.Deliver a b) = Unit {0}
 
 -- ---- the mail's head gone
 

@@ -9,7 +9,8 @@ use Rattle.rules.specs.Sizes.{mostBoxes, recordOf, proper}
 use Rattle.rules.specs.Box.{Box}
 use Rattle.rules.specs.Site.{Site, fresh}
 use Rattle.rules.specs.Step.{step, run}
-use Rattle.laws.proofs.Types.{Answer, Call}
+use Rattle.rules.specs.declared.model.Answer.{Answer}
+use Rattle.rules.specs.declared.model.Call.{Call}
 
 -- a number of 1 to n
 abbrev pub In : ℕ → ℕ → Type 0

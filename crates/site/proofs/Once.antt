@@ -9,7 +9,8 @@ use Rattle.rules.specs.Step.{refused, step, holds}
 use Rattle.rules.specs.declared.model.Answer.{Answer}
 use Rattle.rules.specs.declared.model.Call.{Call}
 use Rattle.rules.specs.declared.model.Refusal.{Refusal}
-use Rattle.laws.proofs.FormKept.{CallFits, step-keeps-form}
+use Rattle.laws.specs.Frames.{CallFits}
+use Rattle.laws.proofs.FormKept.{step-keeps-form}
 use Rattle.memory.specs.Memory.{siteOf, readable, memoryForm}
 use Rattle.memory.proofs.LentLaws.{form-readable, form-site, form-both}
 use Rattle.rules.specs.Answers.{isRefusal}

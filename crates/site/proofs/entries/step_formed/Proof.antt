@@ -6,7 +6,7 @@ use borrow.Fn.Kinds.{GoodsP}
 use contract.Lifetimes.{Lfts}
 use Rattle.rules.specs.Step.{step}
 use Rattle.rules.specs.declared.model.Call.{Call}
-use Rattle.laws.proofs.FormKept.{CallFits}
+use Rattle.laws.specs.Frames.{CallFits}
 use Rattle.site.proofs.Once.{formed}
 use Rattle.site.proofs.entries.step_formed.Statement.{statement}
 use Rattle.site.proofs.entries.step_formed.Tie as tie

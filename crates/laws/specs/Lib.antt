@@ -1,0 +1,2 @@
+-- What the statements about runs of the code cite.
+pub mod Frames
