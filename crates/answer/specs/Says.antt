@@ -14,7 +14,7 @@ use Rattle.memory.specs.Memory.{siteOf, memoryForm}
 use Rattle.rules.specs.Answers.{isRefusal}
 use Rattle.site.specs.Entries.{After}
 use Rattle.image.specs.Image.{imageOf, Bounded}
-use Rattle.reader.specs.Reader.{roomFor}
+use Rattle.reader.specs.Reader.{enoughFor}
 use Rattle.lines.specs.declared.Line.{Line}
 use Rattle.answer.specs.declared.tell.Told.{Told}
 use Rattle.answer.specs.Asks.{mostImage, Asks, AsksNothing}
@@ -80,9 +80,9 @@ pub data ImageIs (im : List ℕ) (l : Line) (xs ls : List ℕ) (m : ℕ) (o : Li
     : Told → List ℕ → Type 0 where
   none : {p : List ℕ} {r : Told} → HoldsNone im
       → TellIs true (answerText (Answer.Refused Refusal.Form) []) o r p → ImageIs im l xs ls m o r p
-  few-words : (s : Site) → form s ≡ true → imageOf s ≡ im → roomFor s xs ls ≡ false
+  few-words : (s : Site) → form s ≡ true → imageOf s ≡ im → enoughFor s xs ls ≡ false
       → ImageIs im l xs ls m o Told.Short o
-  some : {p : List ℕ} {r : Told} (s : Site) → Holds im s → roomFor s xs ls ≡ true
+  some : {p : List ℕ} {r : Told} (s : Site) → Holds im s → enoughFor s xs ls ≡ true
       → OutcomeIs l s m o r p → ImageIs im l xs ls m o r p
 
 -- the answer to any line

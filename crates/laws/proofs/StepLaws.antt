@@ -2,12 +2,13 @@
 -- needs and its verdict.
 use Prim.Native.Nat.{ℕ}
 use mathlib.Core.Path.{_≡_, refl, _∙_}
-use mathlib.Core.Bool.{Bool, true, not}
+use mathlib.Core.Bool.{Bool, true, false, not}
 use mathlib.Core.List.{List, [], _∷_}
 use lib.Count.{ones}
 use lib.Dec.{leb, ltb}
 use Rattle.rules.specs.Sizes.{majorityOf, mostEpoch, even}
 use Rattle.rules.specs.Sets.{has, setForm, joined, without}
+use Rattle.rules.specs.Answers.{isAccepted, isRefusal}
 use Rattle.rules.specs.Turns.{still, settled}
 use Rattle.rules.specs.Box.{Box, Letter, Event, own, mail, turnOf, brought}
 use Rattle.rules.specs.Site.{Site, Outcome, setting, room, played, popped}
@@ -16,10 +17,17 @@ use Rattle.rules.specs.Needs.{Need, ruled}
 use Rattle.rules.specs.Step.{refused, byAnswer, byTurn, atBox, acting, delivered, elect, presented}
 use Rattle.rules.specs.Step.{step, run}
 use Rattle.laws.proofs.Types.{Act, Answer, BoxState, Call, Cause, Refusal, Turn, Verdict}
-use Rattle.laws.proofs.Logic.{In, Passed, cond-elim}
+use Rattle.laws.proofs.Logic.{In, Passed, both-no, cond-elim}
 use Rattle.laws.proofs.SetLaws.{set-joined, set-without}
 use Rattle.laws.proofs.FormLaws.{Formed, form-says, is-box, is-link}
 use Rattle.laws.proofs.View.{Links}
+
+-- an accepted answer is no refusal
+pub accepted-kept : (a : Answer) → isAccepted a ≡ true → isRefusal a ≡ false
+accepted-kept Answer.Done h = refl
+accepted-kept Answer.Taken h = refl
+accepted-kept (Answer.Discarded why) h = refl
+accepted-kept (Answer.Refused why) h = absurd (both-no h refl)
 
 -- ---- needs
 

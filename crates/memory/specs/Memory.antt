@@ -2,7 +2,7 @@
 -- then a row for each box. `links`: a row for each ordered pair of different boxes, by sender then
 -- receiver. All other words are unused room.
 use Prim.Native.Nat.{ℕ, _+_, _-_, _*_}
-use mathlib.Core.Bool.{Bool, _||_, cond}
+use mathlib.Core.Bool.{Bool, _&&_, _||_, cond}
 use mathlib.Core.List.{List, [], _∷_}
 use lib.Dec.{leb, ltb, eqb}
 use lib.ListN.{length, drop, getD}
@@ -25,6 +25,10 @@ siteWords n J = 5 + n * rowWidth J
 
 abbrev pub linksWords : ℕ → ℕ → ℕ → ℕ
 linksWords n J L = n * (n - 1) * linkWidth J L
+
+-- neither list is too short for a site of these sizes
+abbrev pub enough : ℕ → ℕ → ℕ → List ℕ → List ℕ → Bool
+enough n J L xs ls = leb (siteWords n J) (length xs) && leb (linksWords n J L) (length ls)
 
 -- the words past those of a site of these sizes, in each list: room that is the caller's
 abbrev pub pastSite : ℕ → ℕ → List ℕ → List ℕ

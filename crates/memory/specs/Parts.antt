@@ -1,7 +1,7 @@
 -- By form in the order in which the code looks: the general words, the lengths, each row, each
 -- link.
 use Prim.Native.Nat.{ℕ, _-_, _*_}
-use mathlib.Core.Bool.{Bool, _&&_}
+use mathlib.Core.Bool.{Bool}
 use mathlib.Core.List.{List, [], _∷_}
 use lib.Dec.{leb}
 use lib.ListN.{length, getD}
@@ -11,7 +11,7 @@ use Rattle.rules.specs.Sets.{setForm}
 use Rattle.rules.specs.declared.model.Setting.{Setting}
 use Rattle.row.specs.Row.{boxOf, rowForm}
 use Rattle.link.specs.Link.{linkForm}
-use Rattle.memory.specs.Memory.{siteWords, linksWords, rowAt}
+use Rattle.memory.specs.Memory.{enough, rowAt}
 use Rattle.memory.specs.After.{linkRow}
 
 unfoldable pub generalForm : List ℕ → Bool
@@ -22,10 +22,9 @@ generalForm xs =
     ∷ setForm (getD xs 0 0) (getD xs 4 0)
     ∷ [])
 
--- neither list is too short
+-- the lengths
 abbrev pub wordsForm : Setting → List ℕ → List ℕ → Bool
-wordsForm s xs ls =
-    leb (siteWords (s .n) (s .j)) (length xs) && leb (linksWords (s .n) (s .j) (s .l)) (length ls)
+wordsForm s xs ls = enough (s .n) (s .j) (s .l) xs ls
 
 abbrev pub rowTest : Setting → List ℕ → ℕ → Bool
 rowTest s xs b = rowForm (s .n) (s .j) b (rowAt (s .j) xs b)

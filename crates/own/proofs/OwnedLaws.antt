@@ -12,6 +12,7 @@ use Rattle.rules.specs.Box.{Box, turned}
 use Rattle.rules.specs.Own.{OwnOutcome, unmoved, receivers, lettersOf, ownTurn}
 use Rattle.laws.proofs.Types.{Answer, Refusal, Setting, Turn}
 use Rattle.laws.proofs.Logic.{both-no, and-both}
+use Rattle.laws.proofs.StepLaws.{accepted-kept}
 use Rattle.place.specs.Place.{letterAt}
 use Rattle.own.specs.Entry.{rowOf, placeOf, ownBox, rowReads, placeReads}
 use Rattle.rules.specs.Answers.{isRefusal, isAccepted}
@@ -100,12 +101,6 @@ front-past w xs ys h e = drop-at ys (drop w xs) w (e ∙ length-take-le w xs h)
 
 front-back : (w : ℕ) (xs ys : List ℕ) → ys ≡ take w xs → ys ++ drop w xs ≡ xs
 front-back w xs ys e = rw e (take-append-drop w xs)
-
-accepted-kept : (a : Answer) → isAccepted a ≡ true → isRefusal a ≡ false
-accepted-kept Answer.Done h = refl
-accepted-kept Answer.Taken h = refl
-accepted-kept (Answer.Discarded why) h = refl
-accepted-kept (Answer.Refused why) h = absurd (both-no h refl)
 
 -- ---- the turn t is concluded, with the answer a
 

@@ -16,7 +16,7 @@ use Rattle.memory.proofs.LentLaws.{form-readable, form-site, readable-rows, rea
 use Rattle.image.specs.Image.{imageOf}
 use Rattle.image.proofs.OneImage.{one-image}
 use Rattle.image.proofs.MemoryImage.{one-memory}
-use Rattle.reader.specs.Reader.{roomFor, Holds, ReadIs, not-by-form, too-short, done}
+use Rattle.reader.specs.Reader.{enoughFor, Holds, ReadIs, not-by-form, too-short, done}
 
 -- Two results have the same answer and the same site, and where it is refused the same words.
 pub record Same (a b : Answer) (ys ks zs ms : List ℕ) : Type 0 where
@@ -26,7 +26,7 @@ pub record Same (a b : Answer) (ys ks zs ms : List ℕ) : Type 0 where
 
 -- Sites by form of one image have room in the same words.
 pub same-room : (s t : Site) (xs ls : List ℕ) → form s ≡ true → form t ≡ true
-    → imageOf s ≡ imageOf t → roomFor s xs ls ≡ roomFor t xs ls
+    → imageOf s ≡ imageOf t → enoughFor s xs ls ≡ enoughFor t xs ls
 same-room s t xs ls f g e =
     let a = one-image s t f g e in
     λ i. leb (siteWords (a .n i) (a .J i)) (length xs)
@@ -37,7 +37,7 @@ module _ {image xs ls ys ks : List ℕ} (h : Holds image xs ls ys ks) where
   held-form = form-site ys ks (h .form)
 
   -- Where it is stored there was room.
-  pub held-room : roomFor (siteOf ys ks) xs ls ≡ true
+  pub held-room : enoughFor (siteOf ys ks) xs ls ≡ true
   unfolding siteOf
   held-room =
       let r = form-readable ys ks (h .form) in
@@ -51,7 +51,7 @@ module _ {image xs ls ys ks : List ℕ} (h : Holds image xs ls ys ks) where
   not-none : ((s : Site) → form s ≡ true → imageOf s ≡ image → ⊥) → ⊥
   not-none none = none (siteOf ys ks) held-form (h .image)
 
-  not-short : (s : Site) → form s ≡ true → imageOf s ≡ image → roomFor s xs ls ≡ false → ⊥
+  not-short : (s : Site) → form s ≡ true → imageOf s ≡ image → enoughFor s xs ls ≡ false → ⊥
   not-short s f e short =
       both-no held-room
       (same-room (siteOf ys ks) s xs ls held-form f (h .image ∙ sym e) ∙ short)

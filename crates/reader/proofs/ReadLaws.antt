@@ -23,7 +23,7 @@ use Rattle.image.proofs.TableLaws.{length-table, bodies-count, image-in}
 use Rattle.whole.specs.Whole.{ImageFound}
 use Rattle.store.specs.Store.{RoomFor, SiteStored}
 use Rattle.store.proofs.SiteLaws.{bodies-are, general-read}
-use Rattle.reader.specs.Reader.{roomFor, Holds}
+use Rattle.reader.specs.Reader.{enoughFor, Holds}
 
 -- Sites of which the same is listed have the same image.
 pub listed-image : (s t : Site) → listed s ≡ listed t → imageOf s ≡ imageOf t
@@ -107,7 +107,7 @@ module _ (src : List ℕ) (at : ℕ) (f : ImageFound src at) where
             );
       }
 
-      pub no-room : (xs ls : List ℕ) → wordsForm z xs ls ≡ false → roomFor (f .site) xs ls ≡ false
+      pub no-room : (xs ls : List ℕ) → wordsForm z xs ls ≡ false → enoughFor (f .site) xs ls ≡ false
       unfolding listed
       no-room xs ls r =
           let n = same-n found (length src) image-good bodies-stand in

@@ -18,13 +18,13 @@ use Rattle.image.proofs.MemoryImage.{memory-bounded}
 use Rattle.writer.specs.declared.Written.{Written}
 use Rattle.writer.specs.Writer.{WriteIs}
 use Rattle.writer.specs.Writer as writer
-use Rattle.reader.specs.Reader.{roomFor, ReadIs}
+use Rattle.reader.specs.Reader.{enoughFor, ReadIs}
 use Rattle.reader.specs.Reader as reader
 use Rattle.reader.proofs.Once.{same-room, held-form}
 
 -- Every site by form is read back from its image, where the words are enough for it.
 pub read-back : (s : Site) {xs ls ys ks : List ℕ} {a : Answer} → form s ≡ true
-    → roomFor s xs ls ≡ true → ReadIs (imageOf s) xs ls a ys ks
+    → enoughFor s xs ls ≡ true → ReadIs (imageOf s) xs ls a ys ks
     → (a ≡ Answer.Done) × Agree s (siteOf ys ks)
 read-back s f room (reader.not-by-form p) = absurd (p s f refl)
 read-back s {xs} {ls} f room (reader.too-short t g e r) =
@@ -66,7 +66,7 @@ front-written {us} {vs} {o} n e (writer.written f l) =
 
 -- WRITE, THEN READ: the same site.
 pub write-read : {us vs o o' xs ls ys ks : List ℕ} {w : Written} {a : Answer} (n : ℕ)
-    → w ≡ Written.Length n → WriteIs us vs o w o' → roomFor (siteOf us vs) xs ls ≡ true
+    → w ≡ Written.Length n → WriteIs us vs o w o' → enoughFor (siteOf us vs) xs ls ≡ true
     → ReadIs (take n o') xs ls a ys ks → (a ≡ Answer.Done) × (siteOf ys ks ≡ siteOf us vs)
 write-read {us} {vs} {xs = xs} {ls = ls} {ys = ys} {ks = ks} {a = a} n e w room r =
     let k = front-written n e w in

@@ -2,22 +2,20 @@
 -- become: 1 where no site by form has this image, 12 where the words are too few for its site, else
 -- they hold exactly that site.
 use mathlib.Core.Path.{_≡_}
-use mathlib.Core.Bool.{Bool, true, false, _&&_}
+use mathlib.Core.Bool.{Bool, true, false}
 use mathlib.Core.List.{List}
 use Prim.Native.Nat.{ℕ}
-use lib.Dec.{leb}
 use lib.ListN.{length}
 use Rattle.rules.specs.Site.{Site}
 use Rattle.rules.specs.Form.{form}
 use Rattle.rules.specs.declared.model.Answer.{Answer}
 use Rattle.rules.specs.declared.model.Refusal.{Refusal}
-use Rattle.memory.specs.Memory.{siteWords, linksWords, pastSite, pastLinks, siteOf, memoryForm}
+use Rattle.memory.specs.Memory.{enough, pastSite, pastLinks, siteOf, memoryForm}
 use Rattle.image.specs.Image.{imageOf}
 
--- the words xs and ls are enough for a site of these sizes
-abbrev pub roomFor : Site → List ℕ → List ℕ → Bool
-roomFor s xs ls =
-    leb (siteWords (s .n) (s .J)) (length xs) && leb (linksWords (s .n) (s .J) (s .L)) (length ls)
+-- the words xs and ls are enough for the site
+abbrev pub enoughFor : Site → List ℕ → List ℕ → Bool
+enoughFor s xs ls = enough (s .n) (s .J) (s .L) xs ls
 
 -- the words xs and ls have become ys and ks, which hold exactly the site of the image; what follows
 -- its rows and links is as it was
@@ -36,6 +34,6 @@ pub record Holds (bytes xs ls ys ks : List ℕ) : Type 0 where
 pub data ReadIs (bytes xs ls : List ℕ) : Answer → List ℕ → List ℕ → Type 0 where
   not-by-form : ((s : Site) → form s ≡ true → imageOf s ≡ bytes → ⊥)
       → ReadIs bytes xs ls (Answer.Refused Refusal.Form) xs ls
-  too-short : (s : Site) → form s ≡ true → imageOf s ≡ bytes → roomFor s xs ls ≡ false
+  too-short : (s : Site) → form s ≡ true → imageOf s ≡ bytes → enoughFor s xs ls ≡ false
       → ReadIs bytes xs ls (Answer.Refused Refusal.Buffer) xs ls
   done : {ys ks : List ℕ} → Holds bytes xs ls ys ks → ReadIs bytes xs ls Answer.Done ys ks

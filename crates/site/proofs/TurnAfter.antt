@@ -19,7 +19,7 @@ use Rattle.rules.specs.declared.model.Refusal.{Refusal}
 use Rattle.rules.specs.declared.model.Setting.{Setting}
 use Rattle.rules.specs.declared.model.Turn.{Turn}
 use Rattle.laws.proofs.Logic.{true≠false, both-no}
-use Rattle.laws.proofs.StepLaws.{changed}
+use Rattle.laws.proofs.StepLaws.{changed, accepted-kept}
 use Rattle.memory.specs.Memory.{siteOf, readable, memoryForm}
 use Rattle.memory.specs.After.{settingAt, boxesOf, linksOf, RowsPut, LinksPut}
 use Rattle.memory.proofs.LentLaws.{form-readable, setting-same, readable-rows, readable-links}
@@ -30,12 +30,6 @@ use Rattle.site.proofs.AfterLaws.{refused-after, same-after, turn-refus
 use Rattle.site.proofs.AfterLaws.{turn-full, turn-played, changed-after, rows-same}
 use Rattle.site.proofs.CallLaws.{acting-no-box, acting-turn, deliver-no-link, deliver-head}
 use Rattle.site.proofs.CallLaws.{delivered-turn}
-
-accepted-no-refusal : (a : Answer) → isAccepted a ≡ true → isRefusal a ≡ false
-accepted-no-refusal Answer.Done e = refl
-accepted-no-refusal Answer.Taken e = refl
-accepted-no-refusal (Answer.Discarded why) e = absurd (true≠false (sym e))
-accepted-no-refusal (Answer.Refused why) e = absurd (true≠false (sym e))
 
 module _ (xs ls : List ℕ) (f : memoryForm xs ls ≡ true) where
   abbrev s : Site
@@ -94,7 +88,7 @@ module _ (xs ls : List ℕ) (f : memoryForm xs ls ≡ true) where
         acting-played xs' ls' h r rows links =
             changed-after xs ls xs' ls' c _ _ _ (t .answer)
             (is-turn ∙ turn-played xs ls c (s .link) t [] h r)
-            (accepted-no-refusal (t .answer) h) rows links
+            (accepted-kept (t .answer) h) rows links
 
   -- ---- a mail from a to b
 
@@ -167,4 +161,4 @@ module _ (xs ls : List ℕ) (f : memoryForm xs ls ≡ true) where
         deliver-played xs' ls' h r rows links =
             changed-after xs ls xs' ls' b _ _ _ (t .answer)
             (mail-turn ∙ turn-played xs ls b (base .link) t (y .records) h r)
-            (accepted-no-refusal (t .answer) h) rows links
+            (accepted-kept (t .answer) h) rows links

@@ -1,9 +1,8 @@
 -- What the entries promise: the paper's rules on the site that the lent words hold.
 use Prim.Native.Nat.{ℕ}
 use mathlib.Core.Path.{_≡_}
-use mathlib.Core.Bool.{true, false, _&&_, cond}
+use mathlib.Core.Bool.{true, false, cond}
 use mathlib.Core.List.{List, [], _∷_}
-use lib.Dec.{leb}
 use lib.ListN.{length}
 use Rattle.rules.specs.Sizes.{sizesForm}
 use Rattle.rules.specs.Answers.{isRefusal}
@@ -13,8 +12,7 @@ use Rattle.rules.specs.Step.{refused, did, step, holds}
 use Rattle.rules.specs.declared.model.Answer.{Answer}
 use Rattle.rules.specs.declared.model.Call.{Call}
 use Rattle.rules.specs.declared.model.Refusal.{Refusal}
-use Rattle.memory.specs.Memory.{siteWords, linksWords, pastSite, pastLinks, siteOf, readable}
-use Rattle.memory.specs.Memory.{memoryForm}
+use Rattle.memory.specs.Memory.{enough, pastSite, pastLinks, siteOf, readable, memoryForm}
 
 -- the outcome o of a call on the words xs and ls: they have become xs' and ls', and a was answered
 pub record After (o : Outcome) (xs ls xs' ls' : List ℕ) (a : Answer) : Type 0 where
@@ -39,7 +37,7 @@ unfoldable pub freshOn : List ℕ → List ℕ → ℕ → ℕ → ℕ → Outco
 freshOn xs ls n J L =
     ruled (refused (siteOf xs ls))
     (need Refusal.Sizes (sizesForm n J L)
-    ∷ need Refusal.Buffer (leb (siteWords n J) (length xs) && leb (linksWords n J L) (length ls))
+    ∷ need Refusal.Buffer (enough n J L xs ls)
     ∷ [])
     (did (fresh n J L))
 
