@@ -4,13 +4,13 @@ use Prim.Native.Nat.{ℕ, _+_, _-_, _*_, _^_, _≤_, _<_}
 use native.Mathlib.Nat.{add-zero}
 use native.Mathlib.Numerals.{add-one}
 use native.Mathlib.Omega.{arith}
-use mathlib.Core.List.{List, [], _∷_, _++_, append-assoc}
-use lib.ListN.{length, take, drop, set, length-append, length-take, take-append-drop}
-use lib.Seq.{take-all, take-at, drop-drop, take-suc-set, drop-append-seam, length-take-le}
+use mathlib.Core.List.{List, [], _++_, append-assoc}
+use lib.ListN.{length, take, drop, set, length-append, take-append-drop}
+use lib.Seq.{take-all, take-at, drop-drop, take-suc-set, drop-append-seam}
 use Rattle.words.specs.Rows.{part}
 use Rattle.le.specs.Le.{le, Number}
 use Rattle.le.proofs.LeLaws.{length-le}
-use Rattle.cells.specs.Cells.{chain, cells, Each, Below, Stands, Read}
+use Rattle.cells.specs.Cells.{chain, Each, Stands, Read}
 use Rattle.cells.proofs.ChainLaws.{chain-snoc, length-cells, each-snoc}
 
 pub stands-nil : (src : List ℕ) (at : ℕ) → at ≤ length src → Stands [] src at at

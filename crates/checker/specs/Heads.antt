@@ -1,9 +1,8 @@
 -- By form of a letter, but for its records: what its five words show.
 use Prim.Native.Nat.{ℕ}
-use mathlib.Core.Bool.{Bool, _&&_}
-use mathlib.Core.List.{List, [], _∷_}
+use mathlib.Core.Bool.{Bool}
+use mathlib.Core.List.{[], _∷_}
 use lib.Dec.{leb}
-use lib.ListN.{getD}
 use Rattle.rules.specs.Every.{all}
 use Rattle.rules.specs.Sizes.{mostPn, within}
 use Rattle.rules.specs.Form.{formKind}

@@ -1,10 +1,10 @@
 -- The words hold the site of a run, so what is true of every run is true of them.
-use Prim.Native.Nat.{ℕ, _-_, _≤_}
+use Prim.Native.Nat.{ℕ}
 use mathlib.Core.Path.{_≡_, refl, sym, ap, _∙_, subst}
 use mathlib.Core.Bool.{Bool, true, false, _&&_}
 use mathlib.Core.List.{List, [], _∷_}
-use lib.Dec.{leb, eqb}
-use lib.ListN.{length, getD}
+use lib.Dec.{leb}
+use lib.ListN.{length}
 use borrow.Author.Tests.{leb-true, le-leb, eq-eqb}
 use Rattle.rules.specs.Sizes.{mostBoxes, sizesForm, leftOf, rightOf}
 use Rattle.rules.specs.Box.{Box}
@@ -14,17 +14,16 @@ use Rattle.rules.specs.declared.model.Answer.{Answer}
 use Rattle.rules.specs.declared.model.Call.{Call}
 use Rattle.laws.proofs.Logic.{Or, left, right, decide, true≠false, and-yes, and-both, eqb-yes}
 use Rattle.laws.proofs.FormLaws.{sizes-says, is-box}
-use Rattle.laws.specs.Frames.{CallFits}
 use Rattle.laws.proofs.LeftAlone.{other-box}
-use Rattle.memory.specs.Memory.{siteWords, linksWords, siteOf, readable, memoryForm}
+use Rattle.memory.specs.Memory.{siteWords, linksWords, siteOf, memoryForm}
 use Rattle.memory.proofs.LentLaws.{form-readable}
 use Rattle.rules.specs.Answers.{isRefusal}
-use Rattle.site.specs.Entries.{After, FreshMade, FormedStep, freshOn, stepOn, holdsOn}
+use Rattle.site.specs.Entries.{After, FreshMade, freshOn, stepOn, holdsOn}
 use Rattle.site.proofs.AfterLaws.{need-met, no-needs}
 use Rattle.site.proofs.FreshAfter.{fresh-sizes, fresh-short}
 use Rattle.site.proofs.CallLaws.{holds-no-box, holds-true, holds-untrue}
 use Rattle.site.proofs.Once.{form-kept, held-formed}
-use Rattle.safety.specs.Demand3.{In, Agreed, recordAt, start, AfterRun, Demand3}
+use Rattle.safety.specs.Demand3.{In, Agreed, recordAt, start}
 use Rattle.safety.proofs.Safe.{same-n}
 use Rattle.safety.proofs.Demand.{demand-3}
 use Rattle.filed.specs.Served.{Served, made, called, Filed}

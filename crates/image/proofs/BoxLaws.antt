@@ -1,7 +1,7 @@
 -- What can be told of a box from its bytes.
 use mathlib.Core.Path.{_≡_, refl, sym, ap, _∙_, subst}
 use mathlib.Core.Bool.{Bool, true, false, cond}
-use Prim.Native.Nat.{ℕ, _+_, _-_, _*_, _^_, _≤_, _<_}
+use Prim.Native.Nat.{ℕ, _+_, _-_, _^_, _≤_, _<_}
 use native.Mathlib.Omega.{arith}
 use mathlib.Core.List.{List, [], _∷_, _++_, append-assoc}
 use lib.Dec.{leb}
@@ -10,16 +10,15 @@ use lib.ListN.{take-append-drop}
 use lib.Seq.{take-all, take-at, take-append-le, drop-append-le, drop-drop, getD-drop, ext-getD}
 use borrow.Author.Tests.{leb-false}
 use Rattle.words.specs.Rows.{part}
-use Rattle.words.proofs.PartLaws.{length-part, gets, gets-all}
-use Rattle.rules.specs.Sizes.{mostBoxes, mostLoads, mostPn, unknown}
-use Rattle.rules.specs.Sets.{setForm}
+use Rattle.words.proofs.PartLaws.{length-part, gets-all}
+use Rattle.rules.specs.Sizes.{mostBoxes, mostLoads, unknown}
 use Rattle.rules.specs.Numbers.{stateNumber, phaseNumber}
 use Rattle.rules.specs.Box.{Box}
-use Rattle.laws.proofs.Types.{BoxState, Phase, State}
-use Rattle.laws.proofs.Logic.{Or, left, right, In}
+use Rattle.laws.proofs.Types.{Phase, State}
+use Rattle.laws.proofs.Logic.{left, right, In}
 use Rattle.laws.proofs.SetLaws.{set-small, set-up}
 use Rattle.laws.proofs.FormLaws.{FormedBox, Peer, box-says}
-use Rattle.row.specs.Row.{flagOf, flagNumber, stateOf, phaseOf, peerOf, headOf, wordsOf}
+use Rattle.row.specs.Row.{flagOf, flagNumber, stateOf, phaseOf, headOf, wordsOf}
 use Rattle.cells.specs.Cells.{cells, Each, All, Below}
 use Rattle.cells.proofs.ChainLaws.{each-one, each-take, each-made}
 use Rattle.cells.proofs.CodeLaws.{Code, Parts, cells-code, cancel-same, told-code}

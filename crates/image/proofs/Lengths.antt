@@ -1,10 +1,10 @@
 -- How long an image is: a sum over what it holds; and the starred fresh images.
 use mathlib.Core.Path.{_≡_, refl, ap, _∙_}
 use mathlib.Core.Bool.{true}
-use Prim.Native.Nat.{ℕ, _+_, _-_, _*_, _≤_, _<_}
+use Prim.Native.Nat.{ℕ, _+_, _*_, _≤_, _<_}
 use native.Mathlib.Omega.{arith}
-use mathlib.Core.List.{List, [], _∷_, _++_}
-use lib.ListN.{length, take, getD, length-append}
+use mathlib.Core.List.{List, [], _∷_}
+use lib.ListN.{length, getD, length-append}
 use lib.Seq.{length-take-le}
 use Rattle.rules.specs.Sizes.{mostBoxes}
 use Rattle.rules.specs.Box.{Box, Letter}
@@ -12,7 +12,7 @@ use Rattle.rules.specs.Site.{Site, freshBox, freshHead, fresh}
 use Rattle.rules.specs.Form.{form}
 use Rattle.laws.proofs.Logic.{In}
 use Rattle.laws.proofs.FormLaws.{form-says}
-use Rattle.cells.specs.Cells.{chain, cells, All, Each}
+use Rattle.cells.specs.Cells.{chain, All, Each}
 use Rattle.cells.proofs.ChainLaws.{length-cells, each-made}
 use Rattle.image.specs.Image.{numbersFrom, boxesOf, bySender, linksOf, boxBody, letterBytes}
 use Rattle.image.specs.Image.{linkBytes}

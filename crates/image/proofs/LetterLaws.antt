@@ -1,19 +1,19 @@
 -- What can be told of words, letters and links from their bytes.
-use mathlib.Core.Path.{_≡_, refl, sym, ap, _∙_, subst}
-use mathlib.Core.Bool.{true, _&&_}
-use Prim.Native.Nat.{ℕ, zero, suc, _+_, _*_, _/_, _%_, _^_, _≤_, _<_}
+use mathlib.Core.Path.{_≡_, refl, sym, ap, _∙_}
+use mathlib.Core.Bool.{_&&_}
+use Prim.Native.Nat.{ℕ, zero, suc, _^_, _≤_, _<_}
 use native.Mathlib.Omega.{arith}
 use mathlib.Core.List.{List, [], _∷_, _++_}
 use lib.Dec.{leb, ltb}
-use lib.ListN.{length, getD, length-append}
+use lib.ListN.{length, getD}
 use borrow.Author.Tests.{ltb-true}
-use Rattle.rules.specs.Sizes.{mostLoads, mostMails, mostPn, leftOf, rightOf, proper, recordForm}
+use Rattle.rules.specs.Sizes.{mostLoads, mostMails, leftOf, rightOf, proper}
 use Rattle.rules.specs.Numbers.{kindNumber}
 use Rattle.rules.specs.Box.{Letter}
 use Rattle.laws.proofs.Types.{Kind, Mail}
 use Rattle.laws.proofs.Logic.{Or, left, right, and-yes}
 use Rattle.laws.proofs.Logic as logic
-use Rattle.laws.proofs.FormLaws.{Proper, record-says, FormedLetter, FormedKind, letter-says}
+use Rattle.laws.proofs.FormLaws.{Proper, FormedLetter, FormedKind, letter-says}
 use Rattle.place.specs.Place.{kindOf, mailAt, wordsOfMail}
 use Rattle.cells.specs.Cells.{chain, cells, Each, All, Below}
 use Rattle.cells.proofs.ChainLaws.{each-one, each-map}

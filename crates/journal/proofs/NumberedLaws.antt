@@ -1,6 +1,6 @@
 -- An answer and its number: what an entry promises of its answer, it promises of the outcome's.
 use Prim.Native.Nat.{ℕ}
-use mathlib.Core.Path.{_≡_, sym, ap, _∙_, subst}
+use mathlib.Core.Path.{_≡_, ap, _∙_, subst}
 use mathlib.Core.Bool.{Bool, cond}
 use mathlib.Core.List.{List}
 use Rattle.rules.specs.Numbers.{answerNumber}
@@ -9,7 +9,7 @@ use Rattle.rules.specs.Own.{OwnOutcome}
 use Rattle.rules.specs.declared.model.Answer.{Answer}
 use Rattle.rules.specs.declared.model.Call.{Call}
 use Rattle.rules.specs.declared.model.Setting.{Setting}
-use Rattle.site.specs.Entries.{After, FreshMade, stepOn, freshOn}
+use Rattle.site.specs.Entries.{After, FreshMade, stepOn}
 use Rattle.own.specs.Entry.{Owned}
 use Rattle.own.specs.Lent.{StillReads}
 use Rattle.journal.specs.Numbered.{Stepped, Freshened, Alone}

@@ -15,7 +15,7 @@ use Rattle.laws.proofs.Logic.{both-no, and-both}
 use Rattle.laws.proofs.StepLaws.{accepted-kept}
 use Rattle.place.specs.Place.{letterAt}
 use Rattle.own.specs.Entry.{rowOf, placeOf, ownBox, rowReads, placeReads}
-use Rattle.rules.specs.Answers.{isRefusal, isAccepted}
+use Rattle.rules.specs.Answers.{isAccepted}
 use Rattle.own.specs.Entry.{buffered, Owned}
 use Rattle.own.specs.Lent.{Carries, Carried, Concludes, concluded, StillReads}
 

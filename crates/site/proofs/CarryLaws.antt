@@ -1,9 +1,8 @@
 -- A turn carried out: what each part needs, and what the parts come to.
-use Prim.Native.Nat.{ℕ, _≤_}
-use mathlib.Core.Path.{_≡_, refl, sym, ap, _∙_, subst}
+use Prim.Native.Nat.{ℕ}
+use mathlib.Core.Path.{_≡_, refl, sym, _∙_, subst}
 use mathlib.Core.Bool.{Bool, true, false}
-use mathlib.Core.List.{List, []}
-use lib.ListN.{length}
+use mathlib.Core.List.{List}
 use Rattle.rules.specs.Every.{every}
 use Rattle.rules.specs.Sets.{has}
 use Rattle.rules.specs.Box.{Box, Letter, turned}
@@ -15,10 +14,10 @@ use Rattle.rules.specs.declared.model.Turn.{Turn}
 use Rattle.laws.proofs.FormLaws.{box-made, letter-made}
 use Rattle.laws.proofs.FrameLaws.{upd-same}
 use Rattle.laws.proofs.Receivers.{NotTo}
-use Rattle.laws.proofs.TurnForm.{OutFits, Fits}
-use Rattle.memory.specs.After.{boxesOf, linksOf, roomFor, RowsLent, LinksLent, BoxLent, RowsPut}
+use Rattle.laws.proofs.TurnForm.{OutFits}
+use Rattle.memory.specs.After.{boxesOf, linksOf, roomFor, LinksLent, RowsPut}
 use Rattle.memory.specs.After.{LinksPut, Sends, Playable}
-use Rattle.site.specs.Carry.{roomOut, Posts, Carries, Carried}
+use Rattle.site.specs.Carry.{roomOut, Posts, Carries}
 
 -- ---- what is sent, by its case
 

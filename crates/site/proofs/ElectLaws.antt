@@ -1,33 +1,24 @@
 -- An election carried out in the words, and a holds line.
-use Prim.Native.Nat.{ℕ, _+_, _*_, _-_, _≤_, _<_}
+use Prim.Native.Nat.{ℕ, _+_}
 use mathlib.Core.Path.{_≡_, refl, sym, ap, _∙_, subst}
-use mathlib.Core.Bool.{Bool, true, false, cond}
+use mathlib.Core.Bool.{true}
 use mathlib.Core.List.{List, []}
-use native.Mathlib.Omega.{arith}
-use lib.ListN.{length, getD}
-use Rattle.words.specs.Rows.{part}
-use Rattle.rules.specs.Sizes.{mostEpoch}
-use Rattle.rules.specs.Box.{Box}
-use Rattle.rules.specs.Site.{Site, Outcome, isBox, freshBox}
-use Rattle.rules.specs.Step.{did, elect, step, agreedAs, holds}
+use lib.ListN.{getD}
+use Rattle.rules.specs.Site.{isBox}
+use Rattle.rules.specs.Step.{elect, step, holds}
 use Rattle.rules.specs.declared.model.Answer.{Answer}
 use Rattle.rules.specs.declared.model.Call.{Call}
-use Rattle.rules.specs.declared.model.Refusal.{Refusal}
 use Rattle.rules.specs.declared.model.Setting.{Setting}
 use Rattle.rules.specs.declared.model.Verdict.{Verdict}
-use Rattle.laws.proofs.Logic.{In}
-use Rattle.laws.proofs.FormLaws.{Formed, box-made, is-box}
-use Rattle.row.specs.Row.{boxOf}
-use Rattle.memory.specs.Memory.{rowAt, rowStart, rowWidth, siteOf, memoryForm}
+use Rattle.laws.proofs.FormLaws.{box-made, is-box}
+use Rattle.memory.specs.Memory.{siteOf, memoryForm}
 use Rattle.memory.specs.After.{settingAt, boxesOf, BoxesLent, RowsPut, LinksPut, electedBoxes}
 use Rattle.site.specs.Entries.{After}
 use Rattle.site.specs.Verdicts.{verdictOf}
 use Rattle.rules.specs.Step.{electNeeds}
 use Rattle.site.specs.General.{generalPut}
 use Rattle.site.specs.Carry.{Knows, ElectIs}
-use Rattle.site.specs.Records.{AgreedLie}
-use Rattle.site.proofs.CallLaws.{verdict-go, verdict-discard, elect-needs, holds-true}
-use Rattle.site.proofs.CallLaws.{holds-untrue}
+use Rattle.site.proofs.CallLaws.{verdict-go, verdict-discard, elect-needs}
 use Rattle.site.proofs.CallAfter.{needs-refused, elected-after}
 use Rattle.site.proofs.KnownLaws.{formed, rows-lent}
 

@@ -1,19 +1,19 @@
 -- The epoch and the present set in the words: nothing else of the site changes with them.
 use Prim.Native.Nat.{ℕ, _+_, _*_, _-_, _≤_, _<_}
-use mathlib.Core.Path.{_≡_, refl, sym, ap, _∙_}
-use mathlib.Core.Bool.{Bool, true, cond}
+use mathlib.Core.Path.{_≡_, refl, ap, _∙_}
+use mathlib.Core.Bool.{true, cond}
 use mathlib.Core.List.{List}
 use native.Mathlib.Omega.{arith}
 use lib.ListN.{length, set, take, drop, getD, length-set}
 use lib.Seq.{getD-set-same, getD-set-other, drop-set-lt}
-use Rattle.rules.specs.Site.{Site, isBox, freshBox}
+use Rattle.rules.specs.Site.{isBox, freshBox}
 use Rattle.rules.specs.Step.{risen}
 use Rattle.rules.specs.declared.model.Answer.{Answer}
 use Rattle.rules.specs.declared.model.Setting.{Setting}
 use Rattle.rules.specs.declared.model.Verdict.{Verdict}
 use Rattle.row.specs.Row.{boxOf}
-use Rattle.memory.specs.Memory.{rowWidth, rowStart, rowAt, boxIn, linkIn, siteOf, readable}
-use Rattle.memory.specs.After.{settingAt, RowsLent, LinksLent}
+use Rattle.memory.specs.Memory.{rowWidth, rowAt, boxIn, linkIn, siteOf, readable}
+use Rattle.memory.specs.After.{settingAt}
 use Rattle.memory.proofs.LentLaws.{readable-rows, readable-links, readable-made}
 use Rattle.site.specs.General.{generalPut, settingPut, withGeneral, Presented}
 

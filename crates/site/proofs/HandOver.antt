@@ -1,16 +1,15 @@
 -- The head of a link handed over: from what the code knows and leaves to the outcome of Deliver.
-use Prim.Native.Nat.{ℕ, _+_, _<_}
-use mathlib.Core.Path.{_≡_, refl, sym, ap, _∙_, subst}
-use mathlib.Core.Bool.{Bool, true, false, not}
+use Prim.Native.Nat.{ℕ}
+use mathlib.Core.Path.{_≡_, refl, sym, _∙_, subst}
+use mathlib.Core.Bool.{Bool, true, false}
 use mathlib.Core.List.{List, _∷_, tail}
-use lib.ListN.{length, getD}
+use lib.ListN.{getD}
 use Rattle.words.specs.Rows.{part}
 use Rattle.rules.specs.Box.{Letter, mail, turnOf, turned}
-use Rattle.rules.specs.Site.{Site, Outcome, isBox, isLink, posted, popped, room}
+use Rattle.rules.specs.Site.{Outcome, isBox, isLink, posted, popped, room}
 use Rattle.rules.specs.Step.{step}
 use Rattle.rules.specs.declared.model.Answer.{Answer}
 use Rattle.rules.specs.declared.model.Call.{Call}
-use Rattle.rules.specs.declared.model.Out.{Out}
 use Rattle.rules.specs.declared.model.Refusal.{Refusal}
 use Rattle.rules.specs.declared.model.Setting.{Setting}
 use Rattle.rules.specs.declared.model.Turn.{Turn}

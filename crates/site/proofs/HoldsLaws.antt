@@ -1,12 +1,11 @@
 -- A holds line, by the words of a row.
-use Prim.Native.Nat.{ℕ, _+_, _*_, _-_, _≤_, _<_}
-use mathlib.Core.Path.{_≡_, refl, sym, ap, _∙_, subst}
-use mathlib.Core.Bool.{Bool, true, false, cond}
+use Prim.Native.Nat.{ℕ, _+_, _≤_}
+use mathlib.Core.Path.{_≡_, refl, sym, ap, _∙_}
+use mathlib.Core.Bool.{Bool, true, false}
 use mathlib.Core.List.{List}
 use native.Mathlib.Omega.{arith}
-use lib.ListN.{length, getD, take, drop, length-take, length-drop}
+use lib.ListN.{length, getD, drop, length-take}
 use borrow.Author.Tests.{leb-true}
-use Rattle.words.specs.Rows.{part}
 use Rattle.rules.specs.Every.{all}
 use Rattle.rules.specs.Box.{Box}
 use Rattle.rules.specs.Site.{isBox}
@@ -15,11 +14,11 @@ use Rattle.rules.specs.Step.{agreedAs, holds}
 use Rattle.rules.specs.declared.model.Answer.{Answer}
 use Rattle.rules.specs.declared.model.Refusal.{Refusal}
 use Rattle.rules.specs.declared.model.Setting.{Setting}
-use Rattle.laws.proofs.Logic.{In, passed}
+use Rattle.laws.proofs.Logic.{passed}
 use Rattle.laws.proofs.FormLaws.{FormedBox, box-says}
 use Rattle.row.specs.Row.{boxOf, rowFits}
-use Rattle.memory.specs.Memory.{siteWords, rowAt, rowStart, rowWidth, siteOf, memoryForm}
-use Rattle.memory.specs.After.{settingAt, boxesOf, RowsLent, BoxLent}
+use Rattle.memory.specs.Memory.{rowAt, rowWidth, siteOf, memoryForm}
+use Rattle.memory.specs.After.{settingAt, boxesOf, BoxLent}
 use Rattle.site.specs.Records.{AgreedLie}
 use Rattle.memory.proofs.RowLaws.{row-by-form}
 use Rattle.site.proofs.CallLaws.{holds-true, holds-untrue}

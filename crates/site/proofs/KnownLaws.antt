@@ -1,15 +1,15 @@
 -- What the code knows at a call: the words are by form, s is the setting of box c, and how a test
 -- of its number came out.
-use Prim.Native.Nat.{ℕ, _+_, _*_, _^_, _≤_, _<_}
+use Prim.Native.Nat.{ℕ, _≤_}
 use mathlib.Core.Path.{_≡_, refl, sym, ap, _∙_, subst}
 use mathlib.Core.Bool.{Bool, true, false, not}
 use mathlib.Core.List.{List}
 use native.Mathlib.Omega.{arith}
 use lib.ListN.{length, getD}
 use borrow.Author.Tests.{not-true, not-false}
-use Rattle.rules.specs.Sizes.{mostBoxes, mostLoads, mostMails, mostEpoch}
-use Rattle.rules.specs.Sets.{has, setForm}
-use Rattle.rules.specs.Site.{Site, Outcome, isBox, isLink}
+use Rattle.rules.specs.Sizes.{mostBoxes, mostEpoch}
+use Rattle.rules.specs.Sets.{has}
+use Rattle.rules.specs.Site.{Outcome, isBox}
 use Rattle.rules.specs.Needs.{Need, ruled}
 use Rattle.rules.specs.Step.{refused, did, presented, risen}
 use Rattle.rules.specs.declared.model.Answer.{Answer}
@@ -17,8 +17,8 @@ use Rattle.rules.specs.declared.model.Setting.{Setting}
 use Rattle.rules.specs.declared.model.Verdict.{Verdict}
 use Rattle.laws.proofs.Logic.{In}
 use Rattle.laws.proofs.SetLaws.{set-small, set-up}
-use Rattle.laws.proofs.FormLaws.{Formed, form-says, is-box, is-link}
-use Rattle.memory.specs.Memory.{siteWords, siteOf, memoryForm}
+use Rattle.laws.proofs.FormLaws.{Formed, form-says, is-box}
+use Rattle.memory.specs.Memory.{siteOf, memoryForm}
 use Rattle.memory.specs.After.{settingAt, GeneralLent, RowsLent, LinksLent}
 use Rattle.memory.proofs.LentLaws.{form-site, form-readable, readable-rows, readable-links}
 use Rattle.site.specs.Entries.{After}

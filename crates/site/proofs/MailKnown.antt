@@ -1,5 +1,5 @@
 -- What the code knows of a mail at the head of a link of words by form.
-use Prim.Native.Nat.{ℕ, zero, suc, _+_, _-_, _≤_, _<_}
+use Prim.Native.Nat.{ℕ, zero, suc, _+_, _-_, _<_}
 use mathlib.Core.Path.{_≡_, refl, sym, ap, _∙_, subst}
 use mathlib.Core.Bool.{Bool, true, false, not, _&&_, _||_, cond}
 use mathlib.Core.List.{List, [], _∷_, tail}
@@ -8,11 +8,10 @@ use lib.Dec.{eqb, ltb}
 use lib.ListN.{length, getD}
 use borrow.Author.Tests.{ne-eqb, not-true, not-false}
 use Rattle.words.specs.Rows.{part}
-use Rattle.rules.specs.Sizes.{mostBoxes}
 use Rattle.rules.specs.Every.{every}
 use Rattle.rules.specs.Sets.{has}
-use Rattle.rules.specs.Box.{Box, Letter, Event, mail, turned}
-use Rattle.rules.specs.Site.{Site, isBox, isLink, upd, posted, room, popped}
+use Rattle.rules.specs.Box.{Box, Letter, mail, turned}
+use Rattle.rules.specs.Site.{isBox, isLink, upd, posted, room, popped}
 use Rattle.rules.specs.Form.{formLetter}
 use Rattle.rules.specs.Needs.{need}
 use Rattle.rules.specs.Step.{step}
@@ -24,13 +23,13 @@ use Rattle.rules.specs.declared.model.Out.{Out}
 use Rattle.rules.specs.declared.model.Setting.{Setting}
 use Rattle.rules.specs.declared.model.Turn.{Turn}
 use Rattle.laws.proofs.Logic.{In, All, All-head}
-use Rattle.laws.proofs.FormLaws.{Formed, FormedLetter, letter-made, is-link, box-is}
+use Rattle.laws.proofs.FormLaws.{FormedLetter, letter-made, is-link, box-is}
 use Rattle.laws.proofs.Receivers.{Foreign}
 use Rattle.laws.proofs.TurnForm.{EventFits}
 use Rattle.place.specs.Place.{letterAt, placeForm}
 use Rattle.link.specs.Link.{placeWidth}
 use Rattle.memory.specs.Memory.{siteOf, memoryForm}
-use Rattle.memory.specs.After.{settingAt, boxesOf, linksOf, roomFor, LinksLent, RowsPut, LinksPut}
+use Rattle.memory.specs.After.{settingAt, boxesOf, linksOf, RowsPut, LinksPut}
 use Rattle.memory.specs.After.{HeadStands, Playable}
 use Rattle.site.specs.Carry.{roomOut, lessHead, Posts, TakesMail, Knows, Carried}
 use Rattle.site.specs.Entries.{After}

@@ -1,9 +1,9 @@
 -- Nothing else could satisfy the statements, and unused room is never read.
 use Prim.Native.Nat.{ℕ}
 use mathlib.Core.Path.{_≡_, refl, sym, ap, _∙_}
-use mathlib.Core.Bool.{Bool, true, false, cond}
+use mathlib.Core.Bool.{true, cond}
 use mathlib.Core.List.{List}
-use Rattle.rules.specs.Site.{Site, Outcome}
+use Rattle.rules.specs.Site.{Outcome}
 use Rattle.rules.specs.Form.{form}
 use Rattle.rules.specs.Step.{refused, step, holds}
 use Rattle.rules.specs.declared.model.Answer.{Answer}

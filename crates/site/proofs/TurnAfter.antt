@@ -1,16 +1,14 @@
 -- A leader's step and a delivered mail: from what is left in the words to the outcome.
-use Prim.Native.Nat.{ℕ, _+_}
+use Prim.Native.Nat.{ℕ}
 use mathlib.Core.Path.{_≡_, refl, sym, ap, _∙_}
-use mathlib.Core.Bool.{Bool, true, false, not, _&&_, cond}
+use mathlib.Core.Bool.{true, false, _&&_, cond}
 use mathlib.Core.List.{List, [], _∷_, tail}
 use native.Mathlib.Omega.{arith}
 use lib.Dec.{eqb}
-use lib.ListN.{length, take}
-use borrow.Author.Tests.{ne-eqb}
+use lib.ListN.{length}
 use Rattle.rules.specs.Box.{Box, Letter, own, mail, turnOf, turned}
-use Rattle.rules.specs.Site.{Site, Outcome, isBox, isLink, upd, posted, room, played, popped}
-use Rattle.rules.specs.Needs.{need, ruled}
-use Rattle.rules.specs.Step.{refused, did, byTurn, acting, delivered, step}
+use Rattle.rules.specs.Site.{Site, isBox, isLink, upd, posted, room, played, popped}
+use Rattle.rules.specs.Step.{refused, byTurn, acting, delivered, step}
 use Rattle.rules.specs.declared.model.Act.{Act}
 use Rattle.rules.specs.declared.model.Answer.{Answer}
 use Rattle.rules.specs.declared.model.Call.{Call}
@@ -18,13 +16,12 @@ use Rattle.rules.specs.declared.model.Cause.{Cause}
 use Rattle.rules.specs.declared.model.Refusal.{Refusal}
 use Rattle.rules.specs.declared.model.Setting.{Setting}
 use Rattle.rules.specs.declared.model.Turn.{Turn}
-use Rattle.laws.proofs.Logic.{true≠false, both-no}
-use Rattle.laws.proofs.StepLaws.{changed, accepted-kept}
-use Rattle.memory.specs.Memory.{siteOf, readable, memoryForm}
+use Rattle.laws.proofs.Logic.{both-no}
+use Rattle.laws.proofs.StepLaws.{accepted-kept}
+use Rattle.memory.specs.Memory.{siteOf, memoryForm}
 use Rattle.memory.specs.After.{settingAt, boxesOf, linksOf, RowsPut, LinksPut}
-use Rattle.memory.proofs.LentLaws.{form-readable, setting-same, readable-rows, readable-links}
-use Rattle.memory.proofs.LentLaws.{readable-made}
-use Rattle.rules.specs.Answers.{isRefusal, isAccepted}
+use Rattle.memory.proofs.LentLaws.{form-readable}
+use Rattle.rules.specs.Answers.{isAccepted}
 use Rattle.site.specs.Entries.{After}
 use Rattle.site.proofs.AfterLaws.{refused-after, same-after, turn-refused, turn-discarded}
 use Rattle.site.proofs.AfterLaws.{turn-full, turn-played, changed-after, rows-same}

@@ -1,23 +1,22 @@
 -- What the code knows of a turn at a box of words by form.
-use Prim.Native.Nat.{ℕ, _+_, _≤_}
-use mathlib.Core.Path.{_≡_, refl, sym, ap, _∙_, subst}
-use mathlib.Core.Bool.{Bool, true, false, not, _&&_, cond}
-use mathlib.Core.List.{List, [], _∷_, tail}
+use Prim.Native.Nat.{ℕ, _≤_}
+use mathlib.Core.Path.{_≡_, refl, _∙_, subst}
+use mathlib.Core.Bool.{Bool, true}
+use mathlib.Core.List.{List}
 use native.Mathlib.Omega.{arith}
-use lib.Dec.{eqb}
-use lib.ListN.{length, getD}
+use lib.ListN.{getD}
 use Rattle.rules.specs.Sizes.{mostBoxes}
-use Rattle.rules.specs.Box.{Box, Letter, Event, own, mail, turnOf, turned, brought}
-use Rattle.rules.specs.Site.{Site, isBox, isLink, posted, room}
+use Rattle.rules.specs.Box.{Letter, Event, turnOf, turned, brought}
+use Rattle.rules.specs.Site.{isBox, posted, room}
 use Rattle.rules.specs.declared.model.Out.{Out}
 use Rattle.rules.specs.declared.model.Setting.{Setting}
 use Rattle.rules.specs.declared.model.Turn.{Turn}
 use Rattle.laws.proofs.Logic.{In}
-use Rattle.laws.proofs.FormLaws.{Formed, FormedBox, box-made, is-box}
+use Rattle.laws.proofs.FormLaws.{FormedBox, box-made, is-box}
 use Rattle.laws.proofs.Receivers.{NotTo, Foreign, turn-apart}
-use Rattle.laws.proofs.TurnForm.{Fits, EventFits, turn-fits}
+use Rattle.laws.proofs.TurnForm.{EventFits, turn-fits}
 use Rattle.memory.specs.Memory.{siteOf, memoryForm}
-use Rattle.memory.specs.After.{settingAt, boxesOf, linksOf, BoxLent}
+use Rattle.memory.specs.After.{settingAt, boxesOf, BoxLent}
 use Rattle.memory.proofs.LentLaws.{form-readable, readable-rows, readable-links}
 use Rattle.site.specs.Carry.{roomOut, Carries, Carried}
 use Rattle.site.proofs.KnownLaws.{formed}

@@ -1,10 +1,9 @@
 -- Words that are not by form: every call refuses them with 1, before anything else.
 use Prim.Native.Nat.{ℕ}
-use mathlib.Core.Path.{_≡_, refl, sym, ap, _∙_}
-use mathlib.Core.Bool.{Bool, true, false, cond}
+use mathlib.Core.Path.{_≡_, refl}
+use mathlib.Core.Bool.{true, false, cond}
 use mathlib.Core.List.{List}
-use Rattle.rules.specs.Every.{all}
-use Rattle.rules.specs.Site.{Site, Outcome}
+use Rattle.rules.specs.Site.{Site}
 use Rattle.rules.specs.Form.{form}
 use Rattle.rules.specs.Step.{refused, step, holds}
 use Rattle.rules.specs.declared.model.Answer.{Answer}

@@ -5,7 +5,7 @@ use mathlib.Core.Bool.{true}
 use mathlib.Core.List.{List}
 use lib.ListN.{getD}
 use borrow.Author.Needs.{needs}
-use borrow.Author.Tests.{not-true, not-false}
+use borrow.Author.Tests.{not-false}
 use Rattle.rules.specs.Site.{isBox}
 use Rattle.rules.specs.Step.{agreedAs}
 use Rattle.row.specs.Row.{boxOf}

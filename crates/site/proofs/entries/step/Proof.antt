@@ -1,5 +1,5 @@
 -- `site::entries::step` meets its contract.
-use mathlib.Core.Path.{_≡_, sym, _∙_}
+use mathlib.Core.Path.{sym, _∙_}
 use borrow.Author.Needs.{needs}
 use Rattle.site.proofs.Once.{step-formed}
 use Rattle.site.proofs.Unformed.{unformed-after}

@@ -1,11 +1,10 @@
 -- `site::mail::lose` meets its contract.
-use mathlib.Core.Path.{refl, sym, ap, _∙_}
-use native.Mathlib.Omega.{arith}
+use mathlib.Core.Path.{sym, _∙_}
 use borrow.Author.Needs.{needs}
 use borrow.Author.Tests.{not-false}
 use Rattle.memory.specs.Memory.{siteOf}
 use Rattle.site.proofs.KnownLaws.{general-lent, links-lent}
-use Rattle.site.proofs.MailKnown.{link-yes, link-not, link-said, count-none, known-mail}
+use Rattle.site.proofs.MailKnown.{link-yes, link-not, count-none, known-mail}
 use Rattle.site.proofs.MailKnown.{lost-empty, lost-known}
 use Rattle.site.proofs.AfterLaws.{refused-after}
 use Rattle.site.proofs.CallLaws.{lose-no-link}

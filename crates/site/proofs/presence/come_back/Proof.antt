@@ -1,5 +1,4 @@
 -- `site::presence::come_back` meets its contract.
-use mathlib.Core.Path.{refl}
 use borrow.Author.Needs.{needs}
 use Rattle.rules.specs.Sets.{joined}
 use Rattle.memory.specs.Memory.{siteOf}

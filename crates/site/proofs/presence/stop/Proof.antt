@@ -1,5 +1,4 @@
 -- `site::presence::stop` meets its contract.
-use mathlib.Core.Path.{refl}
 use borrow.Author.Needs.{needs}
 use Rattle.rules.specs.Sets.{without}
 use Rattle.memory.specs.Memory.{siteOf}

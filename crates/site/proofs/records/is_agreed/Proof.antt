@@ -1,7 +1,6 @@
 -- `site::records::is_agreed` meets its contract.
 use native.Mathlib.Omega.{arith}
 use borrow.Author.Needs.{needs}
-use borrow.Author.Tests.{ltb-true, ltb-false}
 use Rattle.site.proofs.AgreedLaws.{agreed-zero, agreed-above, agreed-here}
 use Rattle.site.proofs.records.is_agreed.Statement.{statement}
 use Rattle.site.proofs.records.is_agreed.Tie as tie
