@@ -1,11 +1,12 @@
 -- The laws of numbers as bytes, once over the width.
-use mathlib.Core.Path.{_≡_, refl, ap}
+use mathlib.Core.Path.{_≡_, refl, ap, sym}
 use Prim.Native.Nat.{ℕ, zero, suc, _+_, _-_, _*_, _/_, _%_, _^_, _≤_, _<_}
-use native.Mathlib.Nat.{pow-suc, pow-le-pow-right, lt-of-lt-of-le, add-sub-cancel-left}
+use native.Mathlib.Nat.{mul-assoc, pow-suc, pow-le-pow-right, lt-of-lt-of-le, add-sub-cancel-left}
 use native.Mathlib.Omega.{arith}
 use mathlib.Core.List.{List, [], _∷_, _++_}
 use lib.ListN.{length, take, drop, getD, set, length-set, length-drop, drop-of-length-le}
-use lib.Seq.{drop-cons, getD-drop}
+use lib.ListN.{take-append-drop}
+use lib.Seq.{drop-cons, getD-drop, length-take-le, take-all}
 use Rattle.words.specs.Rows.{part, splice}
 use Rattle.words.proofs.PartLaws.{part-splice, length-cut}
 use Rattle.words.proofs.WriteLaws.{write-more, write-end}
@@ -135,3 +136,41 @@ eight-put xs ys zs x h low up =
 -- What a width's own function has written is x at that width.
 pub at-width : (ys : List ℕ) (k n x : ℕ) → ys ≡ le k x → n ≡ k → ys ≡ le n x
 at-width ys k n x e w = rw w e
+
+-- Four bytes that are read one after another: four turns of `get-more`.
+pub four-get : (l : List ℕ) → length l ≡ 4
+    → ((getD l 3 0 * 256 + getD l 2 0) * 256 + getD l 1 0) * 256 + getD l 0 0 ≡ ofLe l
+unfolding ofLe
+four-get l h =
+    let none : drop 4 l ≡ [] = drop-of-length-le l {i = 4} (omega (arith, h)) in
+    let e₀ : 0 ≡ ofLe (drop 4 l) = rw none refl in
+    let g = get-more l 4 0 (omega arith) (omega (arith, h)) e₀ in
+    let e₁ : getD l 3 0 ≡ ofLe (drop 3 l) = omega (arith, g) in
+    let e₂ = get-more l 3 (getD l 3 0) (omega arith) (omega (arith, h)) e₁ in
+    let x₂ = getD l 3 0 * 256 + getD l 2 0 in
+    let e₃ = get-more l 2 x₂ (omega arith) (omega (arith, h)) e₂ in
+    get-more l 1 (x₂ * 256 + getD l 1 0) (omega arith) (omega (arith, h)) e₃
+
+-- The number of two parts, one behind the other.
+pub of-append : (xs ys : List ℕ) → ofLe (xs ++ ys) ≡ ofLe ys * 256 ^ length xs + ofLe xs
+unfolding ofLe
+of-append [] ys = omega arith
+of-append (x ∷ xs) ys =
+    let m : ofLe ys * (256 ^ length xs * 256) ≡ ofLe ys * 256 ^ length xs * 256 =
+    sym (mul-assoc (ofLe ys) (256 ^ length xs) 256)
+    in
+    rw (pow-suc, of-append xs ys) (omega (arith, m))
+
+-- Eight bytes whose lower and upper four have been read.
+pub eight-get : (l : List ℕ) (low high : ℕ) → length l ≡ 8 → low ≡ ofLe (part l 0 4)
+    → high ≡ ofLe (part l 4 4) → high * 4294967296 + low ≡ ofLe l
+eight-get l low high h e f =
+    let four : length (take 4 l) ≡ 4 = length-take-le 4 l (omega (arith, h)) in
+    let upper : take 4 (drop 4 l) ≡ drop 4 l =
+    take-all 4 (drop 4 l) (omega (arith, h, length-drop 4 l))
+    in
+    let both = of-append (take 4 l) (drop 4 l) in
+    let all : ofLe l ≡ ofLe (drop 4 l) * 4294967296 + ofLe (take 4 l) =
+    rw (take-append-drop, four) at both
+    in
+    rw (e, f, upper) (sym all)

@@ -1,9 +1,9 @@
 // Numbers as bytes, the least byte first, at any width up to 8.
 ghost use mathlib.Core.Path.{_≡_};
-ghost use Prim.Native.Nat.{_+_, _≤_};
+ghost use Prim.Native.Nat.{_+_, _≤_, _<_};
 ghost use lib.ListN.{length};
 ghost use Rattle.words.specs.Rows.{part, splice};
-ghost use Rattle.le.specs.Le.{le, Number};
+ghost use Rattle.le.specs.Le.{le, ofLe, Number};
 
 // Four bytes become x, one by one with no loop: so the compiler makes one store of them.
 fn put_four(dst: &mut [u8], x: u64)
@@ -41,7 +41,8 @@ fn put_each(dst: &mut [u8], x: u64)
     }
 }
 
-// All of dst becomes x: as many of its bytes as there is room for, the least first.
+// All of dst becomes x: as many of its bytes as there is room for, the least first. The two widths of
+// the image are written at once, any other byte by byte.
 pub fn put(dst: &mut [u8], x: u64)
     ensures { λ _. ⌜ now (dst .exit) ≡ le (length (now (dst .entry))) x ⌝ }
 {
@@ -59,14 +60,37 @@ pub fn put(dst: &mut [u8], x: u64)
 // A byte as a word.
 fn wide(x: u8) -> u64
     ensures { λ r. ⌜ r ≡ x ⌝ }
+    ensures { λ r. ⌜ r < 256 ⌝ }
 {
     x as u64
 }
 
-// The number that all of src is.
-pub fn get(src: &[u8]) -> u64
+// The number that four bytes are, with no loop: so the compiler makes one load of them.
+fn get_four(src: &[u8]) -> u64
+    requires { ⌜ length (now src) ≡ 4 ⌝ }
+    ensures { λ r. ⌜ r ≡ ofLe (now (src .entry)) ⌝ }
+    ensures { λ r. ⌜ r < 4294967296 ⌝ }
+{
+    let d = wide(src[3]);
+    let c = d * 256 + wide(src[2]);
+    let b = c * 256 + wide(src[1]);
+    b * 256 + wide(src[0])
+}
+
+// The number that eight bytes are.
+fn get_eight(src: &[u8]) -> u64
+    requires { ⌜ length (now src) ≡ 8 ⌝ }
+    ensures { λ r. ⌜ r ≡ ofLe (now (src .entry)) ⌝ }
+{
+    let low = get_four(&src[0..4]);
+    let high = get_four(&src[4..8]);
+    high * 4294967296 + low
+}
+
+// The number that at most eight bytes are.
+fn get_each(src: &[u8]) -> u64
     requires { ⌜ length (now src) ≤ 8 ⌝ }
-    ensures { λ r. ⌜ Number (length (now (src .entry))) (now (src .entry)) r ⌝ }
+    ensures { λ r. ⌜ r ≡ ofLe (now (src .entry)) ⌝ }
 {
     let mut x: u64 = 0;
     let mut i = src.len();
@@ -75,6 +99,28 @@ pub fn get(src: &[u8]) -> u64
         x = x * 256 + wide(src[i]);
     }
     x
+}
+
+// The same: the two widths of the image at once, any other byte by byte.
+fn get_any(src: &[u8]) -> u64
+    requires { ⌜ length (now src) ≤ 8 ⌝ }
+    ensures { λ r. ⌜ r ≡ ofLe (now (src .entry)) ⌝ }
+{
+    if src.len() == 8 {
+        return get_eight(src);
+    }
+    if src.len() == 4 {
+        return get_four(src);
+    }
+    get_each(src)
+}
+
+// The number that all of src is.
+pub fn get(src: &[u8]) -> u64
+    requires { ⌜ length (now src) ≤ 8 ⌝ }
+    ensures { λ r. ⌜ Number (length (now (src .entry))) (now (src .entry)) r ⌝ }
+{
+    get_any(src)
 }
 
 // The k bytes of out at `at` become x.
