@@ -162,8 +162,9 @@ static void measure_growth(void) {
         {"step, 3 boxes, 64 loads", 3, 64, 4, 64},
         {"step, 4 boxes, 64 loads", 4, 64, 4, 64},
         {"step, 5 boxes, 64 loads", 5, 64, 4, 64},
-        {"step, 3 boxes, 16 loads in room for 16", 3, 16, 4, 16},
-        {"step, 3 boxes, 16 loads in room for 4,096", 3, 4096, 16, 16},
+        {"step, 3 boxes, 16 loads in room for 16, 1 mail a link", 3, 16, 1, 16},
+        {"the same in room for 4,096, 1 mail a link", 3, 4096, 1, 16},
+        {"the same in room for 16, 16 mails a link", 3, 16, 16, 16},
         {"step, 3 boxes, 1,024 loads", 3, 4096, 16, 1024},
         {"step, 3 boxes, 4,096 loads", 3, 4096, 16, 4096},
     };
@@ -172,13 +173,14 @@ static void measure_growth(void) {
         measure(sites[i].name, &FORMED, do_election, 3 * n + 2);
     }
     static const u32 mails[] = {1, 4, 16};
-    static const char *names[] = {"image write, 3 boxes, 64 loads, 1 mail a link",
-                                  "the same, 4 mails a link", "the same, 16 mails a link"};
+    static const char *writes[] = {"image write, 3 boxes, 64 loads, 1 mail a link held",
+                                   "image write, 4 mails a link", "image write, 16 mails a link"};
     for (u32 i = 0; i < 3; i++) {
         begin(3, 64, mails[i], 64);
         fill_links();
         take_image();
-        measure(names[i], &FORMED, do_write, 1);
+        measure(writes[i], &FORMED, do_write, 1);
+        measure("image read of the same", &PLAIN, do_read, 1);
     }
 }
 

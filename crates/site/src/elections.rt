@@ -1,4 +1,4 @@
-// Elections and holds lines.
+// Elections.
 ghost use mathlib.Core.Path.{_≡_};
 ghost use mathlib.Core.Bool.{true};
 ghost use Rattle.rules.specs.Step.{step};
