@@ -14,15 +14,11 @@ use Rattle.rules.specs.Mails.{onCollect, onBegin, onAccept, onCommit, onLease, 
 use Rattle.rules.specs.Steps.{recover, collect, started, leased, hasPrevious, ready, offer, propose}
 use Rattle.rules.specs.Steps.{agree, finish, acted}
 use Rattle.rules.specs.Box.{Box, Letter, Event, own, mail, heldAt, mine, turnOf}
-use Rattle.laws.proofs.Types.{Act, Kind, Out, Setting, Turn, Verdict}
+use Rattle.laws.proofs.Types.{Act, Kind, Setting, Turn, Verdict}
 use Rattle.laws.proofs.Logic.{In, eqb-same, pick-elim}
 use Rattle.laws.proofs.SetLaws.{has-and, has-bit, has-without}
+use Rattle.laws.specs.Receivers.{NotTo}
 use Rattle.laws.proofs.StepLaws.{by-verdict}
-
--- c is none of the boxes that are sent to
-abbrev pub NotTo : ℕ → Out → Type 0
-NotTo c Out.Nothing = Unit {0}
-NotTo c (Out.To set m) = has set c ≡ false
 
 and-off : (a : Bool) → (a && false) ≡ false
 and-off true = refl

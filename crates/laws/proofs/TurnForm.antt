@@ -19,6 +19,7 @@ use Rattle.rules.specs.Steps.{recover, collect, started, leased, hasPrevious, r
 use Rattle.rules.specs.Steps.{canPropose, propose, canAgree, agree, finish, acted}
 use Rattle.rules.specs.Box.{Box, Letter, Event, own, mail, heldAt, mine, written, enclosed}
 use Rattle.rules.specs.Box.{BookFits, letterOf, turnOf, turned, brought}
+use Rattle.laws.specs.Frames.{ActFits}
 use Rattle.laws.proofs.Types.{Act, Answer, Book, BoxState, Held, Kind, Out, Refusal, Setting}
 use Rattle.laws.proofs.Types.{Turn, Verdict}
 use Rattle.laws.proofs.Logic.{Or, left, right, In, All, nil, cons, All-at, All-take, and-yes}
@@ -93,16 +94,6 @@ pair-proper l r hl ll hr lr =
 some-proper : {r : ℕ} → Or (r ≡ 0) (Proper r) → (r ≡ 0 → ⊥) → Proper r
 some-proper (left e) some = absurd (some e)
 some-proper (right p) some = p
-
--- the frame numbers of an offer are numbers of 32 bits
-abbrev pub ActFits : Act → Type 0
-ActFits Act.Recover = Unit {0}
-ActFits Act.Collect = Unit {0}
-ActFits Act.Ready = Unit {0}
-ActFits (Act.Offer l r) = (l < 4294967296) × (r < 4294967296)
-ActFits Act.Propose = Unit {0}
-ActFits Act.Agree = Unit {0}
-ActFits Act.Finish = Unit {0}
 
 module _ (s : Setting) (x : Box) (f : FormedBox (s .n) (s .j) (s .me) x) (few : s .n ≤ mostBoxes)
     (me : In (s .me) (s .n)) (present : setForm (s .n) (s .present) ≡ true) where

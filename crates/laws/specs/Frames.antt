@@ -1,6 +1,16 @@
--- What a call in code has that a call of the model need not: frame numbers of 32 bits.
+-- What a step or a call in code has that one of the model need not: frame numbers of 32 bits.
 use Prim.Native.Nat.{_<_}
+use Rattle.rules.specs.declared.model.Act.{Act}
 use Rattle.rules.specs.declared.model.Call.{Call}
+
+abbrev pub ActFits : Act → Type 0
+ActFits Act.Recover = Unit {0}
+ActFits Act.Collect = Unit {0}
+ActFits Act.Ready = Unit {0}
+ActFits (Act.Offer l r) = (l < 4294967296) × (r < 4294967296)
+ActFits Act.Propose = Unit {0}
+ActFits Act.Agree = Unit {0}
+ActFits Act.Finish = Unit {0}
 
 abbrev pub CallFits : Call → Type 0
 CallFits (Call.Elect c) = Unit {0}

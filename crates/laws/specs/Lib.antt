@@ -1,2 +1,3 @@
--- What the statements about runs of the code cite.
+-- What the contracts and statements of the crates above cite, beside the model.
 pub mod Frames
+pub mod Receivers

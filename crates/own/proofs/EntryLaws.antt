@@ -12,7 +12,8 @@ use Rattle.rules.specs.Own.{OwnOutcome, unmoved, formOwn, rightNumbers}
 use Rattle.laws.proofs.Types.{Act, Answer, Refusal, Setting, Turn}
 use Rattle.laws.proofs.Logic.{In, and-yes}
 use Rattle.laws.proofs.FormLaws.{sizes-says, is-box, box-is, is-link}
-use Rattle.laws.proofs.TurnForm.{ActFits, EventFits}
+use Rattle.laws.specs.Frames.{ActFits}
+use Rattle.laws.proofs.TurnForm.{EventFits}
 use Rattle.place.specs.Place.{letterAt}
 use Rattle.row.specs.Row.{boxOf}
 use Rattle.row.specs.Lent.{RowByForm, PlaceByForm}

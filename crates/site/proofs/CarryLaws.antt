@@ -11,13 +11,13 @@ use Rattle.rules.specs.declared.model.Mail.{Mail}
 use Rattle.rules.specs.declared.model.Out.{Out}
 use Rattle.rules.specs.declared.model.Setting.{Setting}
 use Rattle.rules.specs.declared.model.Turn.{Turn}
-use Rattle.laws.proofs.FormLaws.{box-made, letter-made}
+use Rattle.laws.proofs.FormLaws.{letter-made}
 use Rattle.laws.proofs.FrameLaws.{upd-same}
-use Rattle.laws.proofs.Receivers.{NotTo}
+use Rattle.laws.specs.Receivers.{NotTo}
 use Rattle.laws.proofs.TurnForm.{OutFits}
 use Rattle.memory.specs.After.{boxesOf, linksOf, roomFor, LinksLent, RowsPut}
 use Rattle.memory.specs.After.{LinksPut, Sends, Playable}
-use Rattle.site.specs.Carry.{roomOut, Posts, Carries}
+use Rattle.site.specs.Carry.{roomOut, OutForm, Posts, Carries}
 
 -- ---- what is sent, by its case
 
@@ -48,26 +48,30 @@ module _ (s : Setting) (ls : List ℕ) (out : Out) where
     unfolding posted
     posted-none e h = rw e (record { links = refl; past = refl; words = refl; lent = rw e at h })
 
+pub out-form : (n J : ℕ) (rs : List ℕ) (out : Out) → OutFits n J rs out → OutForm n J rs out
+out-form n J rs Out.Nothing fits = tt
+out-form n J rs (Out.To set m) fits = (fits .0, letter-made (fits .1))
+
 -- what a turn sends can go onto the links
-posts : (s : Setting) (ls : List ℕ) (out : Out) (rs : List ℕ) → OutFits (s .n) (s .j) rs out
+posts : (s : Setting) (ls : List ℕ) (out : Out) (rs : List ℕ) → OutForm (s .n) (s .j) rs out
     → NotTo (s .me) out
     → roomOut s ls out ≡ true → LinksLent s ls → isBox (s .n) (s .me) ≡ true → Posts s ls out rs
-posts s ls Out.Nothing rs fits apart room lent me = lent
-posts s ls (Out.To set m) rs fits apart room lent me = record {
+posts s ls Out.Nothing rs good apart room lent me = lent
+posts s ls (Out.To set m) rs good apart room lent me = record {
   lent = lent;
   me = me;
-  boxes = fits .0;
+  boxes = good .0;
   other = apart;
   room = room;
-  letter = letter-made (fits .1);
+  letter = good .1;
 }
 
 module _ {s : Setting} {xs ls ms : List ℕ} {t : Turn} (can : Carries s xs ls ms t) where
   pub playable : Playable s xs ms t
   playable = record {
     lent = can .box;
-    form = box-made (can .fits .box);
-    book = can .fits .book;
+    form = can .form;
+    book = can .book;
   }
 
   -- the box after its turn
@@ -83,7 +87,7 @@ module _ {s : Setting} {xs ls ms : List ℕ} {t : Turn} (can : Carries s xs ls m
         → Posts s ls1 (t .out) (boxesOf s xs' (s .me) .records)
     posts-after ls1 lent room =
         subst (λ (x : Box). Posts s ls1 (t .out) (x .records)) (sym here)
-        (posts s ls1 (t .out) (after .records) (can .fits .out) (can .apart) room lent
+        (posts s ls1 (t .out) (after .records) (can .out) (can .apart) room lent
         (can .box .me))
 
     pub sent-after : (link : ℕ → ℕ → List Letter) (ls1 ls' : List ℕ)

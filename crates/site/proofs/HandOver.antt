@@ -14,7 +14,7 @@ use Rattle.rules.specs.declared.model.Refusal.{Refusal}
 use Rattle.rules.specs.declared.model.Setting.{Setting}
 use Rattle.rules.specs.declared.model.Turn.{Turn}
 use Rattle.laws.proofs.Logic.{true≠false, both-no}
-use Rattle.laws.proofs.Receivers.{NotTo}
+use Rattle.laws.specs.Receivers.{NotTo}
 use Rattle.place.specs.Place.{letterAt, placeForm}
 use Rattle.link.specs.Link.{placeWidth}
 use Rattle.memory.specs.Memory.{siteOf, memoryForm}

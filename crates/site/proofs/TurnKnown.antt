@@ -13,12 +13,14 @@ use Rattle.rules.specs.declared.model.Setting.{Setting}
 use Rattle.rules.specs.declared.model.Turn.{Turn}
 use Rattle.laws.proofs.Logic.{In}
 use Rattle.laws.proofs.FormLaws.{FormedBox, box-made, is-box}
-use Rattle.laws.proofs.Receivers.{NotTo, Foreign, turn-apart}
-use Rattle.laws.proofs.TurnForm.{EventFits, turn-fits}
+use Rattle.laws.specs.Receivers.{NotTo}
+use Rattle.laws.proofs.Receivers.{Foreign, turn-apart}
+use Rattle.laws.proofs.TurnForm.{Fits, EventFits, turn-fits}
 use Rattle.memory.specs.Memory.{siteOf, memoryForm}
 use Rattle.memory.specs.After.{settingAt, boxesOf, BoxLent}
 use Rattle.memory.proofs.LentLaws.{form-readable, readable-rows, readable-links}
 use Rattle.site.specs.Carry.{roomOut, Carries, Carried}
+use Rattle.site.proofs.CarryLaws.{out-form}
 use Rattle.site.proofs.KnownLaws.{formed}
 
 module _ (xs ls : List ℕ) (f : memoryForm xs ls ≡ true) (c : ℕ) (is : isBox (getD xs 0 0) c ≡ true)
@@ -89,11 +91,17 @@ module _ (xs ls : List ℕ) (f : memoryForm xs ls ≡ true) (c : ℕ) (is : isBo
         pub carries : EventFits at v → Foreign at v → roomOut s ls (t .out) ≡ true
             → Carries s xs ls (brought v) t
         unfolding siteOf
-        carries h g room = record {
-          box = box-lent;
-          links = rw e (readable-links xs ls c (form-readable xs ls f));
-          fits = rw (e, turn-is) (turn-fits at (boxesOf at xs c) v box-formed few (is-box is)
-              (formed xs ls f .present) h);
-          apart = apart g;
-          room = room;
-        }
+        carries h g room =
+            let fits : Fits (s .n) (s .j) (s .me) (boxesOf s xs (s .me)) (brought v) t =
+            rw (e, turn-is) (turn-fits at (boxesOf at xs c) v box-formed few (is-box is)
+            (formed xs ls f .present) h)
+            in
+            record {
+              box = box-lent;
+              links = rw e (readable-links xs ls c (form-readable xs ls f));
+              form = box-made (fits .box);
+              book = fits .book;
+              out = out-form (s .n) (s .j) _ (t .out) (fits .out);
+              apart = apart g;
+              room = room;
+            }

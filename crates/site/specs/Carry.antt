@@ -5,15 +5,16 @@ use mathlib.Core.Bool.{Bool, true, _&&_, cond}
 use mathlib.Core.List.{List, [], tail}
 use lib.Dec.{eqb}
 use Rattle.rules.specs.Every.{every}
-use Rattle.rules.specs.Box.{Box, Letter}
+use Rattle.rules.specs.Sets.{setForm}
+use Rattle.rules.specs.Box.{Box, Letter, BookFits, letterOf, turned}
+use Rattle.rules.specs.Form.{formBox, formLetter}
 use Rattle.rules.specs.Site.{isLink, upd}
 use Rattle.rules.specs.declared.model.Answer.{Answer}
 use Rattle.rules.specs.declared.model.Verdict.{Verdict}
 use Rattle.rules.specs.declared.model.Out.{Out}
 use Rattle.rules.specs.declared.model.Setting.{Setting}
 use Rattle.rules.specs.declared.model.Turn.{Turn}
-use Rattle.laws.proofs.TurnForm.{Fits}
-use Rattle.laws.proofs.Receivers.{NotTo}
+use Rattle.laws.specs.Receivers.{NotTo}
 use Rattle.words.specs.Rows.{part}
 use Rattle.place.specs.Place.{letterAt}
 use Rattle.link.specs.Link.{placeWidth}
@@ -27,11 +28,18 @@ abbrev pub roomOut : Setting → List ℕ → Out → Bool
 roomOut s ls Out.Nothing = true
 roomOut s ls (Out.To set m) = every (s .n) (roomFor s ls set)
 
+-- what is sent, with its records of rs, goes to boxes of the site and is by form
+abbrev pub OutForm : ℕ → ℕ → List ℕ → Out → Type 0
+OutForm n J rs Out.Nothing = Unit {0}
+OutForm n J rs (Out.To set m) = (setForm n set ≡ true) × (formLetter J (letterOf m rs) ≡ true)
+
 -- box me can carry out the turn t, by a mail with the records ms
 pub record Carries (s : Setting) (xs ls ms : List ℕ) (t : Turn) : Type 0 where
   pub box : BoxLent s xs
   pub links : LinksLent s ls
-  pub fits : Fits (s .n) (s .j) (s .me) (boxesOf s xs (s .me)) ms t
+  pub form : formBox (s .n) (s .j) (s .me) (turned (boxesOf s xs (s .me)) t ms) ≡ true
+  pub book : BookFits (s .j) (boxesOf s xs (s .me) .records) ms (t .book)
+  pub out : OutForm (s .n) (s .j) (turned (boxesOf s xs (s .me)) t ms .records) (t .out)
   pub apart : NotTo (s .me) (t .out)
   pub room : roomOut s ls (t .out) ≡ true
 

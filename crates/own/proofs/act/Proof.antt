@@ -10,7 +10,7 @@ use borrow.Fn.Kinds.{GoodsP}
 use contract.Lifetimes.{Lfts}
 use Rattle.rules.specs.Sizes.{sizesForm}
 use Rattle.laws.proofs.Types.{Act}
-use Rattle.laws.proofs.TurnForm.{ActFits}
+use Rattle.laws.specs.Frames.{ActFits}
 use Rattle.own.proofs.FormLaws.{actForm, act-tested}
 use Rattle.own.proofs.EntryLaws.{refused-13, refused-1, refused-2, Passed, act-passed}
 use Rattle.own.proofs.EntryLaws.{row-long, row-by-form, act-concludes, act-owned}
