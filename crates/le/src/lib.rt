@@ -41,8 +41,8 @@ fn put_each(dst: &mut [u8], x: u64)
     }
 }
 
-// All of dst becomes x: as many of its bytes as there is room for, the least first. The two widths of
-// the image are written at once, any other byte by byte.
+// All of dst becomes x: as many of its bytes as there is room for, the least first. The two widths
+// of the image are written at once, any other byte by byte.
 pub fn put(dst: &mut [u8], x: u64)
     ensures { λ _. ⌜ now (dst .exit) ≡ le (length (now (dst .entry))) x ⌝ }
 {
