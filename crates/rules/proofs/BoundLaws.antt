@@ -26,7 +26,6 @@ both-of p q = rw (p, q) refl
 pub record Bounded (b : BoxState) (s : Setting) : Type 0 where
   pub pn : b .kept .pn ≤ mostPn
   pub last : b .kept .last ≤ mostLoads
-  pub replies : b .replies ≤ mostBoxes
   pub me : s .me ≤ mostBoxes
 
 pub record BoundedMail (m : Mail) : Type 0 where
@@ -36,13 +35,11 @@ pub record BoundedMail (m : Mail) : Type 0 where
 pub bounded-box : (b : BoxState) (s : Setting) → boundedBox b s ≡ true → Bounded b s
 unfolding boundedBox
 bounded-box b s e =
-    let f = first-of (p && l && r) m e in
-    let g = first-of (p && l) r f in
+    let f = first-of (p && l) m e in
     record {
-      pn = leb-true (b .kept .pn) mostPn (first-of p l g);
-      last = leb-true (b .kept .last) mostLoads (second-of p l g);
-      replies = leb-true (b .replies) mostBoxes (second-of (p && l) r f);
-      me = leb-true (s .me) mostBoxes (second-of (p && l && r) m e);
+      pn = leb-true (b .kept .pn) mostPn (first-of p l f);
+      last = leb-true (b .kept .last) mostLoads (second-of p l f);
+      me = leb-true (s .me) mostBoxes (second-of (p && l) m e);
     }
   where
     p : Bool
@@ -50,9 +47,6 @@ bounded-box b s e =
 
     l : Bool
     l = leb (b .kept .last) mostLoads
-
-    r : Bool
-    r = leb (b .replies) mostBoxes
 
     m : Bool
     m = leb (s .me) mostBoxes

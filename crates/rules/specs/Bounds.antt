@@ -11,8 +11,7 @@ use Rattle.rules.specs.Types.{Act, BoxState, Held, Mail, Refusal, Settin
 
 unfoldable pub boundedBox : BoxState → Setting → Bool
 boundedBox b s =
-    leb (b .kept .pn) mostPn && leb (b .kept .last) mostLoads
-    && leb (b .replies) mostBoxes && leb (s .me) mostBoxes
+    leb (b .kept .pn) mostPn && leb (b .kept .last) mostLoads && leb (s .me) mostBoxes
 
 unfoldable pub boundedMail : Mail → Bool
 boundedMail m = leb (m .pn) mostPn && leb (m .last) mostLoads

@@ -34,7 +34,7 @@ formBox n J b x =
     ∷ leb (x .head .best .pn) mostPn
     ∷ leb (x .head .best .number) J
     ∷ recordForm (x .head .best .value)
-    ∷ leb (x .head .replies) n
+    ∷ setForm n (x .head .answered)
     ∷ setForm n (x .head .accepts)
     ∷ recordForm (x .head .waiting)
     ∷ recordForm (x .head .agreeing)

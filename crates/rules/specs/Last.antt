@@ -3,14 +3,14 @@ use Prim.Native.Nat.{ℕ, _+_, _-_}
 use mathlib.Core.Bool.{Bool, false, not, _&&_, _||_}
 use mathlib.Core.List.{List}
 use lib.Bits.{bitAnd, bitOr}
-use lib.Count.{ones}
 use lib.Dec.{leb, ltb, eqb}
 use lib.ListN.{set, getD}
 use Rattle.rules.specs.Pick.{pick}
 use Rattle.rules.specs.Sizes.{mostBoxes, mostPn, unknown}
+use Rattle.rules.specs.Sets.{joined}
 use Rattle.rules.specs.Numbers.{inPhase}
 use Rattle.rules.specs.NewPn.{newPn}
-use Rattle.rules.specs.Fields.{withPhase, withKept, withBest, withReplies, withPeers}
+use Rattle.rules.specs.Fields.{withPhase, withKept, withBest, withAnswered, withPeers}
 use Rattle.rules.specs.Fields.{promised}
 use Rattle.rules.specs.Parts.{others, tookKept, tookBook, cleared}
 use Rattle.rules.specs.Turns.{firstCause, unless, settled, taken, mailOf}
@@ -64,27 +64,28 @@ raised b me m =
     (withPhase Phase.SendCollect
     (withBest (cleared (b .kept .last) (b .best)) b))
 
--- "Equal: replies + 1", and the best
-unfoldable pub counted : BoxState → Mail → Held → BoxState
-counted b m next =
-    withReplies (b .replies + 1)
+-- "Equal": the sender joins "the set of boxes that answered" (Q-1), and the best
+unfoldable pub counted : BoxState → ℕ → Mail → Held → BoxState
+counted b sender m next =
+    withAnswered (joined (b .answered) sender)
     (withBest (bettered (b .kept .last) (b .best) m next) b)
 
 -- a mail pn below promised counts for nothing
 unfoldable pub uncounted : BoxState → BoxState
 uncounted b = withBest (cleared (b .kept .last) (b .best)) b
 
-unfoldable pub answered : BoxState → ℕ → Mail → Held → BoxState
-answered b me m next =
+unfoldable pub replied : BoxState → ℕ → ℕ → Mail → Held → BoxState
+replied b me sender m next =
     pick (ltb (b .kept .pn) (m .pn)) (raised b me m)
-    (pick (eqb (m .pn) (b .kept .pn)) (counted b m next)
+    (pick (eqb (m .pn) (b .kept .pn)) (counted b sender m next)
     (uncounted b))
 
--- "(role: not leader; phase: not Collect, or replies at or above the number present)"; refusal 6
+-- "(role: not leader"; "the phase cause of a discarded Last is then only 'not Collect'" (Q-1));
+-- refusal 6
 unfoldable pub lastVerdict : BoxState → Setting → Mail → Verdict
 lastVerdict b s m =
     firstCause (not (b .leads))
-    (not (inPhase (b .phase) Phase.Collect) || leb (ones (s .present)) (b .replies))
+    (not (inPhase (b .phase) Phase.Collect))
     false false
     (unless (leb (m .pn) (b .kept .pn) || leb (newPn (m .pn) (s .me)) mostPn) Refusal.NewPn
     Verdict.Go)
@@ -94,7 +95,7 @@ lastVerdict b s m =
 unfoldable pub onLast : BoxState → Setting → ℕ → Mail → Held → Turn
 onLast b s sender m next =
     settled b (lastVerdict b s m)
-    (taken (answered (heard b sender m) (s .me) m next)
+    (taken (replied (heard b sender m) (s .me) sender m next)
     (tookBook (m .last) (b .kept .last))
     (Out.To (lagging (noted (b .peers) sender (m .last)) (tookKept (m .last) (b .kept) .last) s)
     (mailOf Kind.Commit (b .kept .pn) (tookKept (m .last) (b .kept) .last) 0)))

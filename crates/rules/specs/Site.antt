@@ -34,7 +34,7 @@ freshHead = record {
   phase = Phase.Election;
   kept = record { pn = 0; last = 0; stored = record { pn = 0; number = 0 } };
   best = none;
-  replies = 0;
+  answered = 0;
   accepts = 0;
   waiting = 0;
   agreeing = 0;
@@ -103,6 +103,11 @@ played s c t ms = record {
   link = posted (s .link) c (t .out) (turned (s .box c) t ms .records);
 }
 
+-- the head twice, "the copy right behind it"
+unfoldable pub twice {ℓ} : {A : Type ℓ} → List A → List A
+twice [] = []
+twice (y ∷ ys) = y ∷ (y ∷ ys)
+
 -- the site without the head of the link from a to b
 abbrev pub popped : Site → ℕ → ℕ → Site
 popped s a b = record {
@@ -113,4 +118,16 @@ popped s a b = record {
   present = s .present;
   box = s .box;
   link = λ x y. cond (eqb x a && eqb y b) (tail (s .link x y)) (s .link x y);
+}
+
+-- the site with the head of the link from a to b doubled
+abbrev pub doubled : Site → ℕ → ℕ → Site
+doubled s a b = record {
+  n = s .n;
+  J = s .J;
+  L = s .L;
+  epoch = s .epoch;
+  present = s .present;
+  box = s .box;
+  link = λ x y. cond (eqb x a && eqb y b) (twice (s .link x y)) (s .link x y);
 }

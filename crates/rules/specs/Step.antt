@@ -10,7 +10,7 @@ use Rattle.rules.specs.Sizes.{majorityOf, mostEpoch, even, leftOf, right
 use Rattle.rules.specs.Sets.{has, joined, without}
 use Rattle.rules.specs.Steps.{elected}
 use Rattle.rules.specs.Box.{Box, Letter, own, mail, turnOf}
-use Rattle.rules.specs.Site.{Site, Outcome, isBox, isLink, setting, room, played, popped}
+use Rattle.rules.specs.Site.{Site, Outcome, isBox, isLink, setting, room, played, popped, doubled}
 use Rattle.rules.specs.Form.{form}
 use Rattle.rules.specs.Needs.{Need, need, ruled}
 use Rattle.rules.specs.Types.{Act, Answer, Call, Refusal, Setting, Turn}
@@ -118,7 +118,13 @@ timeoutNeeds s =
 abbrev pub loseNeeds : List Letter → List Need
 loseNeeds link = need Refusal.Condition (not (eqb (length link) 0)) ∷ []
 
--- the thirteen calls
+abbrev pub repeatNeeds : ℕ → List Letter → List Need
+repeatNeeds L link =
+    need Refusal.Condition (not (eqb (length link) 0))
+    ∷ need Refusal.Link (ltb (length link) L)
+    ∷ []
+
+-- the fourteen calls
 unfoldable pub step : Site → Call → Outcome
 step s (Call.Elect c) =
     ruled (refused s) (atBox s c (electNeeds (setting s c))) (did (elect s c))
@@ -140,6 +146,9 @@ step s (Call.Timeout c) =
     (did (presented s (s .present)))
 step s (Call.Lose a b) =
     ruled (refused s) (atLink s a b (loseNeeds (s .link a b))) (did (popped s a b))
+-- "doubles the head of a link in place, in either parity" (Q-1)
+step s (Call.Repeat a b) =
+    ruled (refused s) (atLink s a b (repeatNeeds (s .L) (s .link a b))) (did (doubled s a b))
 step s (Call.Deliver a b) =
     ruled (refused s) (atLink s a b []) (delivered s a b (s .link a b))
 

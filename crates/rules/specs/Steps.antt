@@ -10,7 +10,7 @@ use Rattle.rules.specs.Sets.{bit, includes}
 use Rattle.rules.specs.Numbers.{inPhase, inState}
 use Rattle.rules.specs.NewPn.{newPn}
 use Rattle.rules.specs.Fields.{withLeads, withState, withPhase, withKept, withBest}
-use Rattle.rules.specs.Fields.{withReplies, withAccepts, withWaiting, withAgreeing, withPeers}
+use Rattle.rules.specs.Fields.{withAnswered, withAccepts, withWaiting, withAgreeing, withPeers}
 use Rattle.rules.specs.Fields.{promised, lasting, storing}
 use Rattle.rules.specs.Parts.{others, allUnknown, isHeld, underOf, none}
 use Rattle.rules.specs.Turns.{unless, settled, done, mailOf}
@@ -57,13 +57,14 @@ unfoldable pub bestHeld : Kept → Held → Best
 bestHeld k (Held.Record r) = record { pn = underOf k; number = k .last + 1; value = r }
 bestHeld k Held.Nothing = none
 
--- "Peers unknown, replies 1. .. Collect(pn, last) to others. Phase Collect."
+-- "Peers unknown", of those that answered "the leader included" (Q-1). "Collect(pn, last) to
+-- others. Phase Collect."
 unfoldable pub collect : BoxState → Setting → Held → Turn
 collect b s mine =
     settled b (unless (canCollect b s) Refusal.Condition Verdict.Go)
     (done
     (withPeers allUnknown
-    (withReplies 1
+    (withAnswered (bit (s .me))
     (withBest (bestHeld (b .kept) mine)
     (withPhase Phase.Collect b))))
     Book.Keep
@@ -90,11 +91,11 @@ leased b s =
     Book.Keep
     (Out.To (others s) (mailOf Kind.Lease 0 (b .kept .last) 0))
 
--- "Ready c: leader, Collect, replies = number present."
+-- "Ready c: leader, Collect", and the set of those that answered "equals the present set" (Q-1)
 unfoldable pub canReady : BoxState → Setting → Bool
 canReady b s =
     even (s .epoch) && b .leads && inPhase (b .phase) Phase.Collect
-    && eqb (b .replies) (ones (s .present))
+    && eqb (b .answered) (s .present)
 
 -- "the best unagreed number is last+1 and its record not 0"
 unfoldable pub hasPrevious : BoxState → Bool

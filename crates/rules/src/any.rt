@@ -23,7 +23,7 @@ impl BoxState {
     pub(crate) fn bounded(self, s: Setting) -> bool
         ensures { λ r. ⌜ r ≡ boundedBox self s ⌝ }
     {
-        (self.kept.pn <= 999999999) & (self.kept.last <= 4096) & (self.replies <= 5) & (s.me <= 5)
+        (self.kept.pn <= 999999999) & (self.kept.last <= 4096) & (s.me <= 5)
     }
 
     // Any mail from a sender: `one` is its first record (0: none), `next` what it holds at its

@@ -12,7 +12,7 @@ ghost use Rattle.rules.specs.Last.{
   raised,
   counted,
   uncounted,
-  answered,
+  replied,
   lastVerdict,
   onLast,
 };
@@ -95,7 +95,6 @@ impl Best {
 impl BoxState {
     pub(crate) fn hear(self, sender: u32, m: Mail) -> BoxState
         ensures { λ r. ⌜ r ≡ heard self sender m ⌝ }
-        ensures { λ r. ⌜ r .replies ≡ self .replies ⌝ }
     {
         let known = self.peers;
         let k = self.kept;
@@ -125,17 +124,16 @@ impl BoxState {
         }
     }
 
-    pub(crate) fn count(self, m: Mail, next: Held) -> BoxState
+    pub(crate) fn count(self, sender: u32, m: Mail, next: Held) -> BoxState
         requires { ⌜ m .last ≤ mostLoads ⌝ }
-        requires { ⌜ self .replies ≤ mostBoxes ⌝ }
-        ensures { λ r. ⌜ r ≡ counted self m next ⌝ }
+        ensures { λ r. ⌜ r ≡ counted self sender m next ⌝ }
     {
-        let replies = self.replies + 1;
+        let answered = sets::with_box(self.answered, sender);
         let k = self.kept;
         let b = self.best;
         let best = b.better(k.last, m, next);
         BoxState {
-            replies: replies,
+            answered: answered,
             best: best,
             ..self
         }
@@ -150,15 +148,14 @@ impl BoxState {
         BoxState { best: best, ..self }
     }
 
-    pub(crate) fn answer(self, me: u32, m: Mail, next: Held) -> BoxState
+    pub(crate) fn answer(self, me: u32, sender: u32, m: Mail, next: Held) -> BoxState
         requires { ⌜ m .last ≤ mostLoads ⌝ }
         requires { ⌜ m .pn ≤ mostPn ⌝ }
         requires { ⌜ me ≤ mostBoxes ⌝ }
-        requires { ⌜ self .replies ≤ mostBoxes ⌝ }
-        ensures { λ r. ⌜ r ≡ answered self me m next ⌝ }
+        ensures { λ r. ⌜ r ≡ replied self me sender m next ⌝ }
     {
         let above = self.raise(me, m);
-        let equal = self.count(m, next);
+        let equal = self.count(sender, m, next);
         let below = self.pass();
         let rest = turns::pick_box(m.pn == self.kept.pn, equal, below);
         turns::pick_box(self.kept.pn < m.pn, above, rest)
@@ -172,21 +169,19 @@ impl BoxState {
         let fits = sets::new_pn(m.pn, s.me) <= 999999999;
         let p = self.phase;
         let collects = numbers::in_phase(p, Phase::Collect);
-        let full = sets::count(s.present) <= self.replies;
         let room = turns::unless((m.pn <= self.kept.pn) | fits, Refusal::NewPn, Verdict::Go);
-        turns::first_cause(!self.leads, !collects | full, false, false, room)
+        turns::first_cause(!self.leads, !collects, false, false, room)
     }
 
     pub(crate) fn on_last(self, s: Setting, sender: u32, m: Mail, next: Held) -> Turn
         requires { ⌜ m .last ≤ mostLoads ⌝ }
         requires { ⌜ m .pn ≤ mostPn ⌝ }
         requires { ⌜ s .me ≤ mostBoxes ⌝ }
-        requires { ⌜ self .replies ≤ mostBoxes ⌝ }
         ensures { λ t. ⌜ t ≡ onLast self s sender m next ⌝ }
     {
         let v = self.judge_last(s, m);
         let told = self.hear(sender, m);
-        let b = told.answer(s.me, m, next);
+        let b = told.answer(s.me, sender, m, next);
         let k = self.kept;
         let known = self.peers;
         let last = k.take(m.last).last;

@@ -167,7 +167,6 @@ impl BoxState {
         requires { ⌜ m .last ≤ mostLoads ⌝ }
         requires { ⌜ m .pn ≤ mostPn ⌝ }
         requires { ⌜ s .me ≤ mostBoxes ⌝ }
-        requires { ⌜ self .replies ≤ mostBoxes ⌝ }
         ensures { λ t. ⌜ t ≡ ofKind kind self s sender m one next mine ⌝ }
     {
         match kind {
@@ -193,7 +192,6 @@ impl BoxState {
         requires { ⌜ m .last ≤ mostLoads ⌝ }
         requires { ⌜ m .pn ≤ mostPn ⌝ }
         requires { ⌜ s .me ≤ mostBoxes ⌝ }
-        requires { ⌜ self .replies ≤ mostBoxes ⌝ }
         ensures { λ t. ⌜ t ≡ onMail self s sender m one next mine ⌝ }
     {
         let k = m.kind;

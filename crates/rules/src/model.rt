@@ -102,7 +102,7 @@ pub struct BoxState {
     pub phase: Phase,
     pub kept: Kept,
     pub best: Best,
-    pub replies: u32,
+    pub answered: u32,
     pub accepts: u32,
     pub waiting: u64,
     pub agreeing: u64,
@@ -160,7 +160,7 @@ pub struct Turn {
     pub out: Out,
 }
 
-// The thirteen calls, with box numbers and frame numbers.
+// The fourteen calls, with box numbers and frame numbers.
 pub enum Call {
     Elect(u32),
     Recover(u32),
@@ -174,5 +174,6 @@ pub enum Call {
     Return(u32),
     Timeout(u32),
     Lose(u32, u32),
+    Repeat(u32, u32),
     Deliver(u32, u32),
 }

@@ -126,7 +126,7 @@ impl BoxState {
         let peers = [4294967295; 5];
         let b = BoxState {
             peers: peers,
-            replies: 1,
+            answered: sets::bit_of(s.me),
             best: best,
             phase: Phase::Collect,
             ..self
@@ -172,7 +172,7 @@ impl BoxState {
         sets::is_even(s.epoch)
             & self.leads
             & numbers::in_phase(p, Phase::Collect)
-            & (self.replies == sets::count(s.present))
+            & (self.answered == s.present)
     }
 
     pub(crate) fn has_previous(self) -> bool

@@ -13,7 +13,7 @@ on-mail-requires c κs =
     let g = c .before .bounded2 .result in
     let h = bounded-box _ _ (sym (at-bounded .bounded .ensures) ∙ first-of f g (c .if1 .taken)) in
     let m = bounded-mail _ (sym (c .before .bounded2 .ensures) ∙ second-of f g (c .if1 .taken)) in
-    (h .last, (m .last, (m .pn, (h .me, h .replies))))
+    (h .last, (m .last, (m .pn, h .me)))
 
 returns : tie.Need-returns
 unfolding anyMail

@@ -24,7 +24,7 @@ returns c =
       at-note .note .ensures,
       at-take .take .ensures,
       at-answer .answer .ensures,
-      at-hear .hear .ensures .0,
+      at-hear .hear .ensures,
       at-judge-last .judge-last .ensures,
     )
 
