@@ -5,7 +5,7 @@ use mathlib.Core.Bool.{Bool, true, false, not, _&&_}
 use native.Mathlib.Omega.{arith}
 use lib.Count.{ones}
 use lib.Dec.{eqb, leb}
-use borrow.Author.Tests.{leb-true, leb-false, ltb-true, ltb-false, not-true, not-false}
+use borrow.Author.Tests.{leb-true, ltb-true, ltb-false, not-true, not-false}
 use Rattle.rules.specs.Pick.{pick}
 use Rattle.rules.specs.Sizes.{even, mostPn}
 use Rattle.rules.specs.Sets.{includes}
@@ -19,7 +19,6 @@ use Rattle.rules.specs.Steps.{canRecover, canCollect, canReady, hasPrevious, ca
 use Rattle.rules.specs.Steps.{canAgree, canFinish}
 use Rattle.laws.proofs.Types.{BoxState, Held, Mail, Phase, Refusal, Setting, State, Verdict}
 use Rattle.laws.proofs.Logic.{Or, left, right, eqb-yes, eqb-no, both-no, and-yes, or-cases}
-use Rattle.laws.proofs.Logic.{or-no}
 
 -- ---- verdicts
 
@@ -59,7 +58,6 @@ in-state p q e = eqb-yes (stateNumber p) (stateNumber q) e
 pub record LastTaken (b : BoxState) (s : Setting) (m : Mail) : Type 0 where
   pub leads : b .leads ≡ true
   pub phase : phaseNumber (b .phase) ≡ 2
-  pub fewer : b .replies < ones (s .present)
   pub new : Or (m .pn ≤ b .kept .pn) (newPn (m .pn) (s .me) ≤ mostPn)
 
 pub go-last : {b : BoxState} {s : Setting} {m : Mail} → lastVerdict b s m ≡ Verdict.Go
@@ -67,12 +65,9 @@ pub go-last : {b : BoxState} {s : Setting} {m : Mail} → lastVerdict b s m ≡ 
 unfolding lastVerdict
 go-last {b} {s} {m} e =
     let g = go-cause _ _ _ _ _ e in
-    let collect = not (inPhase (b .phase) Phase.Collect) in
-    let p = or-no collect (leb (ones (s .present)) (b .replies)) (g .no-phase) in
     record {
       leads = not-false _ (g .no-role);
-      phase = in-phase _ _ (not-false _ (p .0));
-      fewer = leb-false _ _ (p .1);
+      phase = in-phase _ _ (not-false _ (g .no-phase));
       new = go (or-cases _ _ (go-unless _ _ _ (g .next) .0));
     }
   where
@@ -177,7 +172,7 @@ module _ {b : BoxState} {s : Setting} where
   can-collect e = let p = and4 _ _ _ _ e in
       led (p .0) (p .1) (in-phase _ _ (p .3)) (in-state _ _ (p .2))
 
-  pub can-ready : canReady b s ≡ true → Leading (Is 2) Any b s × (b .replies ≡ ones (s .present))
+  pub can-ready : canReady b s ≡ true → Leading (Is 2) Any b s × (b .answered ≡ s .present)
   unfolding canReady
   can-ready e = let p = and4 _ _ _ _ e in
       (led (p .0) (p .1) (in-phase _ _ (p .2)) tt, eqb-yes _ _ (p .3))

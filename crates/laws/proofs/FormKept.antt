@@ -12,12 +12,12 @@ use Rattle.rules.specs.Sets.{has, setForm}
 use Rattle.rules.specs.Steps.{elected}
 use Rattle.rules.specs.Box.{Letter, Event, turned}
 use Rattle.rules.specs.Site.{Site, setting, fresh, freshHead, isBox, upd, posted, room, played}
-use Rattle.rules.specs.Site.{popped}
+use Rattle.rules.specs.Site.{relinked, popped, twice, doubled}
 use Rattle.rules.specs.Form.{form}
 use Rattle.rules.specs.Step.{elect, presented, step, run}
 use Rattle.laws.proofs.Types.{Call, Out, Turn}
-use Rattle.laws.proofs.Logic.{left, In, All, nil, cons, All-append, All-tail, All-head}
-use Rattle.laws.proofs.Logic.{both-no, eqb-yes, cond-elim}
+use Rattle.laws.proofs.Logic.{left, In, All, nil, cons, All-append, All-tail, All-twice}
+use Rattle.laws.proofs.Logic.{All-head, both-no, eqb-yes, and-yes, cond-elim}
 use Rattle.laws.proofs.SetLaws.{set-full, set-zero}
 use Rattle.laws.proofs.FormLaws.{FormedBox, FormedLetter, Formed, form-says, form-made}
 use Rattle.laws.proofs.FormLaws.{sizes-says, box-is}
@@ -29,14 +29,14 @@ use Rattle.laws.proofs.StoreForm.{unknown-form}
 use Rattle.laws.specs.Frames.{CallFits}
 use Rattle.laws.proofs.TurnForm.{Fits, OutFits, EventFits, turn-fits}
 
--- ---- the mail's head gone
+-- ---- the mail's head gone, or twice
 
-tail-le : (l : List Letter) (L : ℕ) → length l ≤ L → length (tail l) ≤ L
-tail-le [] L h = h
-tail-le (y ∷ ys) L h = omega arith
-
-pub popped-form : (s : Site) (a b : ℕ) → Formed s → Formed (popped s a b)
-popped-form s a b f = record {
+-- one link is changed by f
+relinked-form : (g : List Letter → List Letter) (s : Site) (a b : ℕ)
+    → (length (s .link a b) ≤ s .L → length (g (s .link a b)) ≤ s .L)
+    → ((l : List Letter) → All (FormedLetter (s .J)) l → All (FormedLetter (s .J)) (g l))
+    → Formed s → Formed (relinked g s a b)
+relinked-form g s a b short kept f = record {
   sizes = f .sizes;
   some-epoch = f .some-epoch;
   few-epochs = f .few-epochs;
@@ -45,13 +45,35 @@ popped-form s a b f = record {
   one-leader = f .one-leader;
   links = λ x y hx hy xy. let l = f .links x y hx hy xy in record {
     room = cond-elim (λ (k : List Letter). length k ≤ s .L) (eqb x a && eqb y b)
-        (λ e. tail-le (s .link x y) (s .L) (l .room))
+        (λ e. here x y (and-yes (eqb x a) (eqb y b) e) (l .room))
         (λ e. l .room);
     letters = cond-elim (All (FormedLetter (s .J))) (eqb x a && eqb y b)
-        (λ e. All-tail (l .letters))
+        (λ e. kept (s .link x y) (l .letters))
         (λ e. l .letters);
   };
 }
+  where
+    here : (x y : ℕ) → (eqb x a ≡ true) × (eqb y b ≡ true) → length (s .link x y) ≤ s .L
+        → length (g (s .link x y)) ≤ s .L
+    here x y p = rw (eqb-yes x a (p .0), eqb-yes y b (p .1)) short
+
+tail-le : (l : List Letter) (L : ℕ) → length l ≤ L → length (tail l) ≤ L
+tail-le [] L h = h
+tail-le (y ∷ ys) L h = omega arith
+
+pub popped-form : (s : Site) (a b : ℕ) → Formed s → Formed (popped s a b)
+popped-form s a b =
+    relinked-form tail s a b (tail-le (s .link a b) (s .L)) (λ l h. All-tail h)
+
+twice-le : (l : List Letter) (L : ℕ) → length l < L → length (twice l) ≤ L
+unfolding twice
+twice-le [] L h = omega arith
+twice-le (y ∷ ys) L h = omega arith
+
+doubled-form : (s : Site) (a b : ℕ) → Formed s → length (s .link a b) < s .L
+    → Formed (doubled s a b)
+doubled-form s a b f h =
+    relinked-form twice s a b (λ g. twice-le (s .link a b) (s .L) h) (λ l. All-twice) f
 
 -- ---- a turn played
 
@@ -98,7 +120,7 @@ elected-form s c f e = record {
   few-epochs = omega (arith, f .few-epochs, eqb-false (s .epoch % 2) 0 (not-true _ (e .due)));
   present = f .present;
   boxes = λ b h. rw (box-is h) (let x = f .boxes b h in
-      box-of (kept-part x) (best-part x) (x .replies) (x .accepts) (left refl) (left refl)
+      box-of (kept-part x) (best-part x) (x .answered) (x .accepts) (left refl) (left refl)
       (peers-part x));
   one-leader = λ i j hi hj p q. leader i hi p ∙ sym (leader j hj q);
   links = λ a b ha hb ab. record { room = omega arith; letters = nil };
@@ -162,7 +184,7 @@ module _ (s : Site) where
 
   pub formed-step : (d : Call) → CallFits d → Formed s → Formed (step s d .next)
   formed-step d h f =
-      by-step Formed s f (elected-form s) (presented-form s) (popped-form s) d
+      by-step Formed s f (elected-form s) (presented-form s) (popped-form s) (doubled-form s) d
       (λ c e link w g hc r. played-form (changed s (s .box) link) c _ _ (base-form g w)
       (turn-fits (setting s c) (s .box c) e (g .boxes c hc) (g .sizes .few-boxes) hc (g .present)
       (event-fits h g hc w))
@@ -196,7 +218,7 @@ fresh-form n J L e = form-made (record {
         stored-pn = omega arith;
         stored-number = omega arith;
       })
-      (none-form J) (omega arith) (set-zero n) (left refl) (left refl) (unknown-form n J b);
+      (none-form J) (set-zero n) (set-zero n) (left refl) (left refl) (unknown-form n J b);
   one-leader = λ i j hi hj p q. absurd (both-no p refl);
   links = λ a b ha hb ab. record { room = omega arith; letters = nil };
 })

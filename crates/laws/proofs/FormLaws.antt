@@ -173,7 +173,7 @@ pub record FormedBox (n J b : ℕ) (x : Box) : Type 0 where
   pub best-pn : x .head .best .pn ≤ mostPn
   pub best-number : x .head .best .number ≤ J
   pub best : Or (x .head .best .value ≡ 0) (Proper (x .head .best .value))
-  pub replies : x .head .replies ≤ n
+  pub answered : setForm n (x .head .answered) ≡ true
   pub accepts : setForm n (x .head .accepts) ≡ true
   pub waiting : Or (x .head .waiting ≡ 0) (Proper (x .head .waiting))
   pub agreeing : Or (x .head .agreeing ≡ 0) (Proper (x .head .agreeing))
@@ -192,7 +192,7 @@ module _ {n J b : ℕ} {x : Box} where
     best-pn = leb-true _ _ (p .1 .1 .1 .1 .1 .0);
     best-number = leb-true _ _ (p .1 .1 .1 .1 .1 .1 .0);
     best = record-says (p .1 .1 .1 .1 .1 .1 .1 .0);
-    replies = leb-true _ _ (p .1 .1 .1 .1 .1 .1 .1 .1 .0);
+    answered = p .1 .1 .1 .1 .1 .1 .1 .1 .0;
     accepts = p .1 .1 .1 .1 .1 .1 .1 .1 .1 .0;
     waiting = record-says (p .1 .1 .1 .1 .1 .1 .1 .1 .1 .1 .0);
     agreeing = record-says (p .1 .1 .1 .1 .1 .1 .1 .1 .1 .1 .1 .0);
@@ -214,7 +214,7 @@ module _ {n J b : ℕ} {x : Box} where
       & le-leb _ _ (h .best-pn)
       & le-leb _ _ (h .best-number)
       & record-made (h .best)
-      & le-leb _ _ (h .replies)
+      & h .answered
       & h .accepts
       & record-made (h .waiting)
       & record-made (h .agreeing)

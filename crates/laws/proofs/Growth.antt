@@ -8,7 +8,7 @@ use lib.Dec.{eqb, ltb}
 use lib.ListN.{length, take, drop, getD, length-take}
 use lib.Seq.{take-append-le, take-take, getD-take}
 use Rattle.rules.specs.Parts.{tookKept}
-use Rattle.rules.specs.Last.{heard, raised, counted, uncounted, answered, onLast}
+use Rattle.rules.specs.Last.{heard, raised, counted, uncounted, replied, onLast}
 use Rattle.rules.specs.Mails.{onCollect, onBegin, onAccept, onCommit, onLease, ofKind, onMail}
 use Rattle.rules.specs.Steps.{elected, recover, collect, started, leased, ready, offer, propose}
 use Rattle.rules.specs.Steps.{agree, finish, acted}
@@ -97,10 +97,10 @@ module _ (s : Setting) (x : Box) (shaped : Shaped (store x)) where
     abbrev Grows? : List ℕ → BoxState → Type 0
     Grows? rs b = Grows (store x) (store (record { head = b; records = rs }))
 
-    grow-answered : (b : BoxState) (rs : List ℕ) (next : Held)
-        → Grows? rs b → Grows? rs (answered b (s .me) (y .head) next)
-    unfolding answered raised counted uncounted
-    grow-answered b rs next h =
+    grow-replied : (b : BoxState) (rs : List ℕ) (next : Held)
+        → Grows? rs b → Grows? rs (replied b (s .me) a (y .head) next)
+    unfolding replied raised counted uncounted
+    grow-replied b rs next h =
         pick-elim (Grows? rs) (ltb (b .kept .pn) (y .head .pn))
         (λ e. record { up = h .up; same = h .same })
         (λ e. pick-elim (Grows? rs) (eqb (y .head .pn) (b .kept .pn)) (λ f. h) (λ f. h))
@@ -118,7 +118,7 @@ module _ (s : Setting) (x : Box) (shaped : Shaped (store x)) where
     grow-kind Kind.Collect =
         by-verdict Mailed _ _ _ (λ a. stays) (λ go. record { up = omega arith; same = refl })
     grow-kind Kind.Last =
-        by-verdict Mailed _ _ _ (λ a. stays) (λ go. grow-answered _ _ _ took-records)
+        by-verdict Mailed _ _ _ (λ a. stays) (λ go. grow-replied _ _ _ took-records)
     grow-kind Kind.Begin =
         by-verdict Mailed _ _ _ (λ a. stays)
         (λ go. grows-stored (y .head .pn) (getD (y .records) 0 0) (store x) shaped)
@@ -142,7 +142,8 @@ unfolding elect elected presented
 grow-step s d =
     by-step (Grown s) s same
     (λ c f e b. cond-elim (With b) (isBox (s .n) b) (λ e. same b) (λ e. same b))
-    (λ w f g h b. record { up = omega arith; same = refl }) (λ a b f. same) d
+    (λ w f g h b. record { up = omega arith; same = refl }) (λ a b f. same)
+    (λ a b f h. same) d
     (λ c e link w f c-in r.
     one-box c _ (grow-turn (setting s c) (s .box c) (f .boxes c c-in .held .all) e))
   where

@@ -2,12 +2,12 @@
 use Prim.Native.Nat.{ℕ}
 use mathlib.Core.Path.{_≡_, refl, _∙_}
 use mathlib.Core.Bool.{_&&_}
-use mathlib.Core.List.{List, [], _∷_}
+use mathlib.Core.List.{List, [], _∷_, tail}
 use lib.Dec.{eqb}
 use Rattle.rules.specs.Sets.{has}
 use Rattle.rules.specs.Steps.{elected}
 use Rattle.rules.specs.Box.{Letter}
-use Rattle.rules.specs.Site.{Site, isBox, popped, posted}
+use Rattle.rules.specs.Site.{Site, isBox, relinked, popped, twice, posted}
 use Rattle.rules.specs.Step.{acting, delivered, elect, presented, step}
 use Rattle.laws.proofs.Types.{Act, BoxState, Call, Out}
 use Rattle.laws.proofs.Logic.{eqb-yes, and-yes, cond-elim}
@@ -28,6 +28,7 @@ OtherBox (Call.Stop c) b = Unit {0}
 OtherBox (Call.Return c) b = Unit {0}
 OtherBox (Call.Timeout c) b = Unit {0}
 OtherBox (Call.Lose a c) b = Unit {0}
+OtherBox (Call.Repeat a c) b = Unit {0}
 OtherBox (Call.Deliver a c) b = b ≡ c → ⊥
 
 abbrev NotThe : ℕ → ℕ → ℕ → ℕ → Type 0
@@ -47,6 +48,7 @@ OtherLink (Call.Stop c) x y = Unit {0}
 OtherLink (Call.Return c) x y = Unit {0}
 OtherLink (Call.Timeout c) x y = Unit {0}
 OtherLink (Call.Lose a b) x y = NotThe a b x y
+OtherLink (Call.Repeat a b) x y = NotThe a b x y
 OtherLink (Call.Deliver a b) x y = (x ≡ b → ⊥) × NotThe a b x y
 
 module _ (s : Site) where
@@ -81,6 +83,7 @@ module _ (s : Site) where
     other-box (Call.Return c) ne = by-ruled SameBox s _ _ refl (λ p. refl)
     other-box (Call.Timeout c) ne = by-ruled SameBox s _ _ refl (λ p. refl)
     other-box (Call.Lose a c) ne = by-ruled SameBox s _ _ refl (λ p. refl)
+    other-box (Call.Repeat a c) ne = by-ruled SameBox s _ _ refl (λ p. refl)
     other-box (Call.Deliver a c) ne =
         by-ruled SameBox s _ _ refl (λ p. delivered-box a c (s .link a c) ne)
 
@@ -115,8 +118,9 @@ module _ (s : Site) where
         (λ e. absurd (ne (eqb-yes x c (and-yes (eqb x c) (has set y) e .0))))
         (λ e. refl)
 
-    popped-other : (a b : ℕ) → NotThe a b x y → popped s a b .link x y ≡ s .link x y
-    popped-other a b ne =
+    relinked-other : (f : List Letter → List Letter) (a b : ℕ) → NotThe a b x y
+        → relinked f s a b .link x y ≡ s .link x y
+    relinked-other f a b ne =
         cond-elim (λ (l : List Letter). l ≡ s .link x y) (eqb x a && eqb y b)
         (λ e. let p = and-yes (eqb x a) (eqb y b) e in
         absurd (ne (eqb-yes x a (p .0)) (eqb-yes y b (p .1))))
@@ -131,7 +135,7 @@ module _ (s : Site) where
         → SameLink (delivered s a b ys .next)
     unfolding delivered
     delivered-link a b [] ne no-head = refl
-    delivered-link a b (z ∷ ys) ne no-head = let less = popped-other a b no-head in
+    delivered-link a b (z ∷ ys) ne no-head = let less = relinked-other tail a b no-head in
         by-turn SameLink s (popped s a b) b _ _ refl less
         (λ r. posted-other (popped s a b .link) b _ _ ne ∙ less)
 
@@ -148,6 +152,8 @@ module _ (s : Site) where
     other-link (Call.Stop c) ne = by-ruled SameLink s _ _ refl (λ p. refl)
     other-link (Call.Return c) ne = by-ruled SameLink s _ _ refl (λ p. refl)
     other-link (Call.Timeout c) ne = by-ruled SameLink s _ _ refl (λ p. refl)
-    other-link (Call.Lose a b) ne = by-ruled SameLink s _ _ refl (λ p. popped-other a b ne)
+    other-link (Call.Lose a b) ne = by-ruled SameLink s _ _ refl (λ p. relinked-other tail a b ne)
+    other-link (Call.Repeat a b) ne =
+        by-ruled SameLink s _ _ refl (λ p. relinked-other twice a b ne)
     other-link (Call.Deliver a b) ne =
         by-ruled SameLink s _ _ refl (λ p. delivered-link a b (s .link a b) (ne .0) (ne .1))

@@ -10,6 +10,7 @@ use lib.ListN.{length, getD, take, drop}
 use borrow.Author.Tests.{eqb-true, eqb-false, eq-eqb}
 use Rattle.rules.specs.Pick.{pick}
 use Rattle.rules.specs.Every.{all, each, every}
+use Rattle.rules.specs.Site.{twice}
 
 pub data Or (A B : Type 0) : Type 0 where
   left : A → Or A B
@@ -143,6 +144,11 @@ module _ {ℓ κ} {A : Type ℓ} {P : A → Type κ} where
   pub All-tail : {l : List A} → All P l → All P (tail l)
   All-tail nil = nil
   All-tail (cons p ps) = ps
+
+  pub All-twice : {l : List A} → All P l → All P (twice l)
+  unfolding twice
+  All-twice nil = nil
+  All-twice (cons p ps) = cons p (cons p ps)
 
   pub All-append : {l m : List A} → All P l → All P m → All P (l ++ m)
   All-append nil q = q

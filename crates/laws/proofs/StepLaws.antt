@@ -1,17 +1,19 @@
 -- How a fact comes through a call: a refusal leaves the site, and what is done has passed its
 -- needs and its verdict.
-use Prim.Native.Nat.{ℕ}
+use Prim.Native.Nat.{ℕ, _<_}
 use mathlib.Core.Path.{_≡_, refl, _∙_}
 use mathlib.Core.Bool.{Bool, true, false, not}
 use mathlib.Core.List.{List, [], _∷_}
 use lib.Count.{ones}
 use lib.Dec.{leb, ltb}
+use lib.ListN.{length}
+use borrow.Author.Tests.{ltb-true}
 use Rattle.rules.specs.Sizes.{majorityOf, mostEpoch, even}
 use Rattle.rules.specs.Sets.{has, setForm, joined, without}
 use Rattle.rules.specs.Answers.{isAccepted, isRefusal}
 use Rattle.rules.specs.Turns.{still, settled}
 use Rattle.rules.specs.Box.{Box, Letter, Event, own, mail, turnOf, brought}
-use Rattle.rules.specs.Site.{Site, Outcome, setting, room, played, popped}
+use Rattle.rules.specs.Site.{Site, Outcome, setting, room, played, popped, doubled}
 use Rattle.rules.specs.Form.{form}
 use Rattle.rules.specs.Needs.{Need, ruled}
 use Rattle.rules.specs.Step.{refused, byAnswer, byTurn, atBox, acting, delivered, elect, presented}
@@ -170,7 +172,8 @@ module _ {κ} (P : Site → Type κ) (s : Site) (old : P s)
     (elects : (c : ℕ) → Formed s → Elects s c → P (elect s c))
     (presents : (w : ℕ) → Formed s → setForm (s .n) w ≡ true → ltb (s .epoch) mostEpoch ≡ true
     → P (presented s w))
-    (pops : (a b : ℕ) → Formed s → P (popped s a b)) where
+    (pops : (a b : ℕ) → Formed s → P (popped s a b))
+    (doubles : (a b : ℕ) → Formed s → length (s .link a b) < s .L → P (doubled s a b)) where
   -- what a call that is played needs and does
   abbrev pub Playing : Call → Type κ
   Playing d =
@@ -226,6 +229,9 @@ module _ {κ} (P : Site → Type κ) (s : Site) (old : P s)
       by-ruled P s _ _ old
       (λ p. let f = form-says (p .0) in presents (s .present) f (f .present) (p .1 .1 .1 .1 .0))
   by-step (Call.Lose a b) plays = by-ruled P s _ _ old (λ p. pops a b (form-says (p .0)))
+  by-step (Call.Repeat a b) plays =
+      by-ruled P s _ _ old
+      (λ p. doubles a b (form-says (p .0)) (ltb-true (length (s .link a b)) (s .L) (p .1 .1 .1 .0)))
   by-step (Call.Deliver a b) plays =
       by-ruled P s _ _ old
       (λ p. let l = is-link (p .1 .0) in
@@ -244,7 +250,8 @@ sizes-step s d =
     by-step (SameSizes s) s (same s refl refl refl)
     (λ c f e. same _ refl refl refl)
     (λ w f g h. same _ refl refl refl)
-    (λ a b f. same _ refl refl refl) d
+    (λ a b f. same _ refl refl refl)
+    (λ a b f h. same _ refl refl refl) d
     (λ c e link w f h r. same _ refl refl refl)
   where
     same : (t : Site) → t .n ≡ s .n → t .J ≡ s .J → t .L ≡ s .L → SameSizes s t

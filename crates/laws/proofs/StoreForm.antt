@@ -241,11 +241,11 @@ module _ {n J c : ℕ} {x : Box} (f : FormedBox n J c x) where
   peers-part = record { places = f .places; each = f .peers }
 
 pub box-of : {n J c : ℕ} {h : BoxState} {rs : List ℕ} → KeptForm J (h .kept) rs
-    → BestForm J (h .best) → h .replies ≤ n
+    → BestForm J (h .best) → setForm n (h .answered) ≡ true
     → setForm n (h .accepts) ≡ true → Or (h .waiting ≡ 0) (Proper (h .waiting))
     → Or (h .agreeing ≡ 0) (Proper (h .agreeing)) → PeersForm n J c (h .peers)
     → FormedBox n J c (record { head = h; records = rs })
-box-of k b replies accepts waiting agreeing p = record {
+box-of k b answered accepts waiting agreeing p = record {
   held = k .held;
   records = k .records;
   pn = k .pn;
@@ -254,7 +254,7 @@ box-of k b replies accepts waiting agreeing p = record {
   best-pn = b .pn;
   best-number = b .number;
   best = b .value;
-  replies = replies;
+  answered = answered;
   accepts = accepts;
   waiting = waiting;
   agreeing = agreeing;

@@ -12,7 +12,7 @@ use Rattle.rules.specs.Sets.{setForm, bit}
 use Rattle.rules.specs.NewPn.{newPn}
 use Rattle.rules.specs.Turns.{settled, still, mailOf}
 use Rattle.rules.specs.Parts.{others, tookKept, tookBook}
-use Rattle.rules.specs.Last.{noted, heard, lagging, raised, counted, uncounted, answered, onLast}
+use Rattle.rules.specs.Last.{noted, heard, lagging, raised, counted, uncounted, replied, onLast}
 use Rattle.rules.specs.Mails.{unagreedOf, onCollect, onBegin, onAccept, onCommit, onLease, ofKind}
 use Rattle.rules.specs.Mails.{onMail}
 use Rattle.rules.specs.Steps.{recover, collect, started, leased, hasPrevious, ready, offer}
@@ -24,7 +24,7 @@ use Rattle.laws.proofs.Types.{Act, Answer, Book, BoxState, Held, Kind, 
 use Rattle.laws.proofs.Types.{Turn, Verdict}
 use Rattle.laws.proofs.Logic.{Or, left, right, In, All, nil, cons, All-at, All-take, and-yes}
 use Rattle.laws.proofs.Logic.{and-both, pick-elim}
-use Rattle.laws.proofs.SetLaws.{set-bit, set-joined, set-without, set-and, ones-le}
+use Rattle.laws.proofs.SetLaws.{set-bit, set-joined, set-without, set-and}
 use Rattle.laws.proofs.FormLaws.{Proper, FormedBox, FormedKind, FormedLetter}
 use Rattle.laws.proofs.StepLaws.{by-verdict}
 use Rattle.laws.proofs.Conditions.{go-unless, go-last, go-begin, can-propose, can-agree}
@@ -107,7 +107,7 @@ module _ (s : Setting) (x : Box) (f : FormedBox (s .n) (s .j) (s .me) x) (few : 
   pub still-fits : (ms : List ℕ) (a : Answer) → Good ms (still (x .head) a)
   unfolding written
   still-fits ms a = record {
-    box = box-of k (best-part f) (f .replies) (f .accepts) (f .waiting) (f .agreeing)
+    box = box-of k (best-part f) (f .answered) (f .accepts) (f .waiting) (f .agreeing)
         (peers-part f);
     book = tt;
     out = tt;
@@ -132,7 +132,7 @@ module _ (s : Setting) (x : Box) (f : FormedBox (s .n) (s .j) (s .me) x) (few : 
       record {
         box = box-of
             (promised-form k (newPn (x .head .kept .pn) (s .me)) (leb-true _ _ room))
-            (best-part f) (f .replies) (f .accepts) (f .waiting) (f .agreeing) (peers-part f);
+            (best-part f) (f .answered) (f .accepts) (f .waiting) (f .agreeing) (peers-part f);
         book = tt;
         out = tt;
         leads = refl;
@@ -143,7 +143,7 @@ module _ (s : Setting) (x : Box) (f : FormedBox (s .n) (s .j) (s .me) x) (few : 
   collect-fits =
       settled-fits [] _ _
       (λ go. record {
-        box = box-of k (best-held-form k) (omega (arith, me .0, me .1)) (f .accepts) (f .waiting)
+        box = box-of k (best-held-form k) (set-bit (s .n) (s .me) few me) (f .accepts) (f .waiting)
             (f .agreeing)
             (unknown-form (s .n) (s .j) (s .me));
         book = tt;
@@ -157,15 +157,15 @@ module _ (s : Setting) (x : Box) (f : FormedBox (s .n) (s .j) (s .me) x) (few : 
 
   -- last+1 holds r, which is proper; b is the head with other fields, of which form is asked anew
   started-fits : (b : BoxState) (r : ℕ) → b .kept ≡ x .head .kept → BestForm (s .j) (b .best)
-      → b .replies ≤ s .n
+      → setForm (s .n) (b .answered) ≡ true
       → Or (b .waiting ≡ 0) (Proper (b .waiting)) → PeersForm (s .n) (s .j) (s .me) (b .peers)
       → b .leads ≡ x .head .leads
       → x .head .kept .last < s .j → Proper r → Good [] (started b s r)
   unfolding started written enclosed
-  started-fits b r e best replies waiting peers leads room p = record {
+  started-fits b r e best answered waiting peers leads room p = record {
     box = box-of
         (rw e (stored-form k (x .head .kept .pn) r (k .pn) room p))
-        best replies (set-bit (s .n) (s .me) few me) waiting (right p) peers;
+        best answered (set-bit (s .n) (s .me) few me) waiting (right p) peers;
     book = rw e (k .held .all, room);
     out = rw e (
       others-form,
@@ -184,13 +184,13 @@ module _ (s : Setting) (x : Box) (f : FormedBox (s .n) (s .j) (s .me) x) (few : 
       here = last-of (x .head .kept .last) (x .records) r (k .held .all)
 
   leased-fits : (b : BoxState) → b .kept ≡ x .head .kept → BestForm (s .j) (b .best)
-      → b .replies ≤ s .n
+      → setForm (s .n) (b .answered) ≡ true
       → setForm (s .n) (b .accepts) ≡ true → Or (b .waiting ≡ 0) (Proper (b .waiting))
       → Or (b .agreeing ≡ 0) (Proper (b .agreeing)) → PeersForm (s .n) (s .j) (s .me) (b .peers)
       → b .leads ≡ x .head .leads → Good [] (leased b s)
   unfolding leased written enclosed
-  leased-fits b e best replies accepts waiting agreeing peers leads = record {
-    box = box-of (rw e k) best replies accepts waiting agreeing peers;
+  leased-fits b e best answered accepts waiting agreeing peers leads = record {
+    box = box-of (rw e k) best answered accepts waiting agreeing peers;
     book = tt;
     out = rw e (
       others-form,
@@ -208,11 +208,11 @@ module _ (s : Setting) (x : Box) (f : FormedBox (s .n) (s .j) (s .me) x) (few : 
       settled-fits [] _ _
       (λ go. pick-elim (Good []) (hasPrevious (x .head))
       (λ e. let p = has-previous (x .head) e in
-      started-fits _ _ refl (best-part f) (f .replies) (f .waiting)
+      started-fits _ _ refl (best-part f) (f .answered) (f .waiting)
       (unknown-form (s .n) (s .j) (s .me)) refl
       (omega (arith, f .best-number, p .0))
       (some-proper (f .best) (p .1)))
-      (λ e. leased-fits _ refl (best-part f) (f .replies) (f .accepts) (f .waiting) (f .agreeing)
+      (λ e. leased-fits _ refl (best-part f) (f .answered) (f .accepts) (f .waiting) (f .agreeing)
       (unknown-form (s .n) (s .j) (s .me)) refl))
 
   offer-fits : (l r : ℕ) → l < 4294967296 → r < 4294967296 → Good [] (offer (x .head) s l r)
@@ -221,7 +221,7 @@ module _ (s : Setting) (x : Box) (f : FormedBox (s .n) (s .j) (s .me) x) (few : 
       settled-fits [] _ _
       (λ go. let p = and-yes _ _ (go-unless _ _ _ go .0) in
       record {
-        box = box-of k (best-part f) (f .replies) (f .accepts)
+        box = box-of k (best-part f) (f .answered) (f .accepts)
             (right (pair-proper l r (ltb-true 0 l (p .0)) hl (ltb-true 0 r (p .1)) hr))
             (f .agreeing) (peers-part f);
         book = tt;
@@ -235,7 +235,7 @@ module _ (s : Setting) (x : Box) (f : FormedBox (s .n) (s .j) (s .me) x) (few : 
       settled-fits [] _ _
       (λ go. let p = go-unless (canPropose (x .head) s) Refusal.Condition _ go in
       let q = go-unless (ltb (x .head .kept .last) (s .j)) Refusal.Book Verdict.Go (p .1) in
-      started-fits _ _ refl (best-part f) (f .replies) (left refl) (peers-part f) refl
+      started-fits _ _ refl (best-part f) (f .answered) (left refl) (peers-part f) refl
       (ltb-true (x .head .kept .last) (s .j) (q .0))
       (some-proper (f .waiting) (can-propose (p .0) .1)))
 
@@ -248,7 +248,7 @@ module _ (s : Setting) (x : Box) (f : FormedBox (s .n) (s .j) (s .me) x) (few : 
       let held : x .head .kept .last < length (x .records) = is-held _ _ (can .held) in
       let room : x .head .kept .last + 1 ≤ s .j = omega (arith, k .held .room) in
       record {
-        box = box-of (agreed-form k held) (best-part f) (f .replies) (f .accepts) (f .waiting)
+        box = box-of (agreed-form k held) (best-part f) (f .answered) (f .accepts) (f .waiting)
             (left refl)
             (peers-part f);
         book = tt;
@@ -260,7 +260,7 @@ module _ (s : Setting) (x : Box) (f : FormedBox (s .n) (s .j) (s .me) x) (few : 
   unfolding finish
   finish-fits =
       settled-fits [] _ _
-      (λ go. leased-fits _ refl (best-part f) (f .replies) (f .accepts) (f .waiting) (f .agreeing)
+      (λ go. leased-fits _ refl (best-part f) (f .answered) (f .accepts) (f .waiting) (f .agreeing)
       (peers-part f) refl)
 
   pub act-fits : (a : Act) → ActFits a → Good [] (acted a (x .head) s (mine x))
@@ -288,7 +288,7 @@ module _ (s : Setting) (x : Box) (f : FormedBox (s .n) (s .j) (s .me) x) (few : 
     collect-heard =
         settled-fits _ _ _
         (λ go. record {
-          box = box-of (promised-form k _ pn) (best-part f) (f .replies) (f .accepts) (f .waiting)
+          box = box-of (promised-form k _ pn) (best-part f) (f .answered) (f .accepts) (f .waiting)
               (f .agreeing) (peers-part f);
           book = tt;
           out = (
@@ -328,7 +328,7 @@ module _ (s : Setting) (x : Box) (f : FormedBox (s .n) (s .j) (s .me) x) (few : 
     accept-heard =
         settled-fits _ _ _
         (λ go. record {
-          box = box-of k (best-part f) (f .replies)
+          box = box-of k (best-part f) (f .answered)
               (set-joined (s .n) (x .head .accepts) a few (f .accepts) from)
               (f .waiting) (f .agreeing) (peers-part f);
           book = tt;
@@ -341,7 +341,7 @@ module _ (s : Setting) (x : Box) (f : FormedBox (s .n) (s .j) (s .me) x) (few : 
     lease-heard =
         settled-fits _ _ _
         (λ go. record {
-          box = box-of k (best-part f) (f .replies) (f .accepts) (f .waiting) (f .agreeing)
+          box = box-of k (best-part f) (f .answered) (f .accepts) (f .waiting) (f .agreeing)
               (peers-part f);
           book = tt;
           out = tt;
@@ -361,7 +361,7 @@ module _ (s : Setting) (x : Box) (f : FormedBox (s .n) (s .j) (s .me) x) (few : 
           box = box-of
               (stored-form k (y .head .pn) _ (g .pn) room
               (All-at (g .records) 0 0 (omega (arith, h .one-record))))
-              (best-part f) (f .replies) (f .accepts) (f .waiting) (f .agreeing) (peers-part f);
+              (best-part f) (f .answered) (f .accepts) (f .waiting) (f .agreeing) (peers-part f);
           book = (k .held .all, room);
           out = (
             reply-form,
@@ -395,7 +395,7 @@ module _ (s : Setting) (x : Box) (f : FormedBox (s .n) (s .j) (s .me) x) (few : 
         settled-fits _ _ _
         (λ go. record {
           box = box-of (took (omega (arith, h .all-records))) (cleared-form _ _ (best-part f))
-              (f .replies) (f .accepts) (f .waiting) (f .agreeing) (peers-part f);
+              (f .answered) (f .accepts) (f .waiting) (f .agreeing) (peers-part f);
           book = took-book (omega (arith, h .all-records));
           out = tt;
           leads = refl;
@@ -405,37 +405,37 @@ module _ (s : Setting) (x : Box) (f : FormedBox (s .n) (s .j) (s .me) x) (few : 
     unfolding lagging
     lagging-set peers last = set-and (s .n) (others s) _ others-form
 
-    answered-leads : answered (heard (x .head) a (y .head)) (s .me) (y .head)
+    replied-leads : replied (heard (x .head) a (y .head)) (s .me) a (y .head)
         (heldAt (y .records) (y .head .last)) .leads ≡ x .head .leads
-    unfolding answered raised counted uncounted heard
-    answered-leads =
+    unfolding replied raised counted uncounted heard
+    replied-leads =
         pick-elim (λ (b : BoxState). b .leads ≡ x .head .leads) _ (λ e. refl)
         (λ e. pick-elim (λ (b : BoxState). b .leads ≡ x .head .leads) _ (λ d. refl) (λ d. refl))
 
     -- what Last makes of the box, once it has heard
-    answered-form : (rs : List ℕ) → KeptForm (s .j) (heard (x .head) a (y .head) .kept) rs
+    replied-form : (rs : List ℕ) → KeptForm (s .j) (heard (x .head) a (y .head) .kept) rs
         → FormedKind Kind.Last (s .j) (y .head .pn) (y .head .last) (y .head .unagreed)
         (length (y .records))
-        → x .head .replies < s .n
         → (ltb (heard (x .head) a (y .head) .kept .pn) (y .head .pn) ≡ true
         → newPn (y .head .pn) (s .me) ≤ mostPn)
         → FormedBox (s .n) (s .j) (s .me)
         (record {
-          head = answered (heard (x .head) a (y .head)) (s .me) (y .head)
+          head = replied (heard (x .head) a (y .head)) (s .me) a (y .head)
               (heldAt (y .records) (y .head .last));
           records = rs;
         })
-    unfolding answered raised counted uncounted heard
-    answered-form rs t h few-replies fits =
+    unfolding replied raised counted uncounted heard
+    replied-form rs t h fits =
         pick-elim Boxed _
         (λ e. box-of (promised-form t _ (fits e)) (cleared-form _ _ (best-part f))
-        (f .replies) (f .accepts) (f .waiting) (f .agreeing) noted-peers)
+        (f .answered) (f .accepts) (f .waiting) (f .agreeing) noted-peers)
         (λ e. pick-elim Boxed _
         (λ d. box-of t (bettered-form _ _ (y .head) (y .records) (best-part f) (h .held .room)
         (g .records) (g .unagreed))
-        (omega arith) (f .accepts) (f .waiting) (f .agreeing) noted-peers)
+        (set-joined (s .n) (x .head .answered) a few (f .answered) from) (f .accepts) (f .waiting)
+        (f .agreeing) noted-peers)
         (λ d. box-of t (cleared-form _ _ (best-part f))
-        (f .replies) (f .accepts) (f .waiting) (f .agreeing) noted-peers))
+        (f .answered) (f .accepts) (f .waiting) (f .agreeing) noted-peers))
       where
         Boxed : BoxState → Type 0
         Boxed b = FormedBox (s .n) (s .j) (s .me) (record { head = b; records = rs })
@@ -453,8 +453,7 @@ module _ (s : Setting) (x : Box) (f : FormedBox (s .n) (s .j) (s .me) x) (few : 
         (λ go. let taken = go-last {b = x .head} {s = s} {m = y .head} go in
         let all = took (h .held .all) in
         record {
-          box = answered-form _ all h (omega
-              (arith, taken .fewer, ones-le (s .n) (s .present) present))
+          box = replied-form _ all h
               (λ e. fits (taken .new) (ltb-true (x .head .kept .pn) (y .head .pn) e));
           book = took-book (h .held .all);
           out = (
@@ -474,9 +473,9 @@ module _ (s : Setting) (x : Box) (f : FormedBox (s .n) (s .j) (s .me) x) (few : 
             (tookKept (y .head .last) (x .head .kept) .last) s) ≡ true
         lagging-form = lagging-set _ _
 
-        leads-on : answered (heard (x .head) a (y .head)) (s .me) (y .head)
+        leads-on : replied (heard (x .head) a (y .head)) (s .me) a (y .head)
             (heldAt (y .records) (y .head .last)) .leads ≡ x .head .leads
-        leads-on = answered-leads
+        leads-on = replied-leads
 
     pub mail-fits : Heard (turnOf s x (mail a y))
     unfolding onMail ofKind

@@ -25,4 +25,5 @@ CallFits (Call.Stop c) = Unit {0}
 CallFits (Call.Return c) = Unit {0}
 CallFits (Call.Timeout c) = Unit {0}
 CallFits (Call.Lose a b) = Unit {0}
+CallFits (Call.Repeat a b) = Unit {0}
 CallFits (Call.Deliver a b) = Unit {0}

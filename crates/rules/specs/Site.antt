@@ -103,31 +103,27 @@ played s c t ms = record {
   link = posted (s .link) c (t .out) (turned (s .box c) t ms .records);
 }
 
--- the head twice, "the copy right behind it"
+-- the site with the link from a to b changed by f
+abbrev pub relinked : (List Letter → List Letter) → Site → ℕ → ℕ → Site
+relinked f s a b = record {
+  n = s .n;
+  J = s .J;
+  L = s .L;
+  epoch = s .epoch;
+  present = s .present;
+  box = s .box;
+  link = λ x y. cond (eqb x a && eqb y b) (f (s .link x y)) (s .link x y);
+}
+
+-- the site without the head of the link from a to b
+abbrev pub popped : Site → ℕ → ℕ → Site
+popped s a b = relinked tail s a b
+
+-- the head twice: the copy stands right behind it
 unfoldable pub twice {ℓ} : {A : Type ℓ} → List A → List A
 twice [] = []
 twice (y ∷ ys) = y ∷ (y ∷ ys)
 
--- the site without the head of the link from a to b
-abbrev pub popped : Site → ℕ → ℕ → Site
-popped s a b = record {
-  n = s .n;
-  J = s .J;
-  L = s .L;
-  epoch = s .epoch;
-  present = s .present;
-  box = s .box;
-  link = λ x y. cond (eqb x a && eqb y b) (tail (s .link x y)) (s .link x y);
-}
-
--- the site with the head of the link from a to b doubled
+-- the site with the head of the link from a to b "doubled in place" (Q-1)
 abbrev pub doubled : Site → ℕ → ℕ → Site
-doubled s a b = record {
-  n = s .n;
-  J = s .J;
-  L = s .L;
-  epoch = s .epoch;
-  present = s .present;
-  box = s .box;
-  link = λ x y. cond (eqb x a && eqb y b) (twice (s .link x y)) (s .link x y);
-}
+doubled s a b = relinked twice s a b

@@ -10,7 +10,8 @@ use Rattle.rules.specs.Sizes.{majorityOf, mostEpoch, even, leftOf, right
 use Rattle.rules.specs.Sets.{has, joined, without}
 use Rattle.rules.specs.Steps.{elected}
 use Rattle.rules.specs.Box.{Box, Letter, own, mail, turnOf}
-use Rattle.rules.specs.Site.{Site, Outcome, isBox, isLink, setting, room, played, popped, doubled}
+use Rattle.rules.specs.Site.{Site, Outcome, isBox, isLink, setting, room, played, popped}
+use Rattle.rules.specs.Site.{doubled}
 use Rattle.rules.specs.Form.{form}
 use Rattle.rules.specs.Needs.{Need, need, ruled}
 use Rattle.rules.specs.Types.{Act, Answer, Call, Refusal, Setting, Turn}

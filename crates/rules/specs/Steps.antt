@@ -10,8 +10,8 @@ use Rattle.rules.specs.Sets.{bit, includes}
 use Rattle.rules.specs.Numbers.{inPhase, inState}
 use Rattle.rules.specs.NewPn.{newPn}
 use Rattle.rules.specs.Fields.{withLeads, withState, withPhase, withKept, withBest}
-use Rattle.rules.specs.Fields.{withAnswered, withAccepts, withWaiting, withAgreeing, withPeers}
-use Rattle.rules.specs.Fields.{promised, lasting, storing}
+use Rattle.rules.specs.Fields.{withAnswered, withAccepts, withWaiting, withAgreeing}
+use Rattle.rules.specs.Fields.{withPeers, promised, lasting, storing}
 use Rattle.rules.specs.Parts.{others, allUnknown, isHeld, underOf, none}
 use Rattle.rules.specs.Turns.{unless, settled, done, mailOf}
 use Rattle.rules.specs.Types.{Act, Best, Book, BoxState, Held, Kept, Kind, Out, Phase}

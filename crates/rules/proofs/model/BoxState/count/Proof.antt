@@ -1,20 +1,21 @@
+-- `rules::model::BoxState::count` meets its contract.
 use Rattle.rules.specs.Last.{counted}
 use borrow.Author.Needs.{needs}
 use Rattle.rules.proofs.model.BoxState.count.Statement.{statement}
 use Rattle.rules.proofs.model.BoxState.count.Tie as tie
 
-with-box-requires : tie.Need-with-box-requires
-with-box-requires c κs = search needs
-
-better-requires : tie.Need-better-requires
-better-requires c κs = search needs
-
 returns : tie.Need-returns
 unfolding counted
 returns c =
-    simp
-    (c .before .before .better .ensures,
-    c .before .before .before .before .before .with-box .ensures)
+    simp (
+      c .before .before .better .ensures,
+      c .before .before .before .before .before .with-box .ensures,
+    )
 
 pub count-spec : {M : Type 1} → statement M
-count-spec = tie.close (tie.spec with-box-requires better-requires returns)
+count-spec =
+    tie.close
+    (tie.spec
+    (λ c κs. search needs)
+    (λ c κs. search needs)
+    returns)
