@@ -1,13 +1,12 @@
 -- How many of 1 to n pass a test, and majorities. A set of boxes is a test here; SetLaws reads
 -- words so.
 use Prim.Native.Nat.{ℕ, zero, suc, _+_, _≤_, _<_}
-use mathlib.Core.Path.{_≡_, refl, sym, ap, subst}
+use mathlib.Core.Path.{_≡_, refl, ap, subst}
 use mathlib.Core.Bool.{Bool, true, false, cond}
 use native.Mathlib.Omega.{arith}
-use lib.Dec.{eqb}
 use Rattle.rules.specs.Every.{tally}
 use Rattle.rules.specs.Sizes.{majorityOf}
-use Rattle.laws.proofs.Logic.{Or, left, right, In, both-no, same?, eqb-yes, eqb-no}
+use Rattle.laws.proofs.Logic.{Or, left, right, In, same?}
 
 -- what one test adds to the count
 abbrev pub one : Bool → ℕ
@@ -52,95 +51,20 @@ meet (suc n) f g h = go (λ l. meet n f g l) (f (suc n)) (g (suc n)) refl refl
     go ih false true p q = up (ih (omega (arith, h, ap one p, ap one q)))
     go ih false false p q = up (ih (omega (arith, h, ap one p, ap one q)))
 
-abbrev pub Within : ℕ → (ℕ → Bool) → (ℕ → Bool) → Type 0
-Within n f g = (i : ℕ) → In i n → f i ≡ true → g i ≡ true
-
-pub tally-mono : (n : ℕ) (f g : ℕ → Bool) → Within n f g → tally n f ≤ tally n g
-unfolding tally
-tally-mono zero f g sub = omega arith
-tally-mono (suc n) f g sub =
-    go (tally-mono n f g (λ k l. sub k (in-up l))) (f (suc n)) (g (suc n)) refl refl
-  where
-    go : tally n f ≤ tally n g → (a b : Bool) → f (suc n) ≡ a → g (suc n) ≡ b
-        → one (f (suc n)) + tally n f ≤ one (g (suc n)) + tally n g
-    go ih true true p q = omega (arith, ih, ap one p, ap one q)
-    go ih true false p q = absurd (both-no (sub (suc n) (in-top n) p) q)
-    go ih false true p q = omega (arith, ih, ap one p, ap one q)
-    go ih false false p q = omega (arith, ih, ap one p, ap one q)
-
 pub tally-ext : (n : ℕ) (f g : ℕ → Bool) → ((i : ℕ) → In i n → f i ≡ g i) → tally n f ≡ tally n g
 unfolding tally
 tally-ext zero f g h = refl
 tally-ext (suc n) f g h = rw (h (suc n) (in-top n), tally-ext n f g (λ i l. h i (in-up l))) refl
 
--- a subset with as many members is the whole
-pub full : (n : ℕ) (f g : ℕ → Bool) → Within n f g → tally n g ≤ tally n f → Within n g f
-unfolding tally
-full zero f g sub le i h t = absurd (omega arith)
-full (suc n) f g sub le i h t =
-    go (λ l. full n f g (λ k m. sub k (in-up m)) l i)
-    (f (suc n)) (g (suc n)) refl refl (same? i (suc n))
-  where
-    mono : tally n f ≤ tally n g
-    mono = tally-mono n f g (λ k l. sub k (in-up l))
-
-    go : (tally n g ≤ tally n f → In i n → g i ≡ true → f i ≡ true)
-        → (a b : Bool) → f (suc n) ≡ a → g (suc n) ≡ b → Or (i ≡ suc n) (i ≡ suc n → ⊥) → f i ≡ true
-    go ih true b p q (left e) = subst (λ (k : ℕ). f k ≡ true) (sym e) p
-    go ih true true p q (right e) = ih (omega (arith, le, ap one p, ap one q)) (in-down h e) t
-    go ih true false p q (right e) = absurd (both-no (sub (suc n) (in-top n) p) q)
-    go ih false true p q o = absurd (omega (arith, mono, le, ap one p, ap one q))
-    go ih false false p q (left e) = absurd (both-no (subst (λ (k : ℕ). g k ≡ true) e t) q)
-    go ih false false p q (right e) = ih (omega (arith, le, ap one p, ap one q)) (in-down h e) t
-
--- ---- everyone, nobody, one member more
+-- ---- everyone
 
 abbrev pub everyone : ℕ → Bool
 everyone k = true
-
-abbrev pub nobody : ℕ → Bool
-nobody k = false
 
 pub tally-everyone : (n : ℕ) → tally n everyone ≡ n
 unfolding tally
 tally-everyone zero = refl
 tally-everyone (suc n) = omega (arith, tally-everyone n)
-
-pub tally-nobody : (n : ℕ) → tally n nobody ≡ 0
-unfolding tally
-tally-nobody zero = refl
-tally-nobody (suc n) = omega (arith, tally-nobody n)
-
-abbrev pub plus : (ℕ → Bool) → ℕ → ℕ → Bool
-plus f k i = cond (eqb i k) true (f i)
-
-plus-above : (f : ℕ → Bool) (k m : ℕ) → m < k → tally m (plus f k) ≡ tally m f
-unfolding tally
-plus-above f k zero l = refl
-plus-above f k (suc m) l = out (plus-above f k m (omega arith)) (eqb (suc m) k) refl
-  where
-    out : tally m (plus f k) ≡ tally m f → (b : Bool) → eqb (suc m) k ≡ b
-        → one (cond (eqb (suc m) k) true (f (suc m))) + tally m (plus f k) ≡ one
-        (f (suc m)) + tally m f
-    out ih true p = absurd (omega (arith, eqb-yes (suc m) k p))
-    out ih false p = rw (p, ih) refl
-
-pub tally-plus : (n : ℕ) (f : ℕ → Bool) (k : ℕ) → In k n → f k ≡ false
-    → tally n (plus f k) ≡ tally n f + 1
-unfolding tally
-tally-plus zero f k h e = absurd (omega arith)
-tally-plus (suc n) f k h e = go (λ l. tally-plus n f k l e) (eqb (suc n) k) refl
-  where
-    off : suc n ≡ k → f (suc n) ≡ false
-    off d = subst (λ (j : ℕ). f j ≡ false) (sym d) e
-
-    go : (In k n → tally n (plus f k) ≡ tally n f + 1) → (b : Bool) → eqb (suc n) k ≡ b
-        → one (cond (eqb (suc n) k) true (f (suc n))) + tally n
-        (plus f k) ≡ (one (f (suc n)) + tally n f) + 1
-    go ih true p = let d : suc n ≡ k = eqb-yes (suc n) k p in
-        rw p (omega (arith, plus-above f k n (omega (arith, d)), ap one (off d)))
-    go ih false p = let d : suc n ≡ k → ⊥ = eqb-no (suc n) k p in
-        rw p (omega (arith, ih (h .0, omega (arith, h .1))))
 
 -- ---- at most one
 

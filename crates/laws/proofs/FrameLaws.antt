@@ -37,10 +37,17 @@ upd-all P f c {v} new old b =
 
 module _ {κ} (P : ℕ → ℕ → Letter → Type κ) (link : Links)
     (old : (x y : ℕ) → All (P x y) (link x y)) where
+  -- one link is changed by f, which puts nothing new on it
+  pub all-relinked : (f : List Letter → List Letter)
+      → ((Q : Letter → Type κ) (l : List Letter) → All Q l → All Q (f l))
+      → (a b x y : ℕ) → All (P x y) (cond (eqb x a && eqb y b) (f (link x y)) (link x y))
+  all-relinked f kept a b x y =
+      cond-elim (All (P x y)) (eqb x a && eqb y b) (λ e. kept (P x y) (link x y) (old x y))
+      (λ e. old x y)
+
   -- the head of one link leaves
   pub all-pop : (a b x y : ℕ) → All (P x y) (cond (eqb x a && eqb y b) (tail (link x y)) (link x y))
-  all-pop a b x y =
-      cond-elim (All (P x y)) (eqb x a && eqb y b) (λ e. All-tail (old x y)) (λ e. old x y)
+  all-pop = all-relinked tail (λ Q l. All-tail)
 
   -- one letter from c goes to each box of a set
   pub all-post : (set c : ℕ) (m : Letter) → ((y : ℕ) → has set y ≡ true → P c y m) → (x y : ℕ)

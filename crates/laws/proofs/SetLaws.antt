@@ -1,7 +1,7 @@
 -- What set words mean: their members, form and count; and when a present set is a majority.
 use Prim.Native.Nat.{ℕ, zero, suc, _+_, _*_, _-_, _/_, _%_, _≤_, _<_, min, max}
 use mathlib.Core.Path.{_≡_, refl, sym, ap, _∙_, subst}
-use mathlib.Core.Bool.{Bool, true, false, not, _&&_, _||_, cond}
+use mathlib.Core.Bool.{Bool, true, false, not, _&&_, _||_}
 use native.Mathlib.Omega.{arith}
 use lib.Bits.{bitAnd, bitOr, and-step, or-step, and-zero-l, and-comm}
 use lib.Count.{ones, onesIn, ones-step}
@@ -11,8 +11,9 @@ use Rattle.rules.specs.Pick.{pick}
 use Rattle.rules.specs.Every.{every, tally}
 use Rattle.rules.specs.Sizes.{majorityOf, mostBoxes}
 use Rattle.rules.specs.Sets.{bit, joined, without, includes, digit, has, setForm, fullSet}
-use Rattle.laws.proofs.Logic.{In, both-no, eqb-same, eqb-yes, and-yes, every-at}
-use Rattle.laws.proofs.Counts.{one, plus, tally-ext, tally-le, Major, major-made}
+use Rattle.laws.proofs.Logic.{Or, left, right, In, both-no, eqb-same, eqb-yes, and-yes}
+use Rattle.laws.proofs.Logic.{or-cases, every-at}
+use Rattle.laws.proofs.Counts.{one, tally-ext, Major, major-made}
 
 -- ---- the digits of a union and of what two sets share
 
@@ -194,18 +195,14 @@ set-bit n (suc k) few h =
 
 -- ---- a box joins
 
-pub has-joined : (w k i : ℕ) → In k mostBoxes → has (joined w k) i ≡ plus (has w) k i
+pub joined-in : (w k i : ℕ) → In k mostBoxes → has (joined w k) i ≡ true
+    → Or (has w i ≡ true) (i ≡ k)
 unfolding joined
-has-joined w k i h =
-    has-or w (bit k) i
-    ∙ ap (λ (t : Bool). has w i || t) (has-bit k i h)
-    ∙ or-cond (has w i) (eqb i k)
+joined-in w k i h e = go (or-cases (has w i) (has (bit k) i) (sym (has-or w (bit k) i) ∙ e))
   where
-    or-cond : (a b : Bool) → (a || b) ≡ cond b true a
-    or-cond true true = refl
-    or-cond true false = refl
-    or-cond false true = refl
-    or-cond false false = refl
+    go : Or (has w i ≡ true) (has (bit k) i ≡ true) → Or (has w i ≡ true) (i ≡ k)
+    go (left f) = left f
+    go (right f) = right (bit-is k i h f)
 
 pub set-joined : (n w k : ℕ) → n ≤ mostBoxes → setForm n w ≡ true → In k n
     → setForm n (joined w k) ≡ true
@@ -325,9 +322,6 @@ ones-tally (suc n) w e =
     low =
         rw (← tally-ext n (has (w / 2)) (λ i. has w (suc i)) next)
         (ap (λ (t : ℕ). t + tally n (has (w / 2))) (odd-digit (w % 2) (omega arith)))
-
-pub ones-le : (n w : ℕ) → setForm n w ≡ true → ones w ≤ n
-ones-le n w e = omega (arith, ones-tally n w e, tally-le n (has w))
 
 -- refusal 4 is not given: the present set is a majority
 pub major-present : (n w : ℕ) → setForm n w ≡ true → leb (majorityOf n) (ones w) ≡ true

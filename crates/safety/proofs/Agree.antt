@@ -48,7 +48,7 @@ module _ (s : Site) (i : Inv s) (c : ℕ) (c-in : In c (s .n)) (f : Formed s)
   L : Led (s .n) (s .present) (s .box) (s .link) (i .agreed) c (s .box c)
   L = led (i .live (o .leading .even)) c c-in (o .leading .leads)
 
-  k : Settled (s .n) (s .present) (s .box) (s .link) (i .agreed) c (s .box c)
+  k : Settled (s .n) (s .present) (s .box) (i .agreed) c (s .box c)
   k = L .settled (o .leading .state)
 
   own : BoxOk (i .agreed) (i .agreed .by c) st

@@ -1,16 +1,16 @@
--- Collect: the leader's own record is the first best, and no peer has been asked.
+-- Collect: the leader's own record is the first best, and the leader alone has answered.
 use Prim.Native.Nat.{ℕ, _+_, _<_}
-use mathlib.Core.Path.{_≡_, refl, sym, _∙_, ap, subst}
-use mathlib.Core.Bool.{Bool, true, _&&_}
+use mathlib.Core.Path.{_≡_, refl, subst}
+use mathlib.Core.Bool.{true}
 use mathlib.Core.List.{[]}
 use native.Mathlib.Omega.{arith}
 use lib.Dec.{eqb}
 use lib.ListN.{length}
-use borrow.Author.Tests.{eq-eqb, ne-eqb}
+use borrow.Author.Tests.{eq-eqb}
 use Rattle.rules.specs.Pick.{pick-true}
 use Rattle.rules.specs.Sizes.{mostBoxes}
-use Rattle.rules.specs.Sets.{has, without}
-use Rattle.rules.specs.Fields.{withPhase, withBest, withReplies, withPeers}
+use Rattle.rules.specs.Sets.{has, bit, without}
+use Rattle.rules.specs.Fields.{withPhase, withBest, withAnswered, withPeers}
 use Rattle.rules.specs.Parts.{others, allUnknown, underOf}
 use Rattle.rules.specs.Turns.{mailOf}
 use Rattle.rules.specs.Steps.{bestHeld, collect, acted}
@@ -18,15 +18,13 @@ use Rattle.rules.specs.Box.{Box, Letter, mine, written, enclosed}
 use Rattle.rules.specs.Site.{Site, setting, posted, upd}
 use Rattle.rules.specs.Step.{step}
 use Rattle.laws.proofs.Types.{Call, Held, Kind, Out, Phase}
-use Rattle.laws.proofs.Logic.{Or, left, right, In, both-no, eqb-same, same?, All, All-map}
-use Rattle.laws.proofs.Counts.{one, plus, nobody, tally-plus, tally-nobody}
-use Rattle.laws.proofs.SetLaws.{without-in}
+use Rattle.laws.proofs.Logic.{In, eqb-same}
+use Rattle.laws.proofs.SetLaws.{bit-is, without-in}
 use Rattle.laws.proofs.Conditions.{Leading, Is, go-unless, can-collect}
 use Rattle.laws.proofs.FrameLaws.{upd-all, all-post}
 use Rattle.laws.proofs.View.{Links, Store, store, held-elim, Reading, Collect, Last, Begin, Accept}
-use Rattle.laws.proofs.View.{Commit, Lease, read}
+use Rattle.laws.proofs.View.{Commit, Lease}
 use Rattle.laws.proofs.StepLaws.{changed, by-acting}
-use Rattle.safety.proofs.Replies.{Asks, tell, Counted, tells-zero, tidy-sent}
 use Rattle.safety.proofs.Inv.{BoxOk, MailOk, Asking, Hearing, Inv}
 use Rattle.safety.proofs.Base.{core-kept, ranks-kept}
 use Rattle.safety.proofs.Chosen.{BestOk, Found}
@@ -40,14 +38,14 @@ module _ (s : Site) (i : Inv s) (c : ℕ) (c-in : In c (s .n))
   L : Led (s .n) (s .present) (s .box) (s .link) (i .agreed) c (s .box c)
   L = led (i .live (o .even)) c c-in (o .leads)
 
-  asking : Asking (s .n) (s .present) (s .box) (s .link) (i .agreed) c (s .box c)
+  asking : Asking (s .n) (s .present) (s .box) (i .agreed) c (s .box c)
   asking = L .asking (o .phase)
 
   abbrev x : Box
   x = record {
     head =
         withPeers allUnknown
-        (withReplies 1
+        (withAnswered (bit c)
         (withBest (bestHeld (s .box c .head .kept) (mine (s .box c)))
         (withPhase Phase.Collect (s .box c .head))));
     records = s .box c .records;
@@ -86,25 +84,6 @@ module _ (s : Site) (i : Inv s) (c : ℕ) (c-in : In c (s .n))
   mail-collect a sa b sb (Commit q l rs) h =
       record { from = h .from; to = h .to; le = h .le; prefix = h .prefix }
   mail-collect a sa b sb (Lease l) h = record { from = h .from; to = h .to }
-
-  none-told : (a : ℕ) (sa : Store) (b : ℕ) (sb : Store) (m : Reading)
-      → MailOk (s .present) (i .agreed) c (s .box c) a sa b sb m → tell (st .pn) m ≡ 0
-  none-told a sa b sb (Collect q l) h = refl
-  none-told a sa b sb (Last q l u rs) h =
-      ap one (ne-eqb q (st .pn) (h .told (o .state) .fresh (o .phase)))
-  none-told a sa b sb (Begin q l r) h = refl
-  none-told a sa b sb (Accept q l) h = refl
-  none-told a sa b sb (Commit q l rs) h = refl
-  none-told a sa b sb (Lease l) h = refl
-
-  none-asks : (a : ℕ) (sa : Store) (b : ℕ) (sb : Store) (m : Reading)
-      → MailOk (s .present) (i .agreed) c (s .box c) a sa b sb m → Asks (st .pn) m → ⊥
-  none-asks a sa b sb (Collect q l) h e = h .fresh (o .phase) e
-  none-asks a sa b sb (Last q l u rs) h e = e
-  none-asks a sa b sb (Begin q l r) h e = e
-  none-asks a sa b sb (Accept q l) h e = e
-  none-asks a sa b sb (Commit q l rs) h e = e
-  none-asks a sa b sb (Lease l) h e = e
 
   -- ---- the first best
 
@@ -155,45 +134,14 @@ module _ (s : Site) (i : Inv s) (c : ℕ) (c-in : In c (s .n))
   abbrev link′ : Links
   link′ = posted (s .link) c (Out.To (others (setting s c)) (asks .head)) (s .box c .records)
 
-  R₀ : ℕ → Bool
-  R₀ = plus nobody c
+  only-own : (b : ℕ) → has (bit c) b ≡ true → b ≡ c
+  only-own b = bit-is c b five
 
-  only-own : (b : ℕ) → R₀ b ≡ true → b ≡ c
-  unfolding R₀
-  only-own b e = go (same? b c)
-    where
-      go : Or (b ≡ c) (b ≡ c → ⊥) → b ≡ c
-      go (left h) = h
-      go (right h) = absurd (both-no (rw (ne-eqb b c h) at e) refl)
-
-  no-asks : (b : ℕ) → (b ≡ c → ⊥) → All (λ m. Asks (st .pn) (read m) → ⊥) (s .link c b)
-  no-asks b bc = All-map (λ m h. none-asks c _ b _ (read m) (h (λ e. bc (sym e)))) (L .mails c b)
-
-  counted : Counted (s .n) (s .present) (st .pn) 1 (λ b. store (upd (s .box) c x b) .pn) link′ c R₀
-  unfolding R₀ others posted enclosed
-  counted = record {
-    own = rw (eqb-same c) refl;
-    present = λ b bn e. subst (λ (j : ℕ). has (s .present) j ≡ true) (sym (only-own b e)) (L .here);
-    count = tally-plus (s .n) nobody c c-in refl ∙ omega (arith, tally-nobody (s .n));
-    peer = λ b bn bc. left (record {
-      new = rw (ne-eqb b c bc) (asking .new b bn bc);
-      out = rw (ne-eqb b c bc) refl;
-      none = rw (ne-eqb b c bc)
-          (tells-zero (st .pn) (All-map (λ m h. none-told b _ c _ (read m) (h bc)) (L .mails b c)));
-      tidy =
-          tidy-sent (st .pn) (eqb c c && has (without (s .present) c) b) (s .link c b) asks
-          (no-asks b bc);
-    });
-  }
-
-  hearing : Hearing (s .n) (s .present) (upd (s .box) c x) link′ (i .agreed) c x
-  unfolding R₀
+  hearing : Hearing (s .n) (s .present) (upd (s .box) c x) (i .agreed) c x
   hearing = record {
     recovering = o .state;
     apart = upd-all (λ b t. In b (s .n) → store t .storedPn ≡ st .pn → ⊥) (s .box) c
         (asking .apart c) (asking .apart);
-    R = R₀;
-    counted = counted;
     promise = λ b bn e. rw (only-own b e, eqb-same c) refl;
     lasts = λ b bn e. rw (only-own b e, eqb-same c) (omega arith);
     found = λ b bn e m l.

@@ -3,7 +3,7 @@ use Prim.Native.Nat.{ℕ}
 use mathlib.Core.Path.{_≡_, refl}
 use lib.Dec.{eqb, ltb}
 use lib.ListN.{getD}
-use Rattle.rules.specs.Last.{heard, raised, counted, uncounted, answered, onLast}
+use Rattle.rules.specs.Last.{heard, raised, counted, uncounted, replied, onLast}
 use Rattle.rules.specs.Mails.{onCollect, onBegin, onAccept, onCommit, onLease, ofKind, onMail}
 use Rattle.rules.specs.Steps.{recover, collect, started, leased, ready, agree, finish, acted}
 use Rattle.rules.specs.Box.{Box, Letter, Event, own, mail, heldAt, mine, turnOf}
@@ -30,6 +30,7 @@ Plain (Call.Stop c) = Unit {0}
 Plain (Call.Return c) = Unit {0}
 Plain (Call.Timeout c) = Unit {0}
 Plain (Call.Lose a b) = Unit {0}
+Plain (Call.Repeat a b) = Unit {0}
 Plain (Call.Deliver a b) = Unit {0}
 
 abbrev pub PlainEvent : Event → Type 0
@@ -63,10 +64,10 @@ module _ (s : Setting) (x : Box) where
   abbrev Same : Turn → Type 0
   Same t = SameDesk (x .head) (t .next)
 
-  desk-answered : (b : BoxState) (y : Letter) (q : Held) → SameDesk (x .head) b
-      → SameDesk (x .head) (answered b (s .me) (y .head) q)
-  unfolding answered raised counted uncounted
-  desk-answered b y q h =
+  desk-replied : (b : BoxState) (a : ℕ) (y : Letter) (q : Held) → SameDesk (x .head) b
+      → SameDesk (x .head) (replied b (s .me) a (y .head) q)
+  unfolding replied raised counted uncounted
+  desk-replied b a y q h =
       pick-elim (SameDesk (x .head)) (ltb (b .kept .pn) (y .head .pn))
       (λ e. record { leads = h .leads; waiting = h .waiting })
       (λ e. pick-elim (SameDesk (x .head)) (eqb (y .head .pn) (b .kept .pn))
@@ -101,7 +102,7 @@ module _ (s : Setting) (x : Box) where
   desk-kind a y Kind.Collect = quiet _ _ refl refl
   desk-kind a y Kind.Last =
       by-verdict Same _ _ _ (λ a. record { leads = refl; waiting = refl })
-      (λ go. desk-answered _ y _ (record { leads = refl; waiting = refl }))
+      (λ go. desk-replied _ a y _ (record { leads = refl; waiting = refl }))
   desk-kind a y Kind.Begin = quiet _ _ refl refl
   desk-kind a y Kind.Accept = quiet _ _ refl refl
   desk-kind a y Kind.Commit = quiet _ _ refl refl

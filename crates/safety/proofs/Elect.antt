@@ -85,7 +85,7 @@ module _ (s : Site) (c : ℕ) (i : Inv s) (f : Formed s) (e : Elects s c) where
       lasts = λ b h t. omega (arith, ap (λ (j : ℕ). store (s .box j) .last) (is-c b h));
     }
 
-    alone : Settled (s .n) (s .present) (elect s c .box) (elect s c .link) (i .agreed) c (after c)
+    alone : Settled (s .n) (s .present) (elect s c .box) (i .agreed) c (after c)
     unfolding elected
     alone = record {
       ripe = ripe-same (s .box) (elect s c .box) same-store ripe;

@@ -14,7 +14,7 @@ use Rattle.rules.specs.NewPn.{newPn}
 use Rattle.rules.specs.Turns.{firstCause, unless, settled}
 use Rattle.rules.specs.Parts.{others, isHeld, underOf, tookKept, tookBook, cleared}
 use Rattle.rules.specs.Last.{noted, heard, behind, lagging, improves, bettered, raised, counted}
-use Rattle.rules.specs.Last.{uncounted, answered, lastVerdict, onLast}
+use Rattle.rules.specs.Last.{uncounted, replied, lastVerdict, onLast}
 use Rattle.rules.specs.Mails.{unagreedOf, onCollect, beginVerdict, onBegin, acceptVerdict, onAccept}
 use Rattle.rules.specs.Mails.{onCommit, onLease, ofKind, onMail}
 use Rattle.rules.specs.Steps.{elected, canRecover, recover, canCollect, bestHeld, collect, started}
@@ -176,7 +176,7 @@ unfolding replayed epoch2 epoch4 epoch6 epoch8 parted
     pick all each every tally sizesForm proper recordForm bit joined without digit has setForm
     fullSet inState inPhase newPn firstCause unless settled others isHeld underOf tookKept
     tookBook cleared noted heard behind lagging improves bettered raised counted uncounted
-    answered lastVerdict onLast unagreedOf onCollect beginVerdict onBegin acceptVerdict onAccept
+    replied lastVerdict onLast unagreedOf onCollect beginVerdict onBegin acceptVerdict onAccept
     onCommit onLease ofKind onMail elected canRecover recover canCollect bestHeld collect
     started leased canReady hasPrevious ready canOffer offer canPropose propose canAgree agree
     canFinish finish acted heldAt written enclosed freshHead fresh posted room countForm

@@ -16,9 +16,8 @@ use Rattle.laws.proofs.Logic.{Or, left, right, In, decide, All, All-head, All-m
 use Rattle.laws.proofs.FrameLaws.{upd-all, upd-other, all-pop}
 use Rattle.laws.proofs.View.{Links, Store, store, phaseOf, stateOf, Reading, Collect, Last, Begin}
 use Rattle.laws.proofs.View.{Accept, Commit, Lease, read, readAs}
-use Rattle.safety.proofs.Replies.{Counted, quiet-counted, quiet-pop}
 use Rattle.safety.proofs.Inv.{Agreement, BoxOk, Core, VotedFor, MailOk, PostOk, Told, Ripe}
-use Rattle.safety.proofs.Inv.{Hearing, Live}
+use Rattle.safety.proofs.Inv.{Live}
 
 -- ---- what is known of the leader and of the mail at a link's head
 
@@ -152,8 +151,6 @@ module _ {n w : ℕ} {box : ℕ → Box} {link : Links} {g : Agreement} (L : Liv
       (stored-kept : stateOf (L .x) ≡ 0 → store v .storedPn ≡ store (box d) .storedPn)
       (stored-le : store (box d) .storedPn ≤ P → store v .storedPn ≤ P)
       (pn-new : phaseOf (L .x) ≡ 1 → (store (box d) .pn ≡ P → ⊥) → store v .pn ≡ P → ⊥)
-      (counted : (h : Hearing n w box link g (L .c) (L .x))
-      → Counted n w P (L .x .head .replies) (λ b. store (upd box d v b) .pn) link′ (L .c) (h .R))
       (mails : (a b : ℕ) → All (PostAfter a b) (link′ a b)) where
     apart : stateOf (L .x) ≡ 0 → ((b : ℕ) → In b n → store (box b) .storedPn ≡ P → ⊥)
         → (b : ℕ) → In b n → store (upd box d v b) .storedPn ≡ P → ⊥
@@ -199,8 +196,6 @@ module _ {n w : ℕ} {box : ℕ → Box} {link : Links} {g : Agreement} (L : Liv
       hearing = λ z. let k = L .hearing z in record {
         recovering = k .recovering;
         apart = apart (k .recovering) (k .apart);
-        R = k .R;
-        counted = counted k;
         promise = λ b i j. moved-all b .promise (k .promise b i j);
         lasts = λ b i j. moved-low (moved-all b) (k .lasts b i j);
         found = k .found;
@@ -225,16 +220,7 @@ pub live-read : {n w : ℕ} {box : ℕ → Box} {link : Links} {g : Agreement} (
     → has w d ≡ true → (d ≡ L .c → ⊥) → v .head .leads ≡ box d .head .leads
     → store v .pn ≡ store (box d) .pn → store v .storedPn ≡ store (box d) .storedPn
     → Live n w (upd box d v) (λ i j. cond (eqb i a && eqb j d) (tail (link i j)) (link i j)) g
-live-read {box = box} {link = link} L a d y ys e v mv here ne led pn stored =
+live-read {link = link} L a d y ys e v mv here ne led pn stored =
     live-moved L d v mv _ here ne led (no-election L a d y ys e)
     (λ h. stored) (λ h. rw stored h) (λ h f j. f (sym pn ∙ j))
-    (λ h. quiet-counted new (λ i j. quiet-pop pn-c link a d i j) (h .counted))
     (all-pop (PostAfter L d v mv) link (mails-moved L d v mv) a d)
-  where
-    pn-c : ℕ
-    pn-c = store (L .x) .pn
-
-    new : (j : ℕ) → (store (box j) .pn ≡ pn-c → ⊥) → store (upd box d v j) .pn ≡ pn-c → ⊥
-    new =
-        upd-all (λ j y. (store (box j) .pn ≡ pn-c → ⊥) → store y .pn ≡ pn-c → ⊥) box d
-        (λ f h. f (sym pn ∙ h)) (λ j f. f)

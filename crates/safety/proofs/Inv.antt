@@ -14,7 +14,6 @@ use Rattle.laws.proofs.Logic.{In, All}
 use Rattle.laws.proofs.Counts.{Major}
 use Rattle.laws.proofs.View.{Links, Store, store, phaseOf, stateOf, Reading, Collect, Last, Begin}
 use Rattle.laws.proofs.View.{Accept, Commit, Lease, read}
-use Rattle.safety.proofs.Replies.{Counted}
 
 -- What has been agreed at some box, and how the last of it was: under which pn, by which boxes.
 pub record Agreement : Type 0 where
@@ -193,7 +192,7 @@ pub record Ripe (n w : ℕ) (box : ℕ → Box) (g : Agreement) (P l : ℕ) : Ty
   -- no present box is ahead: so none counts what the leader does not
   pub lasts : (b : ℕ) → In b n → has w b ≡ true → store (box b) .last ≤ l
 
-module _ (n w : ℕ) (box : ℕ → Box) (link : Links) (g : Agreement) (c : ℕ) (x : Box) where
+module _ (n w : ℕ) (box : ℕ → Box) (g : Agreement) (c : ℕ) (x : Box) where
   -- phase SendCollect
   pub record Asking : Type 0 where
     pub recovering : stateOf x ≡ 0
@@ -203,20 +202,21 @@ module _ (n w : ℕ) (box : ℕ → Box) (link : Links) (g : Agreement) (c : ℕ
     pub apart : (b : ℕ) → In b n → store (box b) .storedPn ≡ store x .pn → ⊥
     pub new : (b : ℕ) → In b n → (b ≡ c → ⊥) → store (box b) .pn ≡ store x .pn → ⊥
 
-  -- phase Collect: R has answered, and the best is the best of what R told
+  -- who has answered
+  abbrev pub Answered : ℕ → Type 0
+  Answered b = has (x .head .answered) b ≡ true
+
+  -- phase Collect: the best is the best of what they told that answered
   pub record Hearing : Type 0 where
     pub recovering : stateOf x ≡ 0
     -- no record was stored under this pn
     pub apart : (b : ℕ) → In b n → store (box b) .storedPn ≡ store x .pn → ⊥
-    -- R has as many members as the count of replies says: at Ready it is the present set
-    pub R : ℕ → Bool
-    pub counted : Counted n w (store x .pn) (x .head .replies) (λ b. store (box b) .pn) link c R
-    -- who answered has promised this pn, and is not ahead of the leader
-    pub promise : (b : ℕ) → In b n → R b ≡ true → store (box b) .pn ≡ store x .pn
-    pub lasts : (b : ℕ) → In b n → R b ≡ true → store (box b) .last ≤ store x .last
+    -- who answered has promised this pn, and is not ahead of the leader: at Ready all present have
+    pub promise : (b : ℕ) → In b n → Answered b → store (box b) .pn ≡ store x .pn
+    pub lasts : (b : ℕ) → In b n → Answered b → store (box b) .last ≤ store x .last
     -- once a part of the last agreement has answered, the best is of that number, and its pn is
     -- at or above the agreement's
-    pub found : (b : ℕ) → In b n → R b ≡ true → g .by b ≡ true
+    pub found : (b : ℕ) → In b n → Answered b → g .by b ≡ true
         → store x .last < length (g .records)
         → (x .head .best .number ≡ length (g .records)) × (g .pn ≤ x .head .best .pn)
     -- such a best is the agreed record
@@ -251,9 +251,9 @@ pub record Live (n w : ℕ) (box : ℕ → Box) (link : Links) (g : Agreement) :
   -- an election empties the links: so a new pn meets no mail
   pub quiet : phaseOf x ≡ 0 → (a b : ℕ) → link a b ≡ []
   -- the stages, ..
-  pub asking : phaseOf x ≡ 1 → Asking n w box link g c x
-  pub hearing : phaseOf x ≡ 2 → Hearing n w box link g c x
-  pub settled : (stateOf x ≡ 0 → ⊥) → Settled n w box link g c x
+  pub asking : phaseOf x ≡ 1 → Asking n w box g c x
+  pub hearing : phaseOf x ≡ 2 → Hearing n w box g c x
+  pub settled : (stateOf x ≡ 0 → ⊥) → Settled n w box g c x
   -- .. and every mail on its way
   pub mails : (a b : ℕ) → All (PostOk w g c x a (store (box a)) b (store (box b))) (link a b)
 

@@ -26,9 +26,9 @@ pub record Led (n w : ℕ) (box : ℕ → Box) (link : Links) (g : Agreement) (c
   pub here : has w c ≡ true
   pub major : Major n (has w)
   pub quiet : phaseOf x ≡ 0 → (a b : ℕ) → link a b ≡ []
-  pub asking : phaseOf x ≡ 1 → Asking n w box link g c x
-  pub hearing : phaseOf x ≡ 2 → Hearing n w box link g c x
-  pub settled : (stateOf x ≡ 0 → ⊥) → Settled n w box link g c x
+  pub asking : phaseOf x ≡ 1 → Asking n w box g c x
+  pub hearing : phaseOf x ≡ 2 → Hearing n w box g c x
+  pub settled : (stateOf x ≡ 0 → ⊥) → Settled n w box g c x
   pub mails : (a b : ℕ) → All (PostOk w g c x a (store (box a)) b (store (box b))) (link a b)
 
 module _ {n w : ℕ} {box : ℕ → Box} {link : Links} {g : Agreement} where
@@ -92,9 +92,9 @@ module _ {n w : ℕ} {box : ℕ → Box} {link : Links} {g : Agreement} where
 
     pub lead-live : (link′ : Links) (g′ : Agreement)
         → (phaseOf x ≡ 0 → (a b : ℕ) → link′ a b ≡ [])
-        → (phaseOf x ≡ 1 → Asking n w (upd box c x) link′ g′ c x)
-        → (phaseOf x ≡ 2 → Hearing n w (upd box c x) link′ g′ c x)
-        → ((stateOf x ≡ 0 → ⊥) → Settled n w (upd box c x) link′ g′ c x)
+        → (phaseOf x ≡ 1 → Asking n w (upd box c x) g′ c x)
+        → (phaseOf x ≡ 2 → Hearing n w (upd box c x) g′ c x)
+        → ((stateOf x ≡ 0 → ⊥) → Settled n w (upd box c x) g′ c x)
         → ((a b : ℕ) → All (PostLed g′ a b) (link′ a b))
         → Live n w (upd box c x) link′ g′
     lead-live link′ g′ q a h s m = record {
@@ -192,8 +192,8 @@ ripe-put {n} {w} {P} {l} {box} c v pn last stored mine k = record {
       (λ i h. omega (arith, last)) (k .lasts);
 }
 
-module _ {n w : ℕ} {box : ℕ → Box} {link : Links} {g : Agreement} (c : ℕ) (z : Box)
-    (link′ : Links) (k : Settled n w box link g c (box c)) where
+module _ {n w : ℕ} {box : ℕ → Box} {g : Agreement} (c : ℕ) (z : Box)
+    (k : Settled n w box g c (box c)) where
   abbrev kept : Box
   kept = keeping (store (box c)) z
 
@@ -201,7 +201,7 @@ module _ {n w : ℕ} {box : ℕ → Box} {link : Links} {g : Agreement} (c : ℕ
       → (phaseOf z ≡ 4 → store (box c) .storedPn ≡ store (box c) .pn)
       → (phaseOf z ≡ 4 → (b : ℕ) → In b n → has (z .head .accepts) b ≡ true
       → VotedFor (box c) (store (box b)))
-      → Settled n w (upd box c kept) link′ g c kept
+      → Settled n w (upd box c kept) g c kept
   settled-kept done own accepted = record {
     ripe = ripe-put c kept refl refl (k .ripe .storedPns c) (k .ripe .mine c) (k .ripe);
     done = done;

@@ -1,5 +1,4 @@
 -- Demand 3, proved: the invariant, a module a step, every run, where records come from.
-pub mod Replies
 pub mod Inv
 pub mod Stores
 pub mod Base

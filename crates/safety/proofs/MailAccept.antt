@@ -1,11 +1,9 @@
 -- An Accept is taken: its sender has the leader's record, and joins the accept set.
 use Prim.Native.Nat.{ℕ}
-use mathlib.Core.Path.{_≡_, refl, sym, _∙_, subst}
-use mathlib.Core.Bool.{true, cond}
+use mathlib.Core.Path.{_≡_, refl, sym, subst}
+use mathlib.Core.Bool.{true}
 use mathlib.Core.List.{List}
 use native.Mathlib.Omega.{arith}
-use lib.Dec.{eqb}
-use borrow.Author.Tests.{ne-eqb}
 use Rattle.rules.specs.Sizes.{mostBoxes}
 use Rattle.rules.specs.Sets.{has, joined}
 use Rattle.rules.specs.Fields.{withAccepts}
@@ -14,8 +12,8 @@ use Rattle.rules.specs.Box.{Box, Letter, written}
 use Rattle.rules.specs.Site.{Site, popped, posted, upd}
 use Rattle.rules.specs.Step.{byTurn}
 use Rattle.laws.proofs.Types.{Kind}
-use Rattle.laws.proofs.Logic.{Or, left, right, In, same?}
-use Rattle.laws.proofs.SetLaws.{has-joined}
+use Rattle.laws.proofs.Logic.{Or, left, right, In}
+use Rattle.laws.proofs.SetLaws.{joined-in}
 use Rattle.laws.proofs.Conditions.{AcceptTaken, go-accept}
 use Rattle.laws.proofs.FrameLaws.{all-pop}
 use Rattle.laws.proofs.View.{Store, store, Reading}
@@ -43,23 +41,21 @@ module _ (s : Site) (i : Inv s) (a c : ℕ) (y : Letter) (ys : List Letter)
       (y .head .last)
   ok = led-mail L a c y ys (r .head) (r .apart) Kind.Accept (r .kind)
 
-  k : Settled (s .n) (s .present) (s .box) (s .link) (i .agreed) c (s .box c)
+  k : Settled (s .n) (s .present) (s .box) (i .agreed) c (s .box c)
   k = L .settled (ok .recovered)
 
   five : In a mostBoxes
   five = (r .from .0, omega (arith, r .from .1, i .ranks .few))
 
-  voted : (b : ℕ) → In b (s .n) → Or (b ≡ a) (b ≡ a → ⊥)
-      → cond (eqb b a) true (has (s .box c .head .accepts) b) ≡ true
+  voted : (b : ℕ) → In b (s .n) → Or (has (s .box c .head .accepts) b ≡ true) (b ≡ a)
       → VotedFor (s .box c) (store (s .box b))
-  voted b bn (left j) h =
+  voted b bn (left j) = k .accepted (t .phase) b bn j
+  voted b bn (right j) =
       subst (λ (b : ℕ). VotedFor (s .box c) (store (s .box b))) (sym j) (ok .voted (sym (t .place)))
-  voted b bn (right j) h = k .accepted (t .phase) b bn (rw (ne-eqb b a j) at h)
 
   accepted : (b : ℕ) → In b (s .n) → has (x .head .accepts) b ≡ true
       → VotedFor (s .box c) (store (s .box b))
-  accepted b bn h =
-      voted b bn (same? b a) (sym (has-joined (s .box c .head .accepts) a b five) ∙ h)
+  accepted b bn h = voted b bn (joined-in (s .box c .head .accepts) a b five h)
 
   stays : (j : ℕ) (sj : Store) (b : ℕ) (sb : Store) (m : Reading)
       → MailOk (s .present) (i .agreed) c (s .box c) j sj b sb m
@@ -77,7 +73,7 @@ module _ (s : Site) (i : Inv s) (a c : ℕ) (y : Letter) (ys : List Letter)
         (λ f. absurd (omega (arith, t .phase, f)))
         (λ f. absurd (omega (arith, t .phase, f)))
         (λ f. absurd (omega (arith, t .phase, f)))
-        (λ f. settled-kept c x (popped s a c .link) k (k .done) (k .own) (λ g. accepted))
+        (λ f. settled-kept c x k (k .done) (k .own) (λ g. accepted))
         (all-pop (PostLed c L x (t .leads) (i .agreed)) (s .link)
         (lead-mails c L x (t .leads) (i .agreed) (λ a b m. stays a _ b _ m)) a c);
   }

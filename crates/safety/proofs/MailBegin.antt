@@ -58,7 +58,7 @@ module _ (s : Site) (i : Inv s) (a b : ℕ) (y : Letter) (ys : List Letter)
   ok : BeginOk (s .present) (i .agreed) (L .c) (L .x) a b st q l value
   ok = head-mail L a b y ys (r .head) (r .apart) Kind.Begin (r .kind)
 
-  S : Settled (s .n) (s .present) (s .box) (s .link) (i .agreed) (L .c) (L .x)
+  S : Settled (s .n) (s .present) (s .box) (i .agreed) (L .c) (L .x)
   S = L .settled (ok .recovered)
 
   -- its pn is just its receiver's
@@ -163,7 +163,6 @@ module _ (s : Site) (i : Inv s) (a b : ℕ) (y : Letter) (ys : List Letter)
       live = λ z.
           live-moved L b v moved link′ (ok .to) ne refl (no-election L a b y ys (r .head))
           (λ h. absurd (ok .recovered h)) (λ h. omega (arith, ok .pn)) (λ h f. f)
-          (λ h. absurd (ok .recovered (h .recovering)))
           (all-post (PostAfter L b v moved) (popped s a b .link)
           (all-pop (PostAfter L b v moved) (s .link) (mails-moved L b v moved) a b)
           (bit a) b accept (λ d hd h. accept-ok d (bit-is a d five hd)));

@@ -1,13 +1,13 @@
 -- A Collect is taken: the promise is not below the leader's pn then, and the answer tells what the
 -- box keeps.
 use Prim.Native.Nat.{ℕ, _+_, _%_, _≤_, _<_, max}
-use mathlib.Core.Path.{_≡_, refl, sym, ap, _∙_, subst}
+use mathlib.Core.Path.{_≡_, refl, sym, ap, _∙_}
 use mathlib.Core.Bool.{Bool, true, false, _&&_, cond}
 use mathlib.Core.List.{List, [], _∷_, _++_}
 use native.Mathlib.Omega.{arith}
 use lib.Dec.{eqb, leb, ltb}
 use lib.ListN.{length}
-use borrow.Author.Tests.{leb-true, leb-false, lt-ltb, eq-eqb, ne-eqb}
+use borrow.Author.Tests.{leb-true, leb-false, lt-ltb, eq-eqb}
 use Rattle.rules.specs.Pick.{pick-true}
 use Rattle.rules.specs.Sizes.{mostBoxes}
 use Rattle.rules.specs.Sets.{has, bit}
@@ -19,15 +19,14 @@ use Rattle.rules.specs.Box.{Box, Letter, heldAt, mine, written, enclosed}
 use Rattle.rules.specs.Site.{Site, popped, posted, upd}
 use Rattle.rules.specs.Step.{byTurn}
 use Rattle.laws.proofs.Types.{Kind, State}
-use Rattle.laws.proofs.Logic.{Or, left, right, In, decide, eqb-same, same?}
-use Rattle.laws.proofs.SetLaws.{bit-is, bit-own}
+use Rattle.laws.proofs.Logic.{Or, left, right, In, decide, eqb-same}
+use Rattle.laws.proofs.SetLaws.{bit-is}
 use Rattle.laws.proofs.FrameLaws.{all-pop, all-post}
-use Rattle.laws.proofs.View.{Links, Store, store, stateOf, promised, readAs}
+use Rattle.laws.proofs.View.{Links, Store, store, stateOf, promised}
 use Rattle.laws.proofs.StepLaws.{changed, by-settled}
-use Rattle.safety.proofs.Inv.{Agreement, BoxOk, CollectOk, LastOk, Told, Hearing, Live, Inv}
+use Rattle.safety.proofs.Inv.{Agreement, BoxOk, CollectOk, LastOk, Told, Live, Inv}
 use Rattle.safety.proofs.Stores.{box-promised}
 use Rattle.safety.proofs.Base.{core-kept, ranks-put}
-use Rattle.safety.proofs.Replies.{Peer, Counted, Quieter, quiet-pop, quiet-peer, asked-peer}
 use Rattle.safety.proofs.Follower.{head-mail, no-election, Moved, PostAfter, mails-moved}
 use Rattle.safety.proofs.Follower.{live-moved}
 use Rattle.safety.proofs.Quiet.{inv-popped}
@@ -156,46 +155,6 @@ module _ (s : Site) (i : Inv s) (a b : ℕ) (y : Letter) (ys : List Letter)
       (max (st .pn) q) (st .last) u (st .records)
   answer-ok d da = record { to = da ∙ ok .from; from = ok .to; told = told }
 
-  -- ---- the count of replies: b has been asked now, if this is the leader's pn
-
-  there : link′ a b ≡ ys
-  there = rw (ne-eqb a b (r .apart), eqb-same a, eqb-same b, r .head) refl
-
-  back : link′ b a ≡ s .link b a ++ (answer ∷ [])
-  back = rw (eqb-same b, bit-own a five, ne-eqb b a (λ h. r .apart (sym h))) refl
-
-  off : (j d : ℕ) → (j ≡ b → ⊥) → Quieter P (s .link j d) (link′ j d)
-  off j d h = rw (ne-eqb j b h) (quiet-pop P (s .link) a b j d)
-
-  module _ (h : Hearing (s .n) (s .present) (s .box) (s .link) (i .agreed) (L .c) (L .x)) where
-    asked : Peer P (max (st .pn) q) (h .R b) ys (s .link b a ++ (answer ∷ []))
-    asked =
-        asked-peer P (st .pn) (max (st .pn) q) q (y .head .last) (h .R b) y answer ys (s .link b a)
-        (ap (λ (k : Kind). readAs k y) (r .kind)) refl still-new
-        (subst (λ (t : List Letter). Peer P (st .pn) (h .R b) t (s .link b a)) (r .head)
-        (subst (λ (k : ℕ). Peer P (st .pn) (h .R b) (s .link k b) (s .link b k)) (sym (ok .from))
-        (h .counted .peer b (r .to) ne)))
-
-    abbrev PeerOf : ℕ → ℕ → Type 0
-    PeerOf k j = Peer P (store (upd (s .box) b v j) .pn) (h .R j) (link′ k j) (link′ j k)
-
-    peer : (j : ℕ) → In j (s .n) → (j ≡ L .c → ⊥) → Or (j ≡ b) (j ≡ b → ⊥) → PeerOf (L .c) j
-    peer j jn jc (left jb) =
-        let of-a : PeerOf a b = rw (there, back, eqb-same b) asked in
-        subst (PeerOf (L .c)) (sym jb) (subst (λ (k : ℕ). PeerOf k b) (ok .from) of-a)
-    peer j jn jc (right jb) =
-        quiet-peer (rw (ne-eqb j b jb) (λ f. f)) (off (L .c) j (λ f. ne (sym f))) (off j (L .c) jb)
-        (h .counted .peer j jn jc)
-
-    counted : Counted (s .n) (s .present) P (L .x .head .replies)
-        (λ j. store (upd (s .box) b v j) .pn) link′ (L .c) (h .R)
-    counted = record {
-      own = h .counted .own;
-      present = h .counted .present;
-      count = h .counted .count;
-      peer = λ j jn jc. peer j jn jc (same? j b);
-    }
-
   inv-asked : Inv (changed s (upd (s .box) b v) link′)
   inv-asked = record {
     agreed = i .agreed;
@@ -206,7 +165,7 @@ module _ (s : Site) (i : Inv s) (a b : ℕ) (y : Letter) (ys : List Letter)
         (λ x hx. i .ranks .storedPns x b hx (r .to));
     live = λ z.
         live-moved L b v moved link′ (ok .to) ne refl (no-election L a b y ys (r .head))
-        (λ h. refl) (λ h. h) (λ h. still-new (ok .fresh h)) counted
+        (λ h. refl) (λ h. h) (λ h. still-new (ok .fresh h))
         (all-post (PostAfter L b v moved) (popped s a b .link)
         (all-pop (PostAfter L b v moved) (s .link) (mails-moved L b v moved) a b)
         (bit a) b answer (λ d hd h. answer-ok d (bit-is a d five hd)));

@@ -1,40 +1,37 @@
 -- A Last is taken: its records are taken and shared; then the answer counts, does not count, or
 -- shows a higher pn.
-use Prim.Native.Nat.{ℕ, suc, _+_, _%_, _≤_, _<_}
+use Prim.Native.Nat.{ℕ, suc, _%_, _≤_, _<_}
 use mathlib.Core.Path.{_≡_, refl, sym, ap, _∙_, subst}
-use mathlib.Core.Bool.{Bool, true, false, _&&_, cond}
+use mathlib.Core.Bool.{true, false, _&&_, cond}
 use mathlib.Core.List.{List, [], _∷_, _++_}
 use native.Mathlib.Omega.{arith}
 use lib.Dec.{eqb, ltb}
 use lib.ListN.{length, take}
 use lib.Seq.{take-take}
-use borrow.Author.Tests.{ltb-true, ltb-false, eq-eqb, ne-eqb}
+use borrow.Author.Tests.{ltb-true, ltb-false}
 use Rattle.rules.specs.Sizes.{mostBoxes}
-use Rattle.rules.specs.Sets.{has, without}
+use Rattle.rules.specs.Sets.{has, joined, without}
 use Rattle.rules.specs.NewPn.{newPn}
-use Rattle.rules.specs.Fields.{withPhase, withKept, withBest, withReplies, withPeers, lasting}
+use Rattle.rules.specs.Fields.{withPhase, withKept, withBest, withAnswered, withPeers, lasting}
 use Rattle.rules.specs.Fields.{promised as promising}
 use Rattle.rules.specs.Parts.{others, tookKept, cleared}
 use Rattle.rules.specs.Turns.{mailOf}
-use Rattle.rules.specs.Last.{noted, heard, lagging, bettered, raised, counted, uncounted, answered}
+use Rattle.rules.specs.Last.{noted, heard, lagging, bettered, raised, counted, uncounted, replied}
 use Rattle.rules.specs.Last.{onLast}
 use Rattle.rules.specs.Box.{Box, Letter, heldAt, enclosed}
 use Rattle.rules.specs.Site.{Site, setting, popped, posted, upd}
 use Rattle.rules.specs.Step.{byTurn}
 use Rattle.laws.proofs.Types.{Best, BoxState, Kind, Phase}
-use Rattle.laws.proofs.Logic.{Or, left, right, In, decide, eqb-same, eqb-yes, same?, and-yes}
+use Rattle.laws.proofs.Logic.{Or, left, right, In, decide, eqb-yes, and-yes}
 use Rattle.laws.proofs.Logic.{pick-elim, All}
-use Rattle.laws.proofs.Counts.{plus, tally-plus}
-use Rattle.laws.proofs.SetLaws.{has-and, without-in}
+use Rattle.laws.proofs.SetLaws.{has-and, joined-in, without-in}
 use Rattle.laws.proofs.NewPnLaws.{newPn-above, newPn-rank, newPn-nowhere}
 use Rattle.laws.proofs.Conditions.{LastTaken, go-last}
 use Rattle.laws.proofs.FrameLaws.{upd-all, all-pop, all-post}
 use Rattle.laws.proofs.View.{Links, Store, store, phaseOf, stateOf, Reading, Collect, Last, Begin}
-use Rattle.laws.proofs.View.{Accept, Commit, Lease, read, readAs, took, took-elim}
+use Rattle.laws.proofs.View.{Accept, Commit, Lease, took, took-elim}
 use Rattle.laws.proofs.Growth.{Grows, grows-took}
 use Rattle.laws.proofs.StepLaws.{changed, by-settled}
-use Rattle.safety.proofs.Replies.{Peer, Counted, Quieter, quiet-pop, quiet-post, quiet-peer}
-use Rattle.safety.proofs.Replies.{quiet-trans, quiet-counted, FirstReply, first-reply, tells}
 use Rattle.safety.proofs.Inv.{Agreement, BoxOk, MailOk, LastOk, Told, Hearing, Inv}
 use Rattle.safety.proofs.Stores.{box-took, box-promised}
 use Rattle.safety.proofs.Base.{core-kept, ranks-put, ranks-kept}
@@ -110,13 +107,10 @@ module _ (s : Site) (i : Inv s) (a c : ℕ) (y : Letter) (ys : List Letter)
   abbrev best : Best
   best = s .box c .head .best
 
-  is-last : read y ≡ Last (y .head .pn) (y .head .last) (y .head .unagreed) (y .records)
-  is-last = ap (λ (k : Kind). readAs k y) (r .kind)
-
   L : Led (s .n) (s .present) (s .box) (s .link) (i .agreed) c (s .box c)
   L = led (i .live (r .even)) c (r .to) (o .leads)
 
-  H : Hearing (s .n) (s .present) (s .box) (s .link) (i .agreed) c (s .box c)
+  H : Hearing (s .n) (s .present) (s .box) (i .agreed) c (s .box c)
   H = L .hearing (o .phase)
 
   ok : LastOk (s .present) (i .agreed) c (s .box c) a (store (s .box a)) c q l u rs
@@ -173,16 +167,6 @@ module _ (s : Site) (i : Inv s) (a c : ℕ) (y : Letter) (ys : List Letter)
       let w = without (s .present) c in
       let five : In c mostBoxes = (r .to .0, omega (arith, r .to .1, i .ranks .few)) in
       without-in (s .present) c d five (and-yes (has w d) _ (sym (has-and w _ d) ∙ hd) .0) .0
-
-  quieter : (P b d : ℕ) → Quieter P (s .link b d) (link′ b d)
-  unfolding link′
-  quieter P b d =
-      quiet-trans (quiet-pop P (s .link) a c b d)
-      (quiet-post P (popped s a c .link) lag c commit refl refl (λ f. f) b d)
-
-  there : link′ a c ≡ ys
-  unfolding link′
-  there = rw (ne-eqb a c (r .apart), eqb-same a, eqb-same c, r .head) refl
 
   mails-to : (x : Box) (xl : x .head .leads ≡ true) → store x .last ≡ t .last
       → x .records ≡ t .records
@@ -258,25 +242,26 @@ module _ (s : Site) (i : Inv s) (a c : ℕ) (y : Letter) (ys : List Letter)
       apart : (b : ℕ) → In b (s .n) → store (s .box b) .storedPn ≡ newPn q c → ⊥
       apart b h = nowhere (store (s .box b) .storedPn) (i .ranks .storedPns c b (r .to) h)
 
-  -- ---- this pn, or a lower one: the leader goes on; be is the best then, and R′ has answered
+  -- ---- this pn, or a lower one: the leader goes on; be is the best then, and all of w answered
 
-  module _ (be : Best) (replies : ℕ) (R′ : ℕ → Bool) (be-ok : BestOk (i .agreed) (t .last) be)
-      (cases : (b : ℕ) → R′ b ≡ true → Or (H .R b ≡ true) ((b ≡ a) × (q ≡ st .pn)))
-      (found : (b : ℕ) → In b (s .n) → R′ b ≡ true → i .agreed .by b ≡ true
-      → t .last < length (i .agreed .records) → Found (i .agreed) be)
-      (count : Counted (s .n) (s .present) (st .pn) replies
-      (λ b. store (s .box b) .pn) link′ c R′) where
+  abbrev before : ℕ
+  before = s .box c .head .answered
+
+  module _ (be : Best) (w : ℕ) (be-ok : BestOk (i .agreed) (t .last) be)
+      (cases : (b : ℕ) → has w b ≡ true → Or (has before b ≡ true) ((b ≡ a) × (q ≡ st .pn)))
+      (found : (b : ℕ) → In b (s .n) → has w b ≡ true → i .agreed .by b ≡ true
+      → t .last < length (i .agreed .records) → Found (i .agreed) be) where
     abbrev on : Box
-    on = record { head = withReplies replies (withBest be noted-box); records = t .records }
+    on = record { head = withAnswered w (withBest be noted-box); records = t .records }
 
-    promise′ : (b : ℕ) → In b (s .n) → R′ b ≡ true → store (s .box b) .pn ≡ st .pn
+    promise′ : (b : ℕ) → In b (s .n) → has w b ≡ true → store (s .box b) .pn ≡ st .pn
     promise′ b bn h = go (cases b h)
       where
-        go : Or (H .R b ≡ true) ((b ≡ a) × (q ≡ st .pn)) → store (s .box b) .pn ≡ st .pn
+        go : Or (has before b ≡ true) ((b ≡ a) × (q ≡ st .pn)) → store (s .box b) .pn ≡ st .pn
         go (left f) = H .promise b bn f
         go (right f) = rw (f .0) (T .answers (o .phase) (f .1) .promise)
 
-    lasts′ : (b : ℕ) → In b (s .n) → R′ b ≡ true → store (s .box b) .last ≤ t .last
+    lasts′ : (b : ℕ) → In b (s .n) → has w b ≡ true → store (s .box b) .last ≤ t .last
     lasts′ b bn h = go (cases b h)
       where
         told : q ≡ st .pn
@@ -286,18 +271,9 @@ module _ (s : Site) (i : Inv s) (a c : ℕ) (y : Letter) (ys : List Letter)
             omega (arith, T .answers (o .phase) f .reach h, grown .up)
         told f (right e) = omega (arith, ltb-false l (store (s .box a) .last) e, reached)
 
-        go : Or (H .R b ≡ true) ((b ≡ a) × (q ≡ st .pn)) → store (s .box b) .last ≤ t .last
+        go : Or (has before b ≡ true) ((b ≡ a) × (q ≡ st .pn)) → store (s .box b) .last ≤ t .last
         go (left f) = omega (arith, H .lasts b bn f, grown .up)
         go (right f) = rw (f .0) (told (f .1) (decide (ltb l (store (s .box a) .last))))
-
-    count′ : Counted (s .n) (s .present) (st .pn) replies (λ b. store (upd (s .box) c on b) .pn)
-        link′ c R′
-    count′ = record {
-      own = count .own;
-      present = count .present;
-      count = count .count;
-      peer = λ b bn bc. rw (ne-eqb b c bc) (count .peer b bn bc);
-    }
 
     inv-on : Inv (changed s (upd (s .box) c on) link′)
     inv-on = record {
@@ -311,12 +287,10 @@ module _ (s : Site) (i : Inv s) (a c : ℕ) (y : Letter) (ys : List Letter)
             recovering = H .recovering;
             apart = upd-all (λ b v. In b (s .n) → store v .storedPn ≡ st .pn → ⊥) (s .box) c
                 (H .apart c) (H .apart);
-            R = R′;
-            counted = count′;
-            promise = upd-all (λ b v. In b (s .n) → R′ b ≡ true → store v .pn ≡ st .pn) (s .box) c
-                (λ h j. refl) promise′;
-            lasts = upd-all (λ b v. In b (s .n) → R′ b ≡ true → store v .last ≤ t .last) (s .box) c
-                (λ h j. omega arith) lasts′;
+            promise = upd-all (λ b v. In b (s .n) → has w b ≡ true → store v .pn ≡ st .pn)
+                (s .box) c (λ h j. refl) promise′;
+            lasts = upd-all (λ b v. In b (s .n) → has w b ≡ true → store v .last ≤ t .last)
+                (s .box) c (λ h j. omega arith) lasts′;
             found = λ b h j m k. let w = found b h j m k in (w .number, w .pn);
             same = be-ok .same;
             old = be-ok .old;
@@ -335,82 +309,51 @@ module _ (s : Site) (i : Inv s) (a c : ℕ) (y : Letter) (ys : List Letter)
   -- a lower pn
   inv-lower : Next (withBest (cleared (t .last) best) noted-box)
   inv-lower =
-      inv-on (cleared (t .last) best) (s .box c .head .replies) (H .R)
+      inv-on (cleared (t .last) best) before
       (best-cleared (i .agreed) (st .last) (t .last) best best-ok (grown .up))
       (λ b h. left h)
       (λ b bn h m k. let f = H .found b bn h m (omega (arith, k, grown .up)) in
       found-cleared (i .agreed) (t .last) best k (record { number = f .0; pn = f .1 }))
-      (quiet-counted (λ b h. h) (quieter (st .pn)) (H .counted))
 
-  -- this pn: the sender has answered, once
+  -- this pn: the sender has answered, perhaps not for the first time
   module _ (eq : q ≡ st .pn) where
-    first : FirstReply (st .pn) (H .R a) (s .link c a) ys
-    first =
-        first-reply y ys is-last (eq-eqb q (st .pn) eq)
-        (subst (Peer (st .pn) (store (s .box a) .pn) (H .R a) (s .link c a)) (r .head)
-        (H .counted .peer a (r .from) (r .apart)))
+    among : (b : ℕ) → has (joined before a) b ≡ true → Or (has before b ≡ true) (b ≡ a)
+    among b = joined-in before a b (r .from .0, omega (arith, r .from .1, i .ranks .few))
 
-    peer : (b : ℕ) → In b (s .n) → (b ≡ c → ⊥) → Or (b ≡ a) (b ≡ a → ⊥)
-        → Peer (st .pn) (store (s .box b) .pn) (plus (H .R) a b) (link′ c b) (link′ b c)
-    peer b bn bc (left f) =
-        right (rw (f, eqb-same a) (record {
-          none = omega (arith, first .none, quieter (st .pn) c a .fewer);
-          once = omega (arith, first .rest, ap (tells (st .pn)) there);
-        }))
-    peer b bn bc (right f) =
-        rw (ne-eqb b a f)
-        (quiet-peer (λ h. h) (quieter (st .pn) c b) (quieter (st .pn) b c)
-        (H .counted .peer b bn bc))
-
-    cases : (b : ℕ) → plus (H .R) a b ≡ true → Or (b ≡ a) (b ≡ a → ⊥)
-        → Or (H .R b ≡ true) ((b ≡ a) × (q ≡ st .pn))
-    cases b h (left f) = right (f, eq)
-    cases b h (right f) = left (rw (ne-eqb b a f) at h)
-
-    here : (b : ℕ) → In b (s .n) → Or (H .R b ≡ true) ((b ≡ a) × (q ≡ st .pn))
-        → has (s .present) b ≡ true
-    here b bn (left f) = H .counted .present b bn f
-    here b bn (right f) = rw (f .0) (ok .from)
-
-    count : Counted (s .n) (s .present) (st .pn) (s .box c .head .replies + 1)
-        (λ b. store (s .box b) .pn) link′ c (plus (H .R) a)
-    count = record {
-      own = rw (ne-eqb c a (λ f. r .apart (sym f))) (H .counted .own);
-      present = λ b bn h. here b bn (cases b h (same? b a));
-      count = omega (arith, tally-plus (s .n) (H .R) a (r .from) (first .fresh), H .counted .count);
-      peer = λ b bn bc. peer b bn bc (same? b a);
-    }
-
-    found : (b : ℕ) → In b (s .n) → plus (H .R) a b ≡ true → i .agreed .by b ≡ true
-        → t .last < length (i .agreed .records) → Or (b ≡ a) (b ≡ a → ⊥)
+    found : (b : ℕ) → In b (s .n) → i .agreed .by b ≡ true
+        → t .last < length (i .agreed .records) → Or (has before b ≡ true) (b ≡ a)
         → Or (Found (i .agreed) best)
         ((suc l ≡ length (i .agreed .records)) × (l < length rs) × (i .agreed .pn ≤ u))
-    found b bn h m k (left f) =
+    found b bn m k (left f) =
+        let w = H .found b bn f m (omega (arith, k, grown .up)) in
+        left (record { number = w .0; pn = w .1 })
+    found b bn m k (right f) =
         right (T .answers (o .phase) eq .vote (subst (λ (j : ℕ). i .agreed .by j ≡ true) f m)
         (omega (arith, k, reached)))
-    found b bn h m k (right f) =
-        let w = H .found b bn (rw (ne-eqb b a f) at h) m (omega (arith, k, grown .up)) in
-        left (record { number = w .0; pn = w .1 })
+
+    cases : {b : ℕ} → Or (has before b ≡ true) (b ≡ a)
+        → Or (has before b ≡ true) ((b ≡ a) × (q ≡ st .pn))
+    cases (left f) = left f
+    cases (right f) = right (f, eq)
 
     abbrev better : Best
     better = bettered (t .last) best (y .head) (heldAt rs l)
 
-    inv-equal : Next (withReplies (s .box c .head .replies + 1) (withBest better noted-box))
+    inv-equal : Next (withAnswered (joined before a) (withBest better noted-box))
     inv-equal =
-        inv-on better (s .box c .head .replies + 1) (plus (H .R) a)
+        inv-on better (joined before a)
         (best-chosen (i .agreed) (st .last) (t .last) best best-ok (grown .up) (y .head) rs reached
         (T .same) (T .old))
-        (λ b h. cases b h (same? b a))
+        (λ b h. cases (among b h))
         (λ b bn h m k.
         found-chosen (i .agreed) (st .last) (t .last) best best-ok (grown .up) (y .head) rs reached
-        k (found b bn h m k (same? b a)))
-        count
+        k (found b bn m k (among b h)))
 
   -- ---- the three together
 
-  inv-answered : Next (answered (heard (s .box c .head) a (y .head)) c (y .head) (heldAt rs l))
-  unfolding answered heard tookKept raised counted uncounted
-  inv-answered =
+  inv-replied : Next (replied (heard (s .box c .head) a (y .head)) c a (y .head) (heldAt rs l))
+  unfolding replied heard tookKept raised counted uncounted
+  inv-replied =
       pick-elim Next (ltb (st .pn) q)
       (λ f. inv-higher (ltb-true (st .pn) q f))
       (λ f.
@@ -424,4 +367,4 @@ pub inv-last : (s : Site) (i : Inv s) (a c : ℕ) (y : Letter) (ys : List Letter
 unfolding onLast tookKept posted enclosed link′ lag
 inv-last s i a c y ys r =
     by-settled Inv s (popped s a c) c _ _ _ _ i (inv-popped s a c i)
-    (λ go. inv-answered s i a c y ys r (go-last go))
+    (λ go. inv-replied s i a c y ys r (go-last go))

@@ -3,28 +3,28 @@
 use Prim.Native.Nat.{ℕ, suc, _+_, _-_, _≤_, _<_}
 use mathlib.Core.Path.{_≡_, refl, sym, ap, _∙_, subst}
 use mathlib.Core.Bool.{true, false}
-use mathlib.Core.List.{List, [], _++_}
+use mathlib.Core.List.{List, [], _++_, tail}
 use native.Mathlib.Omega.{arith}
 use lib.Dec.{eqb, leb, ltb}
 use lib.ListN.{length, getD, take, drop, length-take, length-drop, length-append, List·getD-append}
 use lib.Seq.{getD-take, getD-drop, getD-append-add, length-take-le}
 use borrow.Author.Tests.{ltb-true, ltb-false}
 use Rattle.rules.specs.Parts.{none, tookKept, cleared}
-use Rattle.rules.specs.Last.{improves, bettered, heard, raised, counted, uncounted, answered}
+use Rattle.rules.specs.Last.{improves, bettered, heard, raised, counted, uncounted, replied}
 use Rattle.rules.specs.Last.{onLast}
 use Rattle.rules.specs.Mails.{onCollect, onBegin, onAccept, onCommit, onLease, ofKind, onMail}
 use Rattle.rules.specs.Steps.{elected, recover, bestHeld, collect, started, leased, hasPrevious}
 use Rattle.rules.specs.Steps.{ready, offer, propose, agree, finish, acted}
 use Rattle.rules.specs.Box.{Box, Letter, Event, own, mail, heldAt, mine, written, enclosed}
 use Rattle.rules.specs.Box.{letterOf, turnOf, turned, brought}
-use Rattle.rules.specs.Site.{Site, isBox, popped, played}
+use Rattle.rules.specs.Site.{Site, isBox, relinked, popped, twice, doubled, played}
 use Rattle.rules.specs.Step.{elect}
 use Rattle.rules.specs.Turns.{still}
 use Rattle.laws.proofs.Types.{Act, Answer, Best, BoxState, Call, Held, Kind, Out, Setting, Turn}
 use Rattle.laws.proofs.Logic.{Or, left, right, decide, same?, cond-elim, pick-elim, All, nil}
-use Rattle.laws.proofs.Logic.{All-head, All-map}
+use Rattle.laws.proofs.Logic.{All-head, All-tail, All-twice, All-map}
 use Rattle.laws.proofs.Conditions.{go-unless, go-begin, can-propose, has-previous}
-use Rattle.laws.proofs.FrameLaws.{upd-all, all-pop, all-posted}
+use Rattle.laws.proofs.FrameLaws.{upd-all, all-relinked, all-posted}
 use Rattle.laws.proofs.View.{Links, Store, store, Shaped, held-elim, Reading, Collect, Last, Begin}
 use Rattle.laws.proofs.View.{Accept, Commit, Lease, read, readAs, stored, took, took-elim}
 use Rattle.laws.proofs.StepLaws.{changed, by-verdict, Plays, recovers, collects, readies, offers}
@@ -122,10 +122,10 @@ module _ (G : ℕ → ℕ → Type 0) where
   unfolding cleared
   best-clear l t h = pick-elim BestG (leb (t .number) l) (λ e. best-none) (λ e. h)
 
-  best-answered : (x : BoxState) (c : ℕ) (y : Letter) → BestG (x .best) → Listed (y .records)
-      → BestG (answered x c (y .head) (heldAt (y .records) (y .head .last)) .best)
-  unfolding answered raised counted uncounted bettered
-  best-answered x c y h g =
+  best-replied : (x : BoxState) (c a : ℕ) (y : Letter) → BestG (x .best) → Listed (y .records)
+      → BestG (replied x c a (y .head) (heldAt (y .records) (y .head .last)) .best)
+  unfolding replied raised counted uncounted bettered
+  best-replied x c a y h g =
       pick-elim (λ (z : BoxState). BestG (z .best)) (ltb (x .kept .pn) (y .head .pn)) (λ e. clear)
       (λ e. pick-elim (λ (z : BoxState). BestG (z .best)) (eqb (y .head .pn) (x .kept .pn))
       (λ f. held-elim (λ (q : Held). BestG (bettered (x .kept .last) (x .best) (y .head) q))
@@ -248,7 +248,7 @@ module _ (G : ℕ → ℕ → Type 0) where
           (λ go. record {
             box = record {
               records = took-g g;
-              best = best-answered (heard (x .head) a (y .head)) (s .me) y (h .best) g;
+              best = best-replied (heard (x .head) a (y .head)) (s .me) a y (h .best) g;
             };
             sent =
                 listed-take (took (y .head .last) ms (store x) .last)
@@ -288,11 +288,19 @@ module _ (G : ℕ → ℕ → Type 0) where
 
   -- ---- a site
 
-  pub sound-popped : (s : Site) (a b : ℕ) → Sound s → Sound (popped s a b)
-  sound-popped s a b h = record {
+  sound-relinked : (s : Site) (f : List Letter → List Letter)
+      → ((P : Letter → Type 0) (l : List Letter) → All P l → All P (f l))
+      → (a b : ℕ) → Sound s → Sound (relinked f s a b)
+  sound-relinked s f kept a b h = record {
     boxes = h .boxes;
-    mails = all-pop LetterG (s .link) (h .mails) a b;
+    mails = all-relinked LetterG (s .link) (h .mails) f kept a b;
   }
+
+  pub sound-popped : (s : Site) (a b : ℕ) → Sound s → Sound (popped s a b)
+  sound-popped s = sound-relinked s tail (λ P l. All-tail)
+
+  pub sound-doubled : (s : Site) (a b : ℕ) → Sound s → Sound (doubled s a b)
+  sound-doubled s = sound-relinked s twice (λ P l. All-twice)
 
   -- what a call plays: the links before it, and its event
   pub played-sound : (s : Site) (c : ℕ) {d : Call} {e : Event} {link : Links} → Plays s c d e link

@@ -39,7 +39,7 @@ inv-offer s i c l r =
           lead-live c L x h (s .link) (i .agreed) (L .quiet)
           (λ f. absurd (op (L .asking f .recovering)))
           (λ f. absurd (op (L .hearing f .recovering)))
-          (λ f. settled-kept c x (s .link) k (k .done) (k .own) (k .accepted))
+          (λ f. settled-kept c x k (k .done) (k .own) (k .accepted))
           (lead-mails c L x h (i .agreed) (λ a b m. stays a _ b _ m));
     }
       where

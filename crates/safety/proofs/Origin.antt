@@ -24,6 +24,7 @@ use Rattle.laws.proofs.View.{store, Shaped}
 use Rattle.laws.proofs.StepLaws.{changed, by-acting, answer-acting, by-step}
 use Rattle.safety.specs.Demand3.{Offered, now, before, start}
 use Rattle.safety.proofs.Moves.{Sound, BoxG, turn-started, turn-sound, sound-popped}
+use Rattle.safety.proofs.Moves.{sound-doubled}
 use Rattle.safety.proofs.Moves.{played-sound, sound-played, sound-elect, sound-map}
 use Rattle.safety.proofs.Desk.{Plain, plain-event, SameDesk, turn-desk}
 
@@ -113,6 +114,8 @@ module _ (s : Site) (cs : List Call) (t : Site) (h : History s cs t) (d : Call) 
       (λ w f g e. kept _ refl same-desk
       (record { boxes = older-sound .boxes; mails = older-sound .mails }))
       (λ a b f. kept _ refl same-desk (sound-popped (From s (d ∷ cs) (h .num)) t a b older-sound))
+      (λ a b f g.
+      kept _ refl same-desk (sound-doubled (From s (d ∷ cs) (h .num)) t a b older-sound))
       d
       (λ c e link w f c-in r.
       let G = From s (d ∷ cs) (h .num) in
@@ -290,6 +293,7 @@ history-step s cs h (Call.Stop c) = plain s cs (run s cs) h (Call.Stop c) tt
 history-step s cs h (Call.Return c) = plain s cs (run s cs) h (Call.Return c) tt
 history-step s cs h (Call.Timeout c) = plain s cs (run s cs) h (Call.Timeout c) tt
 history-step s cs h (Call.Lose a b) = plain s cs (run s cs) h (Call.Lose a b) tt
+history-step s cs h (Call.Repeat a b) = plain s cs (run s cs) h (Call.Repeat a b) tt
 history-step s cs h (Call.Deliver a b) = plain s cs (run s cs) h (Call.Deliver a b) tt
 
 history-start : (n J L : ℕ) → History (start n J L) [] (start n J L)

@@ -11,8 +11,8 @@ use Rattle.laws.proofs.Logic.{Or, left, right, In, nil}
 use Rattle.laws.proofs.FormLaws.{Formed, Proper}
 use Rattle.laws.proofs.StepLaws.{changed, by-step}
 use Rattle.safety.specs.Demand3.{start}
-use Rattle.safety.proofs.Moves.{Sound, Comes, turn-sound, sound-popped, played-sound}
-use Rattle.safety.proofs.Moves.{sound-played, sound-elect}
+use Rattle.safety.proofs.Moves.{Sound, Comes, turn-sound, sound-popped, sound-doubled}
+use Rattle.safety.proofs.Moves.{played-sound, sound-played, sound-elect}
 
 -- at any number
 abbrev P : ℕ → ℕ → Type 0
@@ -32,7 +32,8 @@ unfolding presented
 proper-step s d h =
     by-step (Sound P) s h (λ c f e. sound-elect P s c h)
     (λ w f g e. record { boxes = h .boxes; mails = h .mails })
-    (λ a b f. sound-popped P s a b h) d
+    (λ a b f. sound-popped P s a b h)
+    (λ a b f g. sound-doubled P s a b h) d
     (λ c e link w f i r. let k = played-sound P s c w h (λ is. waiting-proper s c f i) in
     sound-played P (changed s (s .box) link) c _ _ (k .0)
     (turn-sound P (setting s c) (s .box c) (h .boxes c) (f .boxes c i .held .all) e (k .1)))

@@ -8,7 +8,6 @@ use lib.Dec.{ltb}
 use lib.ListN.{length, getD}
 use borrow.Author.Tests.{ltb-true, ltb-false, eq-eqb, ne-eqb}
 use Rattle.rules.specs.Pick.{pick}
-use Rattle.rules.specs.Every.{tally}
 use Rattle.rules.specs.Sets.{has}
 use Rattle.rules.specs.Fields.{withState, withPeers}
 use Rattle.rules.specs.Parts.{allUnknown}
@@ -18,8 +17,7 @@ use Rattle.rules.specs.Site.{Site, setting, played}
 use Rattle.rules.specs.Step.{step}
 use Rattle.laws.proofs.Types.{Call, State, Turn}
 use Rattle.laws.proofs.Logic.{Or, left, right, In, decide, both-no, same?, pick-elim, All-at}
-use Rattle.laws.proofs.Counts.{Within, Common, common, full}
-use Rattle.laws.proofs.SetLaws.{ones-tally}
+use Rattle.laws.proofs.Counts.{Common, common}
 use Rattle.laws.proofs.FormLaws.{Formed, form-says, proper-some}
 use Rattle.laws.proofs.Conditions.{Leading, Is, Any, go-unless, can-ready}
 use Rattle.laws.proofs.View.{Store, store, phaseOf}
@@ -30,20 +28,18 @@ use Rattle.safety.proofs.Start.{inv-started, inv-leased}
 
 module _ (s : Site) (i : Inv s) (c : ℕ) (c-in : In c (s .n)) (f : Formed s)
     (o : Leading (Is 2) Any (s .box c .head) (setting s c))
-    (all-in : s .box c .head .replies ≡ tally (s .n) (has (s .present))) where
+    (all-in : s .box c .head .answered ≡ s .present) where
   abbrev st : Store
   st = store (s .box c)
 
   L : Led (s .n) (s .present) (s .box) (s .link) (i .agreed) c (s .box c)
   L = led (i .live (o .even)) c c-in (o .leads)
 
-  H : Hearing (s .n) (s .present) (s .box) (s .link) (i .agreed) c (s .box c)
+  H : Hearing (s .n) (s .present) (s .box) (i .agreed) c (s .box c)
   H = L .hearing (o .phase)
 
-  heard : Within (s .n) (has (s .present)) (H .R)
-  heard =
-      full (s .n) (H .R) (has (s .present)) (H .counted .present)
-      (omega (arith, H .counted .count, all-in))
+  heard : (b : ℕ) → has (s .present) b ≡ true → has (s .box c .head .answered) b ≡ true
+  heard b t = rw all-in t
 
   -- one that answered took part in the last agreement
   both : Common (s .n) (i .agreed .by) (has (s .present))
@@ -52,8 +48,8 @@ module _ (s : Site) (i : Inv s) (c : ℕ) (c-in : In c (s .n)) (f : Formed s)
   abbrev witness : ℕ
   witness = both .0
 
-  answered : H .R witness ≡ true
-  answered = heard witness (both .1) (both .3)
+  answered : has (s .box c .head .answered) witness ≡ true
+  answered = heard witness (both .3)
 
   part : BoxOk (i .agreed) (i .agreed .by witness) (store (s .box witness))
   part = i .core .boxes witness (both .1)
@@ -76,16 +72,16 @@ module _ (s : Site) (i : Inv s) (c : ℕ) (c-in : In c (s .n)) (f : Formed s)
 
   ripe : Ripe (s .n) (s .present) (s .box) (i .agreed) (st .pn) (st .last)
   ripe = record {
-    pns = λ b bn t. H .promise b bn (heard b bn t);
+    pns = λ b bn t. H .promise b bn (heard b t);
     storedPns = λ b bn.
         let k = i .core in
         let j = common (s .n) (k .N b) (has (s .present)) (k .N-major b bn) (L .major) in
-        let p = H .promise (j .0) (j .1) (heard (j .0) (j .1) (j .3)) in
+        let p = H .promise (j .0) (j .1) (heard (j .0) (j .3)) in
         omega (arith, k .N-pn b (j .0) bn (j .1) (j .2), p);
     mine = λ b bn t. absurd (H .apart b bn t);
     top = top;
     under = omega (arith, part .promise (both .2), H .promise witness (both .1) answered);
-    lasts = λ b bn t. H .lasts b bn (heard b bn t);
+    lasts = λ b bn t. H .lasts b bn (heard b t);
   }
 
   -- ---- number last+1 is agreed: the best is its record
@@ -153,5 +149,4 @@ inv-ready s i c =
     by-acting Inv s c _ _ _ i
     (λ f c-in go.
     let o = can-ready (go-unless _ _ _ go .0) in
-    let k = form-says f in
-    inv-readied s i c c-in k (o .0) (o .1 ∙ ones-tally (s .n) (s .present) (k .present)))
+    inv-readied s i c c-in (form-says f) (o .0) (o .1))

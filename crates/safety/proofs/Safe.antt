@@ -21,7 +21,7 @@ use Rattle.laws.proofs.StepLaws.{by-ruled, by-inner, sizes-run}
 use Rattle.safety.specs.Demand3.{start}
 use Rattle.safety.proofs.Inv.{Agreement, Inv, BoxOk}
 use Rattle.safety.proofs.Arrival.{Arrives}
-use Rattle.safety.proofs.Quiet.{inv-presented, inv-popped}
+use Rattle.safety.proofs.Quiet.{inv-presented, inv-popped, inv-doubled}
 use Rattle.safety.proofs.Elect.{inv-elect}
 use Rattle.safety.proofs.Recover.{inv-recover}
 use Rattle.safety.proofs.Collect.{inv-collect}
@@ -90,6 +90,7 @@ inv-step s (Call.Stop c) i = by-ruled Inv s _ _ i (λ p. inv-presented s (withou
 inv-step s (Call.Return c) i = by-ruled Inv s _ _ i (λ p. inv-presented s (joined (s .present) c) i)
 inv-step s (Call.Timeout c) i = by-ruled Inv s _ _ i (λ p. inv-presented s (s .present) i)
 inv-step s (Call.Lose a b) i = by-ruled Inv s _ _ i (λ p. inv-popped s a b i)
+inv-step s (Call.Repeat a b) i = by-ruled Inv s _ _ i (λ p. inv-doubled s a b i)
 inv-step s (Call.Deliver a b) i =
     by-ruled Inv s _ _ i
     (λ p. let l = is-link (p .1 .0) in

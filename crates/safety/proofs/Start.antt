@@ -16,7 +16,7 @@ use Rattle.laws.proofs.Types.{Phase, State}
 use Rattle.laws.proofs.Logic.{Or, left, right, In, eqb-same, same?}
 use Rattle.laws.proofs.SetLaws.{without-in, bit-is}
 use Rattle.laws.proofs.FrameLaws.{all-post}
-use Rattle.laws.proofs.View.{Links, Store, store, phaseOf, stateOf, Shaped, Reading, Collect, Last}
+use Rattle.laws.proofs.View.{Store, store, phaseOf, stateOf, Shaped, Reading, Collect, Last}
 use Rattle.laws.proofs.View.{Begin, Accept, Commit, Lease, stored, keeping}
 use Rattle.safety.proofs.Inv.{Agreement, VotedFor, MailOk, BeginOk, Ripe, Settled, Inv}
 use Rattle.safety.proofs.Stores.{box-stored, stored-length, stored-below, stored-take}
@@ -114,9 +114,8 @@ module _ (s : Site) (i : Inv s) (c : ℕ) (c-in : In c (s .n)) (h : s .box c .he
     votes : (b : ℕ) → b ≡ c → VotedFor x (store (upd (s .box) c x b))
     votes b e = rw (e, eqb-same c) voted
 
-    settled : (link′ : Links)
-        → Settled (s .n) (s .present) (upd (s .box) c x) link′ (i .agreed) c x
-    settled link′ = record {
+    settled : Settled (s .n) (s .present) (upd (s .box) c x) (i .agreed) c x
+    settled = record {
       ripe = ripe-put c x refl refl (λ f. omega arith) (λ f e. L .here) k;
       done = λ f. absurd (f refl);
       own = λ f. refl;
@@ -152,7 +151,7 @@ module _ (s : Site) (i : Inv s) (c : ℕ) (c-in : In c (s .n)) (h : s .box c .he
       live = λ e.
           lead-live c L x y-leads _ (i .agreed)
           (λ f. absurd (omega arith)) (λ f. absurd (omega arith)) (λ f. absurd (omega arith))
-          (λ f. settled _)
+          (λ f. settled)
           (all-post (PostLed c L x y-leads (i .agreed)) (s .link)
           (lead-mails c L x y-leads (i .agreed)
           (λ j b m. mail-started (s .present) (i .agreed) c (s .box c) y r shaped ph op j _ b _ m))
@@ -175,9 +174,8 @@ module _ (s : Site) (i : Inv s) (c : ℕ) (c-in : In c (s .n)) (h : s .box c .he
       recovering = λ f. absurd (omega arith);
     }
 
-    leases : (link′ : Links)
-        → Settled (s .n) (s .present) (upd (s .box) c rest) link′ (i .agreed) c rest
-    leases link′ = record {
+    leases : Settled (s .n) (s .present) (upd (s .box) c rest) (i .agreed) c rest
+    leases = record {
       ripe = ripe-put c rest refl refl (k .storedPns c) (k .mine c) k;
       done = λ g. done;
       own = λ g. absurd (omega arith);
@@ -195,7 +193,7 @@ module _ (s : Site) (i : Inv s) (c : ℕ) (c-in : In c (s .n)) (h : s .box c .he
       live = λ e.
           lead-live c L rest y-leads _ (i .agreed)
           (λ f. absurd (omega arith)) (λ f. absurd (omega arith)) (λ f. absurd (omega arith))
-          (λ f. leases _)
+          (λ f. leases)
           (all-post (PostLed c L rest y-leads (i .agreed)) (s .link)
           (lead-mails c L rest y-leads (i .agreed)
           (λ j b m. mail-kept (s .present) (i .agreed) c (s .box c) rest onward j _ b _ m))
