@@ -3,12 +3,9 @@ use mathlib.Core.Path.{_≡_, refl, sym, _∙_}
 use mathlib.Core.Bool.{Bool, true, false, _&&_, and-true, and-assoc}
 use mathlib.Core.List.{List, [], _∷_, _++_}
 use Prim.Native.Nat.{ℕ, _≤_}
-use native.Mathlib.Nat.{lt-of-lt-of-le}
 use native.Mathlib.Omega.{arith}
 use borrow.Author.Tests.{leb-true}
-use lib.Dec.{leb}
 use lib.ListN.{length, getD}
-use lib.Pow.{pow-mono}
 use Rattle.words.proofs.PartLaws.{length-part}
 use Rattle.rules.specs.Every.{all, each, every}
 use Rattle.rules.specs.Sizes.{mostBoxes, mostPn, proper, recordForm}
@@ -19,7 +16,7 @@ use Rattle.place.proofs.AllLaws.{all-at, all-take, all-append, two-last}
 use Rattle.place.proofs.FormLaws.{count-last}
 use Rattle.row.specs.Row.{headOf, boxOf, rowFits, rowForm}
 use Rattle.row.specs.Lent.{RowSized, RowReadable, numbersFit, valuesFit, recordsOf}
-use Rattle.row.proofs.SetLaws.{set-lt}
+use Rattle.row.proofs.SetLaws.{set-fits}
 use Rattle.row.proofs.PeerLaws.{every-says, peer-fits}
 
 -- every peer of the row of box b is by form
@@ -58,7 +55,7 @@ pub record RowRanged (n J b : ℕ) (r : List ℕ) : Type 0 where
   pub stored-number : getD r 6 0 ≤ J
   pub best-pn : getD r 7 0 ≤ mostPn
   pub best-number : getD r 8 0 ≤ J
-  pub replies : getD r 9 0 ≤ n
+  pub answered : setForm n (getD r 9 0) ≡ true
   pub accepts : setForm n (getD r 10 0) ≡ true
   pub peers : peersFit n J b r ≡ true
 
@@ -79,7 +76,7 @@ ranged n J b r t e g =
       stored-number = leb-true (getD r 6 0) J (all-at 6 _ numbers);
       best-pn = leb-true (getD r 7 0) mostPn (all-at 7 _ numbers);
       best-number = leb-true (getD r 8 0) J (all-at 8 _ numbers);
-      replies = leb-true (getD r 9 0) n (all-at 1 _ values);
+      answered = all-at 1 _ values;
       accepts = all-at 2 _ values;
       peers = second-of (numbersFit J r && valuesFit n r) (peersFit n J b r) passed;
     }
@@ -100,10 +97,8 @@ readable n J b r z g h = record {
   stored-number = omega (arith, z .loads, g .stored-number);
   best-pn = omega (arith, g .best-pn);
   best-number = omega (arith, z .loads, g .best-number);
-  replies = omega (arith, z .boxes, g .replies);
-  accepts =
-      lt-of-lt-of-le (set-lt n (getD r 10 0) (g .accepts))
-      (pow-mono {i = n} {j = 32} (omega (arith, z .boxes)));
+  answered = set-fits n (getD r 9 0) (z .boxes) (g .answered);
+  accepts = set-fits n (getD r 10 0) (z .boxes) (g .accepts);
   peers = λ k a i.
       let m : k ≤ mostBoxes = omega (arith, z .boxes) in
       peer-fits n J b r k a m (z .loads) i (every-says mostBoxes _ k (g .peers) a m);
@@ -140,13 +135,14 @@ formed n J b r z e =
 -- ---- what the code has computed is the form
 
 -- What `values_fit` has made of its calls.
-pub values-law : (n : ℕ) (r : List ℕ) (best accepts waiting agreeing : Bool)
-    → best ≡ recordForm (getD r 11 0) → accepts ≡ setForm n (getD r 10 0)
+pub values-law : (n : ℕ) (r : List ℕ) (best answered accepts waiting agreeing : Bool)
+    → best ≡ recordForm (getD r 11 0) → answered ≡ setForm n (getD r 9 0)
+    → accepts ≡ setForm n (getD r 10 0)
     → waiting ≡ recordForm (getD r 12 0) → agreeing ≡ recordForm (getD r 13 0)
-    → (best && leb (getD r 9 0) n && accepts && waiting && agreeing) ≡ valuesFit n r
+    → (best && answered && accepts && waiting && agreeing) ≡ valuesFit n r
 unfolding valuesFit all
-values-law n r best accepts waiting agreeing eb ea ew eg =
-    rw (eb, ea, ew, eg) (simp (and-assoc, and-true))
+values-law n r best answered accepts waiting agreeing eb en ea ew eg =
+    rw (eb, en, ea, ew, eg) (simp (and-assoc, and-true))
 
 -- What `is_by_form` has, inside the ranges ..
 pub form-go : (n J b : ℕ) (r : List ℕ) → RowSized n J r

@@ -2,10 +2,12 @@
 use mathlib.Core.Path.{_≡_, sym, ap, _∙_}
 use mathlib.Core.Bool.{true}
 use Prim.Native.Nat.{ℕ, zero, suc, _+_, _-_, _/_, _^_, _≤_, _<_}
-use native.Mathlib.Nat.{div-lt-iff-lt-mul, pow-suc}
+use native.Mathlib.Nat.{div-lt-iff-lt-mul, lt-of-lt-of-le, pow-suc}
 use native.Mathlib.Omega.{arith}
 use lib.Dec.{eqb}
+use lib.Pow.{pow-mono}
 use borrow.Author.Tests.{eqb-true}
+use Rattle.rules.specs.Sizes.{mostBoxes}
 use Rattle.rules.specs.Sets.{setForm}
 
 -- All digits are still there.
@@ -28,10 +30,14 @@ set-end n k w rest h e =
     let none : n - k ≡ zero = omega arith in
     sym (e ∙ ap (λ (m : ℕ). setForm m rest) none)
 
--- It is less than 2 to the power of n.
-pub set-lt : (n w : ℕ) → setForm n w ≡ true → w < 2 ^ n
+-- It is less than 2 to the power of n ..
+set-lt : (n w : ℕ) → setForm n w ≡ true → w < 2 ^ n
 unfolding setForm
 set-lt zero w e = omega (arith, eqb-true w 0 e)
 set-lt (suc n) w e =
     let h : w / 2 < 2 ^ n = set-lt n (w / 2) e in
     rw pow-suc (div-lt-iff-lt-mul {k = 2} {x = w} {y = 2 ^ n} (omega arith) .0 h)
+
+-- .. and so a number of 32 bits.
+pub set-fits : (n w : ℕ) → n ≤ mostBoxes → setForm n w ≡ true → w < 2 ^ 32
+set-fits n w h e = lt-of-lt-of-le (set-lt n w e) (pow-mono {i = n} {j = 32} (omega (arith, h)))

@@ -49,7 +49,6 @@ module _ (s : Setting) (r : List ℕ) (ok : RowByForm s r) where
       rw (
         le-leb (getD r 3 0) mostPn (f .ranged .pn),
         le-leb (getD r 4 0) mostLoads (omega (arith, f .last, ok .size .loads)),
-        le-leb (getD r 9 0) mostBoxes (omega (arith, f .ranged .replies, ok .size .boxes)),
         le-leb (s .me) mostBoxes (ok .me),
       )
 

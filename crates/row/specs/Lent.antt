@@ -31,7 +31,7 @@ pub record RowReadable (n : ℕ) (r : List ℕ) : Type 0 where
   pub stored-number : getD r 6 0 < 2 ^ 32
   pub best-pn : getD r 7 0 < 2 ^ 32
   pub best-number : getD r 8 0 < 2 ^ 32
-  pub replies : getD r 9 0 < 2 ^ 32
+  pub answered : getD r 9 0 < 2 ^ 32
   pub accepts : getD r 10 0 < 2 ^ 32
   pub peers : (k : ℕ) → 1 ≤ k → k ≤ n → getD r (13 + k) 0 < 2 ^ 32
 
@@ -64,7 +64,7 @@ numbersFit J r =
 unfoldable pub valuesFit : ℕ → List ℕ → Bool
 valuesFit n r =
     all (recordForm (getD r 11 0)
-    ∷ leb (getD r 9 0) n
+    ∷ setForm n (getD r 9 0)
     ∷ setForm n (getD r 10 0)
     ∷ recordForm (getD r 12 0)
     ∷ recordForm (getD r 13 0)

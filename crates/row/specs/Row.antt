@@ -1,7 +1,7 @@
 -- A box in words: twenty words of fields, and then room for J records. They stand in the image's
--- order: flag, state, phase, pn, last, stored pn, stored number, best pn, best number, replies,
--- accept set; the best, the waiting and the record being agreed; five peers' lasts; the count of
--- records held.
+-- order: flag, state, phase, pn, last, stored pn, stored number, best pn, best number, the set of
+-- boxes that answered, the accept set; the best, the waiting and the record being agreed; five
+-- peers' lasts; the count of records held.
 use Prim.Native.Nat.{ℕ, zero, suc, _+_}
 use mathlib.Core.Bool.{Bool, true, false, cond}
 use mathlib.Core.List.{List, [], _∷_}
@@ -56,7 +56,7 @@ headOf n r = record {
     stored = record { pn = getD r 5 0; number = getD r 6 0 };
   };
   best = record { pn = getD r 7 0; number = getD r 8 0; value = getD r 11 0 };
-  replies = getD r 9 0;
+  answered = getD r 9 0;
   accepts = getD r 10 0;
   waiting = getD r 12 0;
   agreeing = getD r 13 0;
@@ -89,7 +89,7 @@ abbrev pub wordsOf : BoxState → ℕ → List ℕ
 wordsOf h count =
     flagNumber (h .leads) ∷ stateNumber (h .state) ∷ phaseNumber (h .phase)
     ∷ h .kept .pn ∷ h .kept .last ∷ h .kept .stored .pn ∷ h .kept .stored .number
-    ∷ h .best .pn ∷ h .best .number ∷ h .replies ∷ h .accepts
+    ∷ h .best .pn ∷ h .best .number ∷ h .answered ∷ h .accepts
     ∷ h .best .value ∷ h .waiting ∷ h .agreeing
     ∷ getD (h .peers) 0 0 ∷ getD (h .peers) 1 0 ∷ getD (h .peers) 2 0 ∷ getD (h .peers) 3 0
     ∷ getD (h .peers) 4 0 ∷ count ∷ []

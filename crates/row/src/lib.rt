@@ -139,12 +139,12 @@ pub fn values_fit(row: &[u64], n: u32) -> bool
     requires { ⌜ 20 ≤ length (now row) ⌝ }
     ensures { λ r. ⌜ r ≡ valuesFit n (now (row .entry)) ⌝ }
 {
-    let boxes = n as u64;
     let best = place::is_record(row[11]);
+    let answered = is_set(n, row[9]);
     let accepts = is_set(n, row[10]);
     let waiting = place::is_record(row[12]);
     let agreeing = place::is_record(row[13]);
-    best & (row[9] <= boxes) & accepts & waiting & agreeing
+    best & answered & accepts & waiting & agreeing
 }
 
 // The row holds box b of n by form. What stands after its records is not read.
@@ -220,7 +220,7 @@ pub fn load(row: &[u64], n: u32) -> BoxState
         phase: phase,
         kept: kept,
         best: best,
-        replies: place::number(row[9]),
+        answered: place::number(row[9]),
         accepts: place::number(row[10]),
         waiting: row[12],
         agreeing: row[13],
@@ -246,7 +246,7 @@ pub fn store(row: &mut [u64], h: BoxState, held: u32)
         place::wide(h.kept.stored.number),
         place::wide(h.best.pn),
         place::wide(h.best.number),
-        place::wide(h.replies),
+        place::wide(h.answered),
         place::wide(h.accepts),
         h.best.value,
         h.waiting,

@@ -6,8 +6,8 @@ use Rattle.row.proofs.load.Tie as tie
 returns : tie.Need-returns
 returns c =
     let accepts = c .before .before in
-    let replies = accepts .before .before in
-    let five = replies .before .before .before in
+    let answered = accepts .before .before in
+    let five = answered .before .before .before in
     let four = five .before in
     let three = four .before in
     let two = three .before in
@@ -21,7 +21,7 @@ returns c =
     let phase = stored-pn .before .before in
     simp (
       accepts .number8 .ensures,
-      replies .number7 .ensures,
+      answered .number7 .ensures,
       five .peer-of5 .ensures,
       four .peer-of4 .ensures,
       three .peer-of3 .ensures,

@@ -15,8 +15,8 @@ returns c =
     let two = three .before in
     let one = two .before in
     let accepts = one .before in
-    let replies = accepts .before in
-    let best-number = replies .before in
+    let answered = accepts .before in
+    let best-number = answered .before in
     let best-pn = best-number .before in
     let stored-number = best-pn .before in
     let stored-pn = stored-number .before in
@@ -36,7 +36,7 @@ returns c =
       two .wide12 .ensures,
       one .wide11 .ensures,
       accepts .wide10 .ensures,
-      replies .wide9 .ensures,
+      answered .wide9 .ensures,
       best-number .wide8 .ensures,
       best-pn .wide7 .ensures,
       stored-number .wide6 .ensures,

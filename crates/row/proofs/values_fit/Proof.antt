@@ -6,14 +6,14 @@ use Rattle.row.proofs.values_fit.Tie as tie
 
 returns : tie.Need-returns
 returns c =
-    let agreeing = c .before in
-    let waiting = agreeing .before .before in
+    let waiting = c .before .before in
     let accepts = waiting .before .before in
-    let best = accepts .before .before in
+    let answered = accepts .before .before in
+    let best = answered .before .before in
     let a = best .before .before .before .args in
-    values-law (a .n) (a .row .now) _ _ _ _
-    (best .is-record .ensures) (accepts .is-set .ensures)
-    (waiting .is-record2 .ensures) (agreeing .is-record3 .ensures)
+    values-law (a .n) (a .row .now) _ _ _ _ _
+    (best .is-record .ensures) (answered .is-set .ensures) (accepts .is-set2 .ensures)
+    (waiting .is-record2 .ensures) (c .is-record3 .ensures)
 
 pub values-fit-spec : {M : Type 1} → statement M
 values-fit-spec =
@@ -28,4 +28,5 @@ values-fit-spec =
     (λ c. search needs)
     (λ c κs. search needs)
     (λ c. search needs)
+    (λ c κs. search needs)
     returns)
