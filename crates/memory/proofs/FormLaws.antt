@@ -19,8 +19,8 @@ use Rattle.laws.proofs.Logic.{Or, left, right, In, both-no, same?, and-yes, and
 use Rattle.laws.proofs.Logic.{or-right, passed, _&_, none, made, every-at, every-made}
 use Rattle.laws.proofs.Counts.{tally-ext}
 use Rattle.laws.proofs.FormLaws.{sizes-says, is-box, box-is, is-link}
-use Rattle.laws.proofs.SetLaws.{set-up, set-small}
 use Rattle.row.specs.Row.{rowFits, rowForm}
+use Rattle.row.proofs.SetLaws.{set-fits}
 use Rattle.link.specs.Link.{linkForm}
 use Rattle.link.proofs.TestLaws.{same-test, not-yes, or-else}
 use Rattle.link.proofs.LinkLaws.{fits-says, length-link}
@@ -82,11 +82,7 @@ general-lent {xs} h =
       j = omega arith;
       l = omega arith;
       epoch = omega (arith, leb-true (getD xs 3 0) mostEpoch (e .1));
-      present = omega (
-        arith,
-        set-small (getD xs 4 0)
-            (set-up (getD xs 0 0) 5 (getD xs 4 0) (z .few-boxes) (h .present)),
-      );
+      present = set-fits (getD xs 0 0) (getD xs 4 0) (z .few-boxes) (h .present);
     }
 
 -- ---- the lengths

@@ -145,7 +145,7 @@ fn fresh_head() -> BoxState
             number: 0,
             value: 0,
         },
-        replies: 0,
+        answered: 0,
         accepts: 0,
         waiting: 0,
         agreeing: 0,
