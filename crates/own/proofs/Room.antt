@@ -85,7 +85,7 @@ module _ (n : ℕ) (r r' : List ℕ) (e : SameRow n r r') where
         stored = record { pn = field 5 refl i; number = field 6 refl i };
       };
       best = record { pn = field 7 refl i; number = field 8 refl i; value = field 11 refl i };
-      replies = field 9 refl i;
+      answered = field 9 refl i;
       accepts = field 10 refl i;
       waiting = field 12 refl i;
       agreeing = field 13 refl i;
