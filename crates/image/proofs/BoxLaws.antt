@@ -16,9 +16,9 @@ use Rattle.rules.specs.Numbers.{stateNumber, phaseNumber}
 use Rattle.rules.specs.Box.{Box}
 use Rattle.laws.proofs.Types.{Phase, State}
 use Rattle.laws.proofs.Logic.{left, right, In}
-use Rattle.laws.proofs.SetLaws.{set-small, set-up}
 use Rattle.laws.proofs.FormLaws.{FormedBox, Peer, box-says}
 use Rattle.row.specs.Row.{flagOf, flagNumber, stateOf, phaseOf, headOf, wordsOf}
+use Rattle.row.proofs.SetLaws.{set-fits}
 use Rattle.cells.specs.Cells.{cells, Each, All, Below}
 use Rattle.cells.proofs.ChainLaws.{each-one, each-take, each-made}
 use Rattle.cells.proofs.CodeLaws.{Code, Parts, cells-code, cancel-same, told-code}
@@ -187,7 +187,7 @@ module _ (n J b : ℕ) (boxes : n ≤ mostBoxes) (x : Box) (f : FormedBox n J b 
         phase = phase-back (x .head .phase) i;
         kept = x .head .kept;
         best = x .head .best;
-        replies = x .head .replies;
+        answered = x .head .answered;
         accepts = x .head .accepts;
         waiting = x .head .waiting;
         agreeing = x .head .agreeing;
@@ -241,9 +241,8 @@ module _ (n J b : ℕ) (boxes : n ≤ mostBoxes) (x : Box) (f : FormedBox n J b 
         let stored-number = f .stored-number in
         let best-pn = f .best-pn in
         let best-number = f .best-number in
-        let replies = f .replies in
-        let set = set-up n mostBoxes (x .head .accepts) boxes (f .accepts) in
-        let accepts = set-small (x .head .accepts) set in
+        let answered = set-fits n (x .head .answered) boxes (f .answered) in
+        let accepts = set-fits n (x .head .accepts) boxes (f .accepts) in
         let held = f .held .all in
         let room = f .held .room in
         record {

@@ -13,12 +13,12 @@ use Rattle.rules.specs.Box.{Box, Letter}
 use Rattle.rules.specs.Site.{Site, freshBox}
 use Rattle.rules.specs.Form.{form}
 use Rattle.laws.proofs.Logic.{In, and-yes, and-both}
-use Rattle.laws.proofs.SetLaws.{set-small, set-up}
 use Rattle.laws.proofs.Counts.{one-says, one-made}
 use Rattle.laws.proofs.FormLaws.{sizes-says, sizes-made, FormedLink}
 use Rattle.laws.proofs.FormLaws.{letter-says, letter-made, FormedBox, box-says, box-made}
 use Rattle.laws.proofs.FormLaws.{Formed, form-says, form-made}
 use Rattle.laws.proofs.Logic as logic
+use Rattle.row.proofs.SetLaws.{set-fits}
 use Rattle.memory.specs.Memory.{linkIndex}
 use Rattle.cells.specs.Cells.{chain, cells, Each, All}
 use Rattle.cells.proofs.ChainLaws.{each-made, each-at, each-map}
@@ -67,8 +67,7 @@ module _ (s : Site) where
       let J = f .sizes .few-loads in
       let L = f .sizes .few-mails in
       let epoch = f .few-epochs in
-      let present = set-small (s .present) (set-up (s .n) mostBoxes (s .present) n
-      (f .present)) in
+      let present = set-fits (s .n) (s .present) n (f .present) in
       record {
         words = record {
           width = refl;

@@ -46,9 +46,10 @@ generalBody s =
     ∷ s .present
     ∷ [])
 
--- "Box: flag, state, phase, pn, last, stored pn, stored number, best pn, best number, replies,
--- accept set; then three records (best, waiting, being agreed); n peers' lasts (unknown
--- 4,294,967,295); count of records held, and these."
+-- "Box: flag, state, phase, pn, last, stored pn, stored number, best pn, best number", the set of
+-- boxes that answered, "numbered as the present set is" (Q-1), "accept set; then three records
+-- (best, waiting, being agreed); n peers' lasts (unknown 4,294,967,295); count of records held, and
+-- these."
 unfoldable pub boxBody : ℕ → Box → List ℕ
 boxBody n x =
     cells 4
@@ -61,7 +62,7 @@ boxBody n x =
     ∷ x .head .kept .stored .number
     ∷ x .head .best .pn
     ∷ x .head .best .number
-    ∷ x .head .replies
+    ∷ x .head .answered
     ∷ x .head .accepts
     ∷ [])
     ++ (cells 8
