@@ -4,10 +4,11 @@ use Prim.Native.Nat.{ℕ, zero, suc, _+_, _-_, _≤_, _<_}
 use native.Mathlib.Nat.{zero-add, suc-add, add-sub-cancel-left}
 use native.Mathlib.Omega.{arith}
 use mathlib.Core.List.{List, [], _∷_, _++_, append-assoc}
-use lib.ListN.{length, take, drop, getD}
+use lib.ListN.{length, take, drop, getD, set}
 use lib.ListN.{length-append, length-take, length-drop, take-append-drop, List·getD-append}
-use lib.Seq.{length-take-le, take-nil, take-all, take-at, drop-at, take-take, drop-drop, take-add}
-use lib.Seq.{drop-cons, getD-take, getD-drop, take-append-le, take-append-add, drop-append-add}
+use lib.Seq.{length-take-le, take-nil, take-all, take-at, drop-at, set-at, take-take, drop-drop}
+use lib.Seq.{drop-cons, getD-take, getD-drop, take-add, take-append-le, take-append-add}
+use lib.Seq.{drop-append-add}
 use Rattle.words.specs.Rows.{part, splice}
 
 -- ---- parts
@@ -109,6 +110,33 @@ module _ {ℓ} {A : Type ℓ} where
       let m = b - (a + k) in
       let s : b ≡ a + k + m = omega arith in
       rw (s, ← drop-drop m (a + k), behind, drop-drop m (a + k) xs)
+
+  -- An element behind the part stays.
+  pub getD-past : (a k i : ℕ) (d : A) (xs ys : List A) → a + k ≤ i → a + k ≤ length xs
+      → length ys ≡ k → getD (splice xs a k ys) i d ≡ getD xs i d
+  getD-past a k i d xs ys h l e =
+      let s : i ≡ a + k + (i - (a + k)) = omega arith in
+      let n = i - (a + k) in
+      let same = drop-past a k (a + k) xs ys (omega arith) l e in
+      rw (s, ← getD-drop (a + k) (splice xs a k ys) n d, same, getD-drop (a + k) xs n d)
+
+  -- One element more is put behind the part.
+  pub set-splice : (a k : ℕ) (x : A) (xs ys : List A) → a + k < length xs → length ys ≡ k
+      → set (splice xs a k ys) (a + k) x ≡ splice xs a (k + 1) (ys ++ (x ∷ []))
+  set-splice a k x xs ys h e =
+      let f = take a xs ++ ys in
+      let n : length f ≡ a + k = simp (length-append, length-take) (omega arith) in
+      let s : a + (k + 1) ≡ suc (a + k) = omega arith in
+      rw (
+        ← append-assoc (take a xs) ys,
+        drop-drop k a,
+        drop-cons xs (a + k) x h,
+        set-at f (getD xs (a + k) x),
+        drop-drop (k + 1) a,
+        s,
+        append-assoc ys,
+        append-assoc (take a xs),
+      )
 
   -- The front up to the part's end is the front before it, and the part.
   pub take-splice-end : (a k : ℕ) (xs ys : List A) → a ≤ length xs → length ys ≡ k

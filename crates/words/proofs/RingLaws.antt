@@ -12,7 +12,7 @@ use lib.ListN.{length, getD, set, List·getD-map}
 use lib.Seq.{drop-cons, getD-set-same, getD-set-other, ext-getD}
 use borrow.Author.Tests.{ltb-true, ltb-false, lt-ltb, le-ltb}
 use Rattle.words.specs.Rows.{part}
-use Rattle.words.specs.Ring.{slot, next, ring}
+use Rattle.words.specs.Ring.{slot, next, previous, ring}
 
 -- ---- places
 
@@ -68,6 +68,16 @@ slot-next L s i h k = go (place L s (suc i)) (place L s 1) (place L (next L s) i
     go (round a e) (inside b f) (round c g) = omega arith
     go (round a e) (round b f) (inside c g) = omega arith
     go (round a e) (round b f) (round c g) = omega arith
+
+-- The place after the one before s is s.
+pub next-previous : (L s : ℕ) → s < L → next L (previous L s) ≡ s
+next-previous L s h = go (place L s (L - 1)) (place L (previous L s) 1)
+  where
+    go : {p q : ℕ} → Place L s (L - 1) p → Place L p 1 q → q ≡ s
+    go (inside a e) (inside b f) = omega arith
+    go (inside a e) (round b f) = omega arith
+    go (round a e) (inside b f) = omega arith
+    go (round a e) (round b f) = omega arith
 
 -- Different numbers of places on, both below L, lead to different places.
 pub slot-other : (L s i j : ℕ) → s < L → i < L → j < L → i ≢ j → slot L s i ≢ slot L s j
@@ -142,6 +152,19 @@ module _ {ℓ} {A : Type ℓ} (d : A) (L : ℕ) where
       → ring d L s c rs ≡ getD rs s d ∷ ring d L (next L s) (c - 1) rs
   unfolding ring
   ring-pop s c rs h = let e : c ≡ suc (c - 1) = omega arith in ap (λ (k : ℕ). ring d L s k rs) e
+
+  -- FRONT: y is put in the place before the first, and one more is counted, from there on.
+  pub ring-front : (s c : ℕ) (rs : List A) (y : A) → s < L → c < L → L ≤ length rs
+      → ring d L (previous L s) (c + 1) (set rs (previous L s) y) ≡ y ∷ ring d L s c rs
+  unfolding ring
+  ring-front s c rs y h k l =
+      let p = previous L s in
+      let b : p < L = slot-lt L s (L - 1) h (omega arith) in
+      let rest = ring-other s c p rs y h (omega arith) out in
+      rw (add-one, next-previous L s h, rest, getD-set-same rs p y d (omega arith))
+    where
+      out : (i : ℕ) → i < c → slot L s i ≢ previous L s
+      out i m = slot-other L s i (L - 1) h (omega arith) (omega arith) (omega arith)
 
   -- A ring that does not go round is a part.
   pub ring-flat : (s c : ℕ) (rs : List A) → s + c ≤ L → L ≤ length rs

@@ -13,6 +13,10 @@ slot L s i = cond (ltb (s + i) L) (s + i) (s + i - L)
 abbrev pub next : ℕ → ℕ → ℕ
 next L s = slot L s 1
 
+-- The place before s.
+abbrev pub previous : ℕ → ℕ → ℕ
+previous L s = slot L s (L - 1)
+
 -- What the c places from s on hold, in order. rs is what each place holds; past its end stands d.
 unfoldable pub ring {ℓ} : {A : Type ℓ} → A → ℕ → ℕ → ℕ → List A → List A
 ring d L s zero rs = []

@@ -3,7 +3,7 @@ ghost use mathlib.Core.Path.{_≡_};
 ghost use Prim.Native.Nat.{_+_, _*_, _^_, _≤_, _<_};
 ghost use lib.ListN.{length, replicate};
 ghost use Rattle.words.specs.Rows.{part, splice};
-ghost use Rattle.words.specs.Ring.{slot, next};
+ghost use Rattle.words.specs.Ring.{slot, next, previous};
 
 // dst becomes the words of src, which are as many.
 pub fn copy(src: &[u64], dst: &mut [u64])
@@ -24,6 +24,20 @@ pub fn copy_part(src: &[u64], a: usize, dst: &mut [u64], b: usize, n: usize)
         ⌜ now (dst .exit) ≡ splice (now (dst .entry)) b n (part (now (src .entry)) a n) ⌝ }
 {
     copy(&src[a..a + n], &mut dst[b..b + n]);
+}
+
+// The n words from a on go to b, in order: none of them may be written before it is read.
+pub fn copy_within(words: &mut [u64], a: usize, b: usize, n: usize)
+    requires { ⌜ (a + n ≤ length (now words)) × (b + n ≤ length (now words)) ⌝ }
+    requires { ⌜ (a < b → a + n ≤ b) ⌝ }
+    ensures { λ _.
+        ⌜ now (words .exit) ≡ splice (now (words .entry)) b n (part (now (words .entry)) a n) ⌝ }
+{
+    let mut i = 0;
+    while i < n {
+        words[b + i] = words[a + i];
+        i += 1;
+    }
 }
 
 // Every word of dst becomes v.
@@ -77,4 +91,12 @@ pub fn after(l: usize, s: usize) -> usize
     ensures { λ r. ⌜ (r ≡ next l s) × (r < l) ⌝ }
 {
     place(l, s, 1)
+}
+
+// The place before s, round a ring of l.
+pub fn before(l: usize, s: usize) -> usize
+    requires { ⌜ s < l ⌝ }
+    ensures { λ r. ⌜ (r ≡ previous l s) × (r < l) ⌝ }
+{
+    place(l, s, l - 1)
 }
