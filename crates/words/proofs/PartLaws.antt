@@ -8,7 +8,7 @@ use lib.ListN.{length, take, drop, getD, set}
 use lib.ListN.{length-append, length-take, length-drop, take-append-drop, List·getD-append}
 use lib.Seq.{length-take-le, take-nil, take-all, take-at, drop-at, set-at, take-take, drop-drop}
 use lib.Seq.{drop-cons, getD-take, getD-drop, take-add, take-append-le, take-append-add}
-use lib.Seq.{drop-append-add}
+use lib.Seq.{drop-append-le, drop-append-add}
 use Rattle.words.specs.Rows.{part, splice}
 
 -- ---- parts
@@ -150,6 +150,31 @@ module _ {ℓ} {A : Type ℓ} where
   pub splice-front : (ws xs : List A) (a k : ℕ) (ys : List A)
       → splice (ws ++ xs) (length ws + a) k ys ≡ ws ++ splice xs a k ys
   splice-front ws xs a k ys = rw (take-append-add, drop-append-add, append-assoc)
+
+-- ---- the first k of w elements from a on go to the w from b on
+
+module _ {ℓ} {A : Type ℓ} (a b k w : ℕ) (xs : List A) (h : k ≤ w) (l : b + w ≤ length xs) where
+  -- the w elements from b on, when they are there
+  abbrev pub begun : List A
+  begun = part xs a k ++ drop k (part xs b w)
+
+  pub splice-begun : splice xs b k (part xs a k) ≡ splice xs b w begun
+  splice-begun =
+      let n : k ≤ length (part xs b w) = omega (arith, length-part b w xs l) in
+      let rest = drop-append-le k (part xs b w) (drop w (drop b xs)) n in
+      rw (append-assoc (part xs a k), ← rest, take-append-drop w (drop b xs))
+
+  module _ (m : a + w ≤ length xs) where
+    pub length-begun : length begun ≡ w
+    length-begun =
+        let n = length-part a k xs (omega arith) in
+        let v = length-part b w xs l in
+        simp (length-append, length-drop, n, v) (omega arith)
+
+    pub take-begun : take k begun ≡ take k (part xs a w)
+    take-begun =
+        let n = length-part a k xs (omega arith) in
+        take-at (part xs a k) (drop k (part xs b w)) k n ∙ sym (take-take k w (drop a xs) h)
 
 -- ---- parts as the code computes them, from a to a + k
 

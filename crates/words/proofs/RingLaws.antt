@@ -55,6 +55,10 @@ slot-lt L s i h k = go (place L s i)
 pub next-lt : (L s : ℕ) → s < L → next L s < L
 next-lt L s h = slot-lt L s 1 h (omega arith)
 
+-- So is the place before.
+pub previous-lt : (L s : ℕ) → s < L → previous L s < L
+previous-lt L s h = slot-lt L s (L - 1) h (omega arith)
+
 -- The place i + 1 places on from s is the place i places on from the next.
 pub slot-next : (L s i : ℕ) → s < L → i < L → slot L s (suc i) ≡ slot L (next L s) i
 slot-next L s i h k = go (place L s (suc i)) (place L s 1) (place L (next L s) i)
@@ -159,7 +163,7 @@ module _ {ℓ} {A : Type ℓ} (d : A) (L : ℕ) where
   unfolding ring
   ring-front s c rs y h k l =
       let p = previous L s in
-      let b : p < L = slot-lt L s (L - 1) h (omega arith) in
+      let b : p < L = previous-lt L s h in
       let rest = ring-other s c p rs y h (omega arith) out in
       rw (add-one, next-previous L s h, rest, getD-set-same rs p y d (omega arith))
     where

@@ -3,7 +3,7 @@ use mathlib.Core.Path.{_≡_, refl, sym, ap, _∙_}
 use mathlib.Core.Logic.{_≢_}
 use Prim.Native.Nat.{ℕ, zero, suc, _+_, _-_, _*_, _≤_, _<_}
 use native.Mathlib.Nat.{not-suc-le-zero, le-of-suc-le-suc, zero-add, zero-mul, suc-mul, add-comm}
-use native.Mathlib.Nat.{mul-le-mul-right}
+use native.Mathlib.Nat.{mul-le-mul-right, lt-of-mul-lt-mul-right}
 use native.Mathlib.Decide.{ℕ-discrete}
 use native.Mathlib.Omega.{arith}
 use mathlib.Core.List.{List, [], _∷_, map}
@@ -15,6 +15,10 @@ use Rattle.words.proofs.PartLaws.{take-splice, drop-splice, part-splice
 -- Row i ends within the end of the last.
 pub row-end : (w : ℕ) {n i : ℕ} → i < n → i * w + w ≤ n * w
 row-end w h = rw suc-mul at (mul-le-mul-right w h)
+
+-- A row that begins before another ends before it.
+pub row-before : (w i j : ℕ) → i * w < j * w → i * w + w ≤ j * w
+row-before w i j h = row-end w (lt-of-mul-lt-mul-right w h)
 
 module _ {ℓ} {A : Type ℓ} where
   -- There are n rows.
