@@ -3,3 +3,4 @@ pub mod AllLaws
 pub mod KindLaws
 pub mod FormLaws
 pub mod EncloseLaws
+pub mod CopyLaws
