@@ -3,3 +3,4 @@ pub mod TestLaws
 pub mod LinkLaws
 pub mod HoldLaws
 pub mod ScanLaws
+pub mod DoubleLaws

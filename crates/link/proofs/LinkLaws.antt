@@ -8,10 +8,11 @@ use lib.ListN.{length, drop, getD, set, length-drop, length-map}
 use lib.Seq.{ext-getD}
 use borrow.Author.Tests.{ltb-true, leb-true, lt-ltb, le-leb}
 use Rattle.words.specs.Rows.{part, splice, rows}
-use Rattle.words.specs.Ring.{slot, next, ring}
+use Rattle.words.specs.Ring.{slot, next, previous, ring}
 use Rattle.words.proofs.PartLaws.{part-drop, drop-splice, getD-splice, length-splice}
 use Rattle.words.proofs.RowLaws.{row-end, rows-at, rows-splice, length-rows}
-use Rattle.words.proofs.RingLaws.{slot-lt, length-ring, ring-at, ring-push, ring-pop}
+use Rattle.words.proofs.RingLaws.{slot-lt, previous-lt, length-ring, ring-at, ring-push, ring-pop}
+use Rattle.words.proofs.RingLaws.{ring-front}
 use Rattle.rules.specs.Every.{each}
 use Rattle.rules.specs.Form.{formLetter}
 use Rattle.place.specs.Place.{letterAt, placeFits, placeForm}
@@ -37,6 +38,16 @@ endStart J L r = placeStart J L (getD r 0 0) (getD r 1 0)
 
 abbrev pub afterPush : ℕ → ℕ → List ℕ → List ℕ → List ℕ
 afterPush J L r ys = set (splice r (endStart J L r) (placeWidth J) ys) 1 (getD r 1 0 + 1)
+
+-- where the place before the first begins, and the words when ys are there and one more is counted,
+-- from there on
+abbrev pub frontStart : ℕ → ℕ → List ℕ → ℕ
+frontStart J L r = 2 + previous L (getD r 0 0) * placeWidth J
+
+abbrev pub afterFront : ℕ → ℕ → List ℕ → List ℕ → List ℕ
+afterFront J L r ys =
+    set (set (splice r (frontStart J L r) (placeWidth J) ys) 0 (previous L (getD r 0 0)))
+    1 (getD r 1 0 + 1)
 
 -- ---- the test of the words
 
@@ -132,6 +143,21 @@ module _ (J L s c : ℕ) (d : List ℕ) where
       ap (ring [] L s (c + 1)) (rows-splice (placeWidth J) L (slot L s c) d ys b long e)
       ∙ ring-push [] L s c ps ys first room l
 
+  -- one place more, in front
+  two-front : s < L → c < L → L * placeWidth J ≤ length d
+      → (ys : List ℕ) → length ys ≡ placeWidth J
+      → places J L
+      (previous L s ∷ (c + 1) ∷ splice d (previous L s * placeWidth J) (placeWidth J) ys)
+      ≡ ys ∷ places J L (s ∷ c ∷ d)
+  unfolding places
+  two-front first room long ys e =
+      let p = previous L s in
+      let b : p < L = previous-lt L s first in
+      let ps = rows (placeWidth J) L d in
+      let l : L ≤ length ps = omega (arith, length-rows (placeWidth J) L d) in
+      ap (ring [] L p (c + 1)) (rows-splice (placeWidth J) L p d ys b long e)
+      ∙ ring-front [] L s c ps ys first room l
+
 -- ---- what the words hold
 
 module _ (J L : ℕ) (r : List ℕ) (first : getD r 0 0 < L) where
@@ -178,6 +204,25 @@ module _ (J L : ℕ) (r : List ℕ) (first : getD r 0 0 < L) where
       ∙ (λ k. places J L (same k ∷ (c + 1) ∷ rest k))
       ∙ two-push J L s c (drop 2 r) first room m ys e
       ∙ ap (λ (x : List ℕ). places J L x ++ (ys ∷ [])) (sym (two r (omega arith)))
+
+  -- FRONT: the words that are put in the place before the first, and behind them the places.
+  pub places-front : getD r 1 0 < L → linkWidth J L ≤ length r
+      → (ys : List ℕ) → length ys ≡ placeWidth J
+      → places J L (afterFront J L r ys) ≡ ys ∷ places J L r
+  places-front room long ys e =
+      let s = getD r 0 0 in
+      let c = getD r 1 0 in
+      let w = placeWidth J in
+      let p = previous L s in
+      let end : p * w + w ≤ L * w = row-end w (previous-lt L s first) in
+      let t = splice r (2 + p * w) w ys in
+      let l : length t ≡ length r = length-splice (2 + p * w) w r ys (omega arith) e in
+      let m : L * w ≤ length (drop 2 r) = rw length-drop (omega arith) in
+      let rest = drop-splice 2 (p * w) w r ys (omega arith) in
+      ap (places J L) (two-set t p (c + 1) (omega arith))
+      ∙ ap (λ (x : List ℕ). places J L (p ∷ (c + 1) ∷ x)) rest
+      ∙ two-front J L s c (drop 2 r) first room m ys e
+      ∙ ap (λ (x : List ℕ). ys ∷ places J L x) (sym (two r (omega arith)))
 
 -- ---- unused room
 

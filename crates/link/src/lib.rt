@@ -5,6 +5,7 @@ ghost use mathlib.Core.List.{[], _∷_, _++_, tail};
 ghost use Prim.Native.Nat.{_+_, _≤_, _<_};
 ghost use lib.ListN.{length};
 ghost use Rattle.rules.specs.Box.{letterOf};
+ghost use Rattle.rules.specs.Site.{twice};
 ghost use Rattle.place.specs.Place.{placeForm};
 ghost use Rattle.link.specs.Link.{placeWidth, linkWidth, linkOf, linkForm};
 ghost use Rattle.link.specs.Holds.{
@@ -77,6 +78,23 @@ pub fn pop(link: &mut [u64], j: u32, l: u32)
     let count = words::size(link[1]);
     link[0] = words::word(words::after(l as usize, first));
     link[1] = words::word(count - 1);
+}
+
+// The first mail stands twice: the ring begins one place sooner, with the words that it holds.
+pub fn double(link: &mut [u64], j: u32, l: u32)
+    requires { ⌜ ReadableLink j l (now link) ⌝ }
+    requires { ⌜ (0 < length (linkOf j l (now link))) × (length (linkOf j l (now link)) < l) ⌝ }
+    ensures { λ _. ⌜ Holds j l (now (link .exit)) (twice (linkOf j l (now (link .entry)))) ⌝ }
+{
+    let first = words::size(link[0]);
+    let count = words::size(link[1]);
+    let before = words::before(l as usize, first);
+    let from = place_at(j, l, first, 0);
+    let to = place_at(j, l, before, 0);
+    let held = 5 + words::size(link[from + 4]);
+    words::copy_within(link, from, to, held);
+    link[0] = words::word(before);
+    link[1] = words::word(count + 1);
 }
 
 // The link is empty, whatever its words were.
