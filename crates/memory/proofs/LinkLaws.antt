@@ -21,7 +21,7 @@ use Rattle.link.specs.Link.{placeWidth, linkWidth, linkOf, linkFits}
 use Rattle.link.specs.Holds.{LinkWords, ReadableLink, Holds, HeadAt}
 use Rattle.memory.specs.Memory.{linksWords, linkIndex, linkStart}
 use Rattle.memory.specs.After.{linksOf, LinksLent, linkRow, LinkSet, LinksPut, HeadStands}
-use Rattle.memory.specs.After.{sent}
+use Rattle.memory.specs.After.{linksBy, sent}
 use Rattle.memory.proofs.SizeLaws.{link-sizes, index-below, link-within}
 use Rattle.memory.proofs.PutLaws.{part-cut, part-put, cond-same, link-set, links-set}
 
@@ -78,6 +78,11 @@ module _ (s : Setting) (a b : ℕ) (ls : List ℕ) {r : List ℕ} (lent : LinksL
       → (ReadableLink (s .j) (s .l) r) × (length (linkOf (s .j) (s .l) r) < s .l)
   link-room room = (link-readable, omega (arith, link-length))
 
+  pub link-both : (0 < length (linksOf s ls a b)) × (length (linksOf s ls a b) < s .l)
+      → (ReadableLink (s .j) (s .l) r)
+      × ((0 < length (linkOf (s .j) (s .l) r)) × (length (linkOf (s .j) (s .l) r) < s .l))
+  link-both both = (link-readable, (omega (arith, link-length), omega (arith, link-length)))
+
 -- its row, from p to e, becomes ys
 module _ (s : Setting) (a b : ℕ) (ls : List ℕ) {p e : ℕ} (lent : LinksLent s ls)
     (h : isLink (s .n) a b ≡ true)
@@ -98,21 +103,20 @@ module _ (s : Setting) (a b : ℕ) (ls : List ℕ) {p e : ℕ} (lent : LinksLent
       (cut-set s (linkIndex (s .n) a b) ls start end (index-below (s .n) a b h) (lent .words) ys zs
       holds)
 
-  -- the head has left it
-  pub pop-done : (ys : List ℕ) → Holds (s .j) (s .l) ys (tail (linkOf (s .j) (s .l) held))
-      → LinksPut s
-      (λ x y. cond (eqb x a && eqb y b) (tail (linksOf s ls x y)) (linksOf s ls x y))
-      ls (splice ls p (e - p) ys)
-  pop-done ys holds =
-      link-done ys (tail (linkOf (s .j) (s .l) held)) holds _
-      (λ x y. cond-same (eqb x a && eqb y b) (λ d. here x y d) (λ d. refl))
-    where
-      here : (x y : ℕ) → (eqb x a && eqb y b) ≡ true
-          → tail (linkOf (s .j) (s .l) held) ≡ tail (linksOf s ls x y)
-      here x y d =
-          let t = and-yes (eqb x a) (eqb y b) d in
-          ap tail (link-letters s a b ls lent h row)
-          ∙ (λ i. tail (linksOf s ls (sym (eqb-yes x a (t .0)) i) (sym (eqb-yes y b (t .1)) i)))
+  same-link : (g : List Letter → List Letter) (x y : ℕ) → (eqb x a && eqb y b) ≡ true
+      → g (linkOf (s .j) (s .l) held) ≡ g (linksOf s ls x y)
+  same-link g x y d =
+      let t = and-yes (eqb x a) (eqb y b) d in
+      ap g (link-letters s a b ls lent h row
+      ∙ (λ i. linksOf s ls (sym (eqb-yes x a (t .0)) i) (sym (eqb-yes y b (t .1)) i)))
+
+  -- its letters are changed by g
+  pub by-done : (g : List Letter → List Letter) (ys : List ℕ)
+      → Holds (s .j) (s .l) ys (g (linkOf (s .j) (s .l) held))
+      → LinksPut s (linksBy g s a b ls) ls (splice ls p (e - p) ys)
+  by-done g ys holds =
+      link-done ys (g (linkOf (s .j) (s .l) held)) holds _
+      (λ x y. cond-same (eqb x a && eqb y b) (same-link g x y) (λ d. refl))
 
   -- one letter more goes from a to b, which is in the set
   pub send-done : (set : ℕ) → has set b ≡ true → (y : Letter) (ys : List ℕ)
@@ -120,17 +124,10 @@ module _ (s : Setting) (a b : ℕ) (ls : List ℕ) {p e : ℕ} (lent : LinksLent
       → LinksPut s (sent (linksOf s ls) a (λ c. has set c && eqb c b) y) ls (splice ls p (e - p) ys)
   send-done set in-set y ys holds =
       link-done ys _ holds _
-      (λ x c. cond-same (eqb x a && eqb c b) (λ d. here x c d) (λ d. refl)
+      (λ x c. cond-same (eqb x a && eqb c b) (same-link (λ l. l ++ (y ∷ [])) x c) (λ d. refl)
       ∙ ap (λ (t : Bool). cond t (linksOf s ls x c ++ (y ∷ [])) (linksOf s ls x c))
       (test (eqb x a) c (eqb c b) refl))
     where
-      here : (x c : ℕ) → (eqb x a && eqb c b) ≡ true
-          → linkOf (s .j) (s .l) held ++ (y ∷ []) ≡ linksOf s ls x c ++ (y ∷ [])
-      here x c d =
-          let t = and-yes (eqb x a) (eqb c b) d in
-          ap (λ (l : List Letter). l ++ (y ∷ [])) (link-letters s a b ls lent h row
-          ∙ (λ i. linksOf s ls (sym (eqb-yes x a (t .0)) i) (sym (eqb-yes c b (t .1)) i)))
-
       test : (t : Bool) (c : ℕ) (u : Bool) → eqb c b ≡ u → (t && u) ≡ (t && (has set c && u))
       test t c true d = rw (eqb-yes c b d, in-set) refl
       test t c false d = rw (and-false (has set c)) refl

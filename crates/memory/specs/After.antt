@@ -49,6 +49,10 @@ boxesOf s xs = boxIn (s .n) (s .j) xs
 abbrev pub linksOf : Setting → List ℕ → ℕ → ℕ → List Letter
 linksOf s ls = linkIn (s .n) (s .j) (s .l) ls
 
+-- the links, with the one from a to b changed by f
+abbrev pub linksBy : (List Letter → List Letter) → Setting → ℕ → ℕ → List ℕ → ℕ → ℕ → List Letter
+linksBy f s a b ls x y = cond (eqb x a && eqb y b) (f (linksOf s ls x y)) (linksOf s ls x y)
+
 -- the sizes are in range and `site` has a row for each box, which can be read
 pub record RowsLent (s : Setting) (xs : List ℕ) : Type 0 where
   pub sizes : sizesForm (s .n) (s .j) (s .l) ≡ true

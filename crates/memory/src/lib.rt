@@ -16,6 +16,7 @@ pub use general::has;
 pub use general::setting_of;
 pub use links::clear_links;
 pub use links::count;
+pub use links::double;
 pub use links::has_room;
 pub use links::head_start;
 pub use links::pop;

@@ -1,6 +1,6 @@
 // The links: their mails counted, read, taken and sent.
 ghost use mathlib.Core.Path.{_≡_};
-ghost use mathlib.Core.Bool.{true, false, _&&_, cond};
+ghost use mathlib.Core.Bool.{true, false, _&&_};
 ghost use mathlib.Core.List.{[], tail};
 ghost use Prim.Native.Nat.{_-_, _*_, _≤_, _<_};
 ghost use lib.Dec.{eqb};
@@ -9,13 +9,14 @@ ghost use Rattle.rules.specs.Every.{every};
 ghost use Rattle.rules.specs.Sizes.{sizesForm};
 ghost use Rattle.rules.specs.Sets.{has};
 ghost use Rattle.rules.specs.Box.{letterOf};
-ghost use Rattle.rules.specs.Site.{isBox, isLink, posted};
+ghost use Rattle.rules.specs.Site.{isBox, isLink, posted, twice};
 ghost use Rattle.rules.specs.declared.model.Out.{Out};
 ghost use Rattle.link.specs.Holds.{Sendable};
 ghost use Rattle.memory.specs.Memory.{linksWords};
 ghost use Rattle.memory.specs.After.{
   boxesOf,
   linksOf,
+  linksBy,
   RowsLent,
   LinksLent,
   LinkSet,
@@ -58,14 +59,27 @@ pub fn pop(links: &mut [u64], s: Setting, a: u32)
     requires { ⌜ isLink (s .n) a (s .me) ≡ true ⌝ }
     requires { ⌜ 0 < length (linksOf s (now links) a (s .me)) ⌝ }
     ensures { λ _.
-        ⌜ LinksPut s
-        (λ x y. cond (eqb x a && eqb y (s .me)) (tail (linksOf s (now (links .entry)) x y))
-        (linksOf s (now (links .entry)) x y))
+        ⌜ LinksPut s (linksBy tail s a (s .me) (now (links .entry)))
         (now (links .entry)) (now (links .exit)) ⌝ }
 {
     let start = places::link_start(s, a, s.me);
     let end = places::link_end(s, start);
     link::pop(&mut links[start..end], s.j, s.l);
+}
+
+// The first mail from a to me stands twice on its link.
+pub fn double(links: &mut [u64], s: Setting, a: u32)
+    requires { ⌜ LinksLent s (now links) ⌝ }
+    requires { ⌜ isLink (s .n) a (s .me) ≡ true ⌝ }
+    requires { ⌜ 0 < length (linksOf s (now links) a (s .me)) ⌝ }
+    requires { ⌜ length (linksOf s (now links) a (s .me)) < s .l ⌝ }
+    ensures { λ _.
+        ⌜ LinksPut s (linksBy twice s a (s .me) (now (links .entry)))
+        (now (links .entry)) (now (links .exit)) ⌝ }
+{
+    let start = places::link_start(s, a, s.me);
+    let end = places::link_end(s, start);
+    link::double(&mut links[start..end], s.j, s.l);
 }
 
 // No mail is left on link k, whatever its words were.

@@ -1,7 +1,8 @@
--- `memory::links::pop` meets its contract, by the law of a head that has left.
+-- `memory::links::pop` meets its contract, by the law of a link that is changed.
 use borrow.Author.Needs.{needs}
+use mathlib.Core.List.{tail}
 use Rattle.memory.specs.Memory.{linkIndex}
-use Rattle.memory.proofs.LinkLaws.{link-cut, link-some, pop-done}
+use Rattle.memory.proofs.LinkLaws.{link-cut, link-some, by-done}
 use Rattle.memory.proofs.links.pop.Statement.{statement}
 use Rattle.memory.proofs.links.pop.Tie as tie
 
@@ -21,8 +22,8 @@ returns c =
     let started = ended .before in
     let s = started .before .before in
     let t = s .args .s in
-    pop-done t (s .args .a) (t .me) (s .args .links .now) (s .pre .0) (s .pre .1 .0)
-    (started .link-start .ensures .0) (ended .link-end .ensures) (popped .pop .last .0)
+    by-done t (s .args .a) (t .me) (s .args .links .now) (s .pre .0) (s .pre .1 .0)
+    (started .link-start .ensures .0) (ended .link-end .ensures) tail (popped .pop .last .0)
     (popped .pop .ensures)
 
 pub pop-spec : {M : Type 1} → statement M
