@@ -61,9 +61,10 @@ word-starts s =
     (at-or Word.Return
     (at-or Word.Timeout
     (at-or Word.Lose
+    (at-or Word.Repeat
     (at-or Word.Mail
     (at-or Word.Holds
-    (record { start = refl })))))))))))))))
+    (record { start = refl }))))))))))))))))
 
 word-short : (w : Word) → length (wordBytes w) ≤ 8
 word-short Word.Site = omega arith
@@ -79,6 +80,7 @@ word-short Word.Stop = omega arith
 word-short Word.Return = omega arith
 word-short Word.Timeout = omega arith
 word-short Word.Lose = omega arith
+word-short Word.Repeat = omega arith
 word-short Word.Mail = omega arith
 word-short Word.Holds = omega arith
 word-short Word.Other = omega arith
@@ -101,6 +103,7 @@ line-parts Word.Stop n = (refl, refl)
 line-parts Word.Return n = (refl, refl)
 line-parts Word.Timeout n = (refl, refl)
 line-parts Word.Lose n = (refl, refl)
+line-parts Word.Repeat n = (refl, refl)
 line-parts Word.Mail n = (refl, refl)
 line-parts Word.Holds n = (refl, refl)
 line-parts Word.Other n = (refl, refl)
@@ -128,6 +131,7 @@ call-again (Call.Stop c) = (refl, λ t. refl, omega arith, omega arith)
 call-again (Call.Return c) = (refl, λ t. refl, omega arith, omega arith)
 call-again (Call.Timeout c) = (refl, λ t. refl, omega arith, omega arith)
 call-again (Call.Lose a b) = (refl, λ t. refl, omega arith, omega arith)
+call-again (Call.Repeat a b) = (refl, λ t. refl, omega arith, omega arith)
 call-again (Call.Deliver a b) = (refl, λ t. refl, omega arith, omega arith)
 
 again : (l : Line) → readable l ≡ true → Again l

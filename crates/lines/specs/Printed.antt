@@ -24,6 +24,7 @@ callWord (Call.Stop c) = Word.Stop
 callWord (Call.Return c) = Word.Return
 callWord (Call.Timeout c) = Word.Timeout
 callWord (Call.Lose a b) = Word.Lose
+callWord (Call.Repeat a b) = Word.Repeat
 callWord (Call.Deliver a b) = Word.Mail
 
 abbrev pub callNumbers : Call → List ℕ
@@ -39,6 +40,7 @@ callNumbers (Call.Stop c) = c ∷ []
 callNumbers (Call.Return c) = c ∷ []
 callNumbers (Call.Timeout c) = c ∷ []
 callNumbers (Call.Lose a b) = a ∷ b ∷ []
+callNumbers (Call.Repeat a b) = a ∷ b ∷ []
 callNumbers (Call.Deliver a b) = a ∷ b ∷ []
 
 abbrev pub lineWord : Line → Word

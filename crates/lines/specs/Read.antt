@@ -97,6 +97,7 @@ lineWith Word.Stop n = Line.Call (Call.Stop (n .d))
 lineWith Word.Return n = Line.Call (Call.Return (n .d))
 lineWith Word.Timeout n = Line.Call (Call.Timeout (n .d))
 lineWith Word.Lose n = Line.Call (Call.Lose (n .c) (n .d))
+lineWith Word.Repeat n = Line.Call (Call.Repeat (n .c) (n .d))
 lineWith Word.Mail n = Line.Call (Call.Deliver (n .c) (n .d))
 lineWith Word.Holds n = Line.Holds (n .a) (n .b) (n .c) (n .d)
 lineWith Word.Other n = Line.Unreadable

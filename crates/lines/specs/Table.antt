@@ -22,12 +22,13 @@ wordBytes Word.Stop = bytes "stop "
 wordBytes Word.Return = bytes "return "
 wordBytes Word.Timeout = bytes "timeout "
 wordBytes Word.Lose = bytes "lose "
+wordBytes Word.Repeat = bytes "repeat "
 wordBytes Word.Mail = bytes "mail "
 wordBytes Word.Holds = bytes "holds "
 wordBytes Word.Other = []
 
 -- how many numbers follow a word: "elect, recover, .. with c; offer c left right; mail a b; lose a
--- b; holds c k left right"; a line with no word has none
+-- b; holds c k left right", and "repeat a b" (Q-1); a line with no word has none
 abbrev pub arityOf : Word → ℕ
 arityOf Word.Site = 3
 arityOf Word.Elect = 1
@@ -42,6 +43,7 @@ arityOf Word.Stop = 1
 arityOf Word.Return = 1
 arityOf Word.Timeout = 1
 arityOf Word.Lose = 2
+arityOf Word.Repeat = 2
 arityOf Word.Mail = 2
 arityOf Word.Holds = 4
 arityOf Word.Other = 0
@@ -71,6 +73,7 @@ wordOf s =
     (orWord s Word.Return
     (orWord s Word.Timeout
     (orWord s Word.Lose
+    (orWord s Word.Repeat
     (orWord s Word.Mail
     (orWord s Word.Holds
-    Word.Other))))))))))))))
+    Word.Other)))))))))))))))

@@ -33,6 +33,7 @@ pub enum Word {
     Return,
     Timeout,
     Lose,
+    Repeat,
     Mail,
     Holds,
     Other,
@@ -103,6 +104,7 @@ fn word_at(s: &[u8]) -> Word
     let w = Word::Other;
     let w = or_word(b"holds ", s, Word::Holds, w);
     let w = or_word(b"mail ", s, Word::Mail, w);
+    let w = or_word(b"repeat ", s, Word::Repeat, w);
     let w = or_word(b"lose ", s, Word::Lose, w);
     let w = or_word(b"timeout ", s, Word::Timeout, w);
     let w = or_word(b"return ", s, Word::Return, w);
@@ -136,6 +138,7 @@ fn width(w: Word) -> usize
         Word::Return => 7,
         Word::Timeout => 8,
         Word::Lose => 5,
+        Word::Repeat => 7,
         Word::Mail => 5,
         Word::Holds => 6,
         Word::Other => 0,
@@ -160,6 +163,7 @@ fn arity(w: Word) -> u32
         Word::Return => 1,
         Word::Timeout => 1,
         Word::Lose => 2,
+        Word::Repeat => 2,
         Word::Mail => 2,
         Word::Holds => 4,
         Word::Other => 0,
@@ -293,6 +297,7 @@ fn line_with(w: Word, n: Numbers) -> Line
         Word::Return => Line::Call(Call::Return(n.d)),
         Word::Timeout => Line::Call(Call::Timeout(n.d)),
         Word::Lose => Line::Call(Call::Lose(n.c, n.d)),
+        Word::Repeat => Line::Call(Call::Repeat(n.c, n.d)),
         Word::Mail => Line::Call(Call::Deliver(n.c, n.d)),
         Word::Holds => Line::Holds(n.a, n.b, n.c, n.d),
         Word::Other => Line::Unreadable,

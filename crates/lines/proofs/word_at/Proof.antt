@@ -9,7 +9,8 @@ use Rattle.lines.proofs.word_at.Tie as tie
 returns : tie.Need-returns
 unfolding wordOf
 returns c =
-    let w14 = c .before .before in
+    let w15 = c .before .before in
+    let w14 = w15 .before .before in
     let w13 = w14 .before .before in
     let w12 = w13 .before .before in
     let w11 = w12 .before .before in
@@ -23,7 +24,8 @@ returns c =
     let w3 = w4 .before .before in
     let w2 = w3 .before .before in
     let w1 = w2 .before .before in
-    c .or-word15 .ensures ∙ ap (pick _ _) (
+    c .or-word16 .ensures ∙ ap (pick _ _) (
+    w15 .or-word15 .ensures ∙ ap (pick _ _) (
     w14 .or-word14 .ensures ∙ ap (pick _ _) (
     w13 .or-word13 .ensures ∙ ap (pick _ _) (
     w12 .or-word12 .ensures ∙ ap (pick _ _) (
@@ -37,12 +39,14 @@ returns c =
     w4 .or-word4 .ensures ∙ ap (pick _ _) (
     w3 .or-word3 .ensures ∙ ap (pick _ _) (
     w2 .or-word2 .ensures ∙ ap (pick _ _) (
-    w1 .or-word .ensures))))))))))))))
+    w1 .or-word .ensures)))))))))))))))
 
 pub word-at-spec : {M : Type 1} → statement M
 word-at-spec =
     tie.close
     (tie.spec
+    (λ c. search needs)
+    (λ c κs. search needs)
     (λ c. search needs)
     (λ c κs. search needs)
     (λ c. search needs)
