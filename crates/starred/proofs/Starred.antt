@@ -20,7 +20,7 @@ use Rattle.rules.specs.Last.{
   raised,
   counted,
   uncounted,
-  answered,
+  replied,
   lastVerdict,
   onLast,
 }
@@ -80,7 +80,7 @@ pub starred : each told stars ≡ true
 unfolding stars starBytes ones onesIn pick all each every tally sizesForm proper recordForm bit
     joined without digit has setForm fullSet inState inPhase newPn firstCause unless settled others
     isHeld underOf tookKept tookBook cleared noted heard behind lagging improves bettered raised
-    counted uncounted answered lastVerdict onLast unagreedOf onCollect beginVerdict onBegin
+    counted uncounted replied lastVerdict onLast unagreedOf onCollect beginVerdict onBegin
     acceptVerdict onAccept onCommit onLease ofKind onMail elected canRecover recover canCollect
     bestHeld collect started leased canReady hasPrevious ready canOffer offer canPropose propose
     canAgree agree canFinish finish acted heldAt written enclosed freshHead fresh posted room
