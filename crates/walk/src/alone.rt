@@ -117,6 +117,7 @@ fn event_of(call: Call) -> Event {
         Call::Return(_) => Event::Nothing,
         Call::Timeout(_) => Event::Nothing,
         Call::Lose(_, _) => Event::Nothing,
+        Call::Repeat(_, _) => Event::Nothing,
         Call::Deliver(a, b) => Event::Mail(a, b),
     }
 }
