@@ -1,4 +1,4 @@
-// The site: a fresh one, each of the thirteen calls, a holds line.
+// The site: a fresh one, each of the fourteen calls, a holds line.
 ghost use mathlib.Core.Path.{_≡_};
 ghost use Rattle.rules.specs.Numbers.{answerNumber};
 ghost use Rattle.rules.specs.declared.model.Call.{Call};
@@ -163,6 +163,16 @@ pub extern "C" fn journal_lose(site: &mut [u64], links: &mut [u64], a: u32, b: u
         (now (site .exit)) (now (links .exit)) r ⌝ }
 {
     stepped(site, links, Call::Lose(a, b))
+}
+
+// The head of the link from a to b stands twice.
+#[no_mangle]
+pub extern "C" fn journal_repeat(site: &mut [u64], links: &mut [u64], a: u32, b: u32) -> u32
+    ensures { λ r.
+        ⌜ Stepped (Call.Repeat a b) (now (site .entry)) (now (links .entry))
+        (now (site .exit)) (now (links .exit)) r ⌝ }
+{
+    stepped(site, links, Call::Repeat(a, b))
 }
 
 // The head of the link from a to b is handed over.
