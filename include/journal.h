@@ -10,8 +10,8 @@
  * a pointer and its length in words; a longer one is allowed, and the words past those needed are
  * never read or written. What C must see to, since no test can: a pointer is not null, not even
  * with the length 0; words are aligned to 8 bytes; the length is no more than is there; two arrays of
- * one call do not overlap (nor do the numbers behind `to` and `length`). What the words hold is tested by every call: words that are not by form
- * are refused with 1.
+ * one call do not overlap (nor do the numbers behind `to` and `length`). What the words hold is
+ * tested by every call: words that are not by form are refused with 1.
  *
  * ANSWERS. Every function but the two that count words answers one of these numbers. A refused call
  * (1 to 14) leaves every word as it was. A mail that is discarded (101 to 104) has left its link,
@@ -67,7 +67,7 @@ size_t journal_links_words(uint32_t n, uint32_t j, uint32_t l);
 uint32_t journal_fresh(uint64_t *site, size_t site_words, uint64_t *links, size_t links_words,
                        uint32_t n, uint32_t j, uint32_t l);
 
-/* The thirteen calls. Each can answer 1, 2 and 3 beside what stands with it, and 0 where it is
+/* The fourteen calls. Each can answer 1, 2 and 3 beside what stands with it, and 0 where it is
  * done. c is a box.
  *
  * elect: c alone leads; needs an odd epoch, c present, and a majority present.            4
@@ -78,9 +78,11 @@ uint32_t journal_fresh(uint64_t *site, size_t site_words, uint64_t *links, size_
  * propose: leader c starts the waiting pair under the next load number.                   7 8
  * agree: all present have accepted; the number is agreed, and the others are told.        8
  * finish: leader c is active again.                                                       8
- * stop, return: box c is switched off, comes back. Nothing stored is lost.                  5
+ * stop, return: box c is switched off, comes back. Nothing stored is lost.                5
  * timeout: box c misses its leader; an election is due.                                   5
- * lose: the head of the link from a to b is dropped.
+ * lose: the head of the link from a to b is dropped, in any epoch.
+ * repeat: the head of the link from a to b stands twice, the copy right behind it, in any
+ *         epoch: what a radio bridge does that hands a mail over again. (3: no mail)      8
  * deliver: the head of the link from a to b is handed to b.       6 9 8 100 101 102 103 104
  *          (not 0) A refused mail stays at the head. */
 uint32_t journal_elect(uint64_t *site, size_t site_words, uint64_t *links, size_t links_words,
@@ -107,6 +109,8 @@ uint32_t journal_timeout(uint64_t *site, size_t site_words, uint64_t *links, siz
                          uint32_t c);
 uint32_t journal_lose(uint64_t *site, size_t site_words, uint64_t *links, size_t links_words,
                       uint32_t a, uint32_t b);
+uint32_t journal_repeat(uint64_t *site, size_t site_words, uint64_t *links, size_t links_words,
+                        uint32_t a, uint32_t b);
 uint32_t journal_deliver(uint64_t *site, size_t site_words, uint64_t *links, size_t links_words,
                          uint32_t a, uint32_t b);
 
@@ -115,12 +119,14 @@ uint32_t journal_deliver(uint64_t *site, size_t site_words, uint64_t *links, siz
 uint32_t journal_holds(const uint64_t *site, size_t site_words, const uint64_t *links,
                        size_t links_words, uint32_t c, uint32_t k, uint32_t left, uint32_t right);
 
-/* A BOX BY ITSELF, for a program that runs one box and carries its mails by other means. `row` is
- * the box (JOURNAL_ROW_WORDS(j) words), `letter` a mail that came in, `out` a place for the mail
- * that goes out (JOURNAL_PLACE_WORDS(j) words each). n, j, l, epoch and present (box k as the value
- * 2^(k-1)) are the site's, me is the box's own number. Where the call is done or the mail is taken,
- * *to is the set of boxes that the letter in `out` is for, or 0, and then `out` is as it was; where
- * the mail is discarded *to is 0; where the call is refused *to stays too.
+/* A BOX BY ITSELF, for a program that runs one box and carries its mails by other means. These may
+ * lose mail and hand it over more than once, but none after the next election; they neither alter
+ * it nor change its order. Agreement rests on that. `row` is the box (JOURNAL_ROW_WORDS(j) words),
+ * `letter` a mail that came in, `out` a place for the mail that goes out (JOURNAL_PLACE_WORDS(j)
+ * words each). n, j, l, epoch and present (box k as the value 2^(k-1)) are the site's, me is the
+ * box's own number. Where the call is done or the mail is taken, *to is the set of boxes that the
+ * letter in `out` is for, or 0, and then `out` is as it was; where the mail is discarded *to is 0;
+ * where the call is refused *to stays too.
  *
  * A fresh box is a row of 0, but 4,294,967,295 in its words 14 to 18 (the peers' lasts are
  * unknown). An election, who is present and the links are the caller's part: when box c is elected,

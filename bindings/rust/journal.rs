@@ -127,6 +127,14 @@ mod c {
         pub fn journal_return(s: *mut u64, sn: usize, l: *mut u64, ln: usize, c: u32) -> u32;
         pub fn journal_timeout(s: *mut u64, sn: usize, l: *mut u64, ln: usize, c: u32) -> u32;
         pub fn journal_lose(s: *mut u64, sn: usize, l: *mut u64, ln: usize, a: u32, b: u32) -> u32;
+        pub fn journal_repeat(
+            s: *mut u64,
+            sn: usize,
+            l: *mut u64,
+            ln: usize,
+            a: u32,
+            b: u32,
+        ) -> u32;
         pub fn journal_deliver(
             s: *mut u64,
             sn: usize,
@@ -354,6 +362,8 @@ calls! {
     timeout = journal_timeout(c) -> (), done;
     /// The head of the link from a to b is dropped.
     lose = journal_lose(a, b) -> (), done;
+    /// The head of the link from a to b stands twice.
+    repeat = journal_repeat(a, b) -> (), done;
     /// The head of the link from a to b is handed over.
     deliver = journal_deliver(a, b) -> Mail, mailed;
 }

@@ -36,8 +36,16 @@ fn main() {
     s.elect(1).unwrap();
     s.recover(1).unwrap();
     s.collect(1).unwrap();
-    assert_eq!(s.deliver(1, 2), Ok(Mail::Taken));
-    assert_eq!(s.deliver(2, 1), Ok(Mail::Taken));
+    assert_eq!(s.repeat(1, 1), Err(Refusal::Box));
+    assert_eq!(s.repeat(2, 1), Err(Refusal::Condition));
+    for _ in 1..8 {
+        s.repeat(1, 2).unwrap();
+    }
+    assert_eq!(s.repeat(1, 2), Err(Refusal::Link));
+    for _ in 0..8 {
+        assert_eq!(s.deliver(1, 2), Ok(Mail::Taken));
+        assert_eq!(s.deliver(2, 1), Ok(Mail::Taken));
+    }
     s.ready(1).unwrap();
     assert_eq!(s.offer(1, 0, 72), Err(Refusal::Frame));
     s.offer(1, 71, 72).unwrap();

@@ -127,6 +127,7 @@ static void short_arrays(void) {
         SITE(JOURNAL_SIZES, journal_fresh(ON, 3, 4, 17));
         SITE(JOURNAL_FORM, journal_elect(ON, 9));
         SITE(JOURNAL_FORM, journal_deliver(ON, 1, 1));
+        SITE(JOURNAL_FORM, journal_repeat(ON, 1, 1));
         SITE(JOURNAL_FORM, journal_holds(ON, 9, 0, 0, 0));
     }
     site.lent = 77, links.lent = 120;
@@ -154,11 +155,14 @@ static void box_numbers(void) {
         SITE(JOURNAL_BOX, journal_timeout(ON, c));
         SITE(JOURNAL_BOX, journal_lose(ON, c, 1));
         SITE(JOURNAL_BOX, journal_lose(ON, 1, c));
+        SITE(JOURNAL_BOX, journal_repeat(ON, c, 1));
+        SITE(JOURNAL_BOX, journal_repeat(ON, 1, c));
         SITE(JOURNAL_BOX, journal_deliver(ON, c, 1));
         SITE(JOURNAL_BOX, journal_deliver(ON, 1, c));
         SITE(JOURNAL_BOX, journal_holds(ON, c, 1, 7, 8));
     }
     SITE(JOURNAL_BOX, journal_lose(ON, 2, 2));
+    SITE(JOURNAL_BOX, journal_repeat(ON, 1, 1));
     SITE(JOURNAL_BOX, journal_deliver(ON, 3, 3));
     SITE(JOURNAL_FRAME, journal_offer(ON, 1, 0, 7));
     SITE(JOURNAL_FRAME, journal_offer(ON, 1, 7, 0));
@@ -221,6 +225,49 @@ static void each_call(void) {
     SITE(JOURNAL_NEW_PN, journal_recover(ON, 2));
     site.words[5 + 21 + 1] = UINT64_MAX; /* its state */
     SITE(JOURNAL_FORM, journal_recover(ON, 2));
+    release_site();
+}
+
+/* Link 1 to 2, with room for two, holds one mail twice; the mail has no records. */
+static void twice(int line) {
+    const uint64_t *place = links.words + 2;
+    check(line, "mails", links.words[1], 2);
+    check(line, "a copy", memcmp(place, place + JOURNAL_PLACE_WORDS(1), sizeof(uint64_t[5])), 0);
+}
+
+/* A mail stands twice, in either parity; a box that is heard twice does not stand for two. */
+static void repeats(void) {
+    lend_site(3, 1, 2);
+    SITE(JOURNAL_DONE, journal_fresh(ON, 3, 1, 2));
+    SITE(JOURNAL_CONDITION, journal_repeat(ON, 1, 2));
+    SITE(JOURNAL_DONE, journal_elect(ON, 1));
+    SITE(JOURNAL_DONE, journal_recover(ON, 1));
+    SITE(JOURNAL_DONE, journal_collect(ON, 1));
+    WORD(site, 5 + 9, 1);
+    SITE(JOURNAL_CONDITION, journal_repeat(ON, 2, 1));
+    SITE(JOURNAL_DONE, journal_repeat(ON, 1, 2));
+    twice(__LINE__);
+    SITE(JOURNAL_LINK, journal_repeat(ON, 1, 2));
+    SITE(JOURNAL_TAKEN, journal_deliver(ON, 1, 2));
+    SITE(JOURNAL_TAKEN, journal_deliver(ON, 1, 2));
+    SITE(JOURNAL_TAKEN, journal_deliver(ON, 2, 1));
+    SITE(JOURNAL_TAKEN, journal_deliver(ON, 2, 1));
+    WORD(site, 5 + 9, 3);
+    SITE(JOURNAL_CONDITION, journal_ready(ON, 1));
+    SITE(JOURNAL_TAKEN, journal_deliver(ON, 1, 3));
+    SITE(JOURNAL_DONE, journal_repeat(ON, 3, 1));
+    SITE(JOURNAL_TAKEN, journal_deliver(ON, 3, 1));
+    WORD(site, 5 + 9, 7);
+    SITE(JOURNAL_TAKEN, journal_deliver(ON, 3, 1)); /* all have answered: taken all the same */
+    WORD(site, 5 + 9, 7);
+    SITE(JOURNAL_DONE, journal_ready(ON, 1));
+    SITE(JOURNAL_DONE, journal_timeout(ON, 1));
+    SITE(JOURNAL_DONE, journal_repeat(ON, 1, 2));
+    twice(__LINE__);
+    site.words[5 + 9] = 8; /* box 4 has answered, and there are three */
+    SITE(JOURNAL_FORM, journal_repeat(ON, 1, 3));
+    site.words[5 + 9] = 0;
+    SITE(JOURNAL_DONE, journal_repeat(ON, 1, 3));
     release_site();
 }
 
@@ -306,7 +353,8 @@ static void own_boxes(void) {
     WORD(out, 0, 2), WORD(row, 3, 101);
     PUT(2), CARRY(), BOX(1);
     OWN(JOURNAL_TAKEN, 0, journal_own_mail(MAIL, TOLD, 1, 2));
-    OWN(JOURNAL_DISCARDED_PHASE, 0, journal_own_mail(MAIL, TOLD, 1, 2));
+    OWN(JOURNAL_TAKEN, 0, journal_own_mail(MAIL, TOLD, 1, 2)); /* heard again: taken again */
+    WORD(row, 9, BOTH);
     OWN(JOURNAL_DONE, 2, journal_own_ready(ROW, TOLD, 1));
     OWN(JOURNAL_FRAME, 0, journal_own_offer(ROW, TOLD, 1, 7, 0));
     OWN(JOURNAL_DONE, 0, journal_own_offer(ROW, TOLD, 1, 7, 8));
@@ -358,6 +406,9 @@ static void largest(void) {
         SITE(JOURNAL_TAKEN, journal_deliver(ON, b, 1));
     }
     SITE(JOURNAL_DONE, journal_agree(ON, 1));
+    for (uint32_t i = 1; i < 16; i++) SITE(JOURNAL_DONE, journal_repeat(ON, 1, 2));
+    SITE(JOURNAL_LINK, journal_repeat(ON, 1, 2));
+    for (uint32_t i = 1; i < 16; i++) SITE(JOURNAL_TAKEN, journal_deliver(ON, 1, 2));
     for (uint32_t b = 2; b <= 5; b++) SITE(JOURNAL_TAKEN, journal_deliver(ON, 1, b));
     for (uint32_t b = 1; b <= 5; b++)
         SITE(JOURNAL_DONE, journal_holds(ON, b, 4096, UINT32_MAX, UINT32_MAX));
@@ -528,6 +579,7 @@ int main(void) {
     short_arrays();
     box_numbers();
     each_call();
+    repeats();
     mails();
     own_boxes();
     largest();
