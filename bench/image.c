@@ -46,7 +46,7 @@ static u8 *put_entry(u8 *p, u64 *offset, u64 length) {
 
 static u8 *put_box(u8 *p, const struct site *s, const struct camera *b) {
     u32 head[] = {b->leads, b->state, b->phase, b->pn, b->last, b->stored_pn, b->stored_number,
-                  b->best_pn, b->best_number, b->replies, b->accepts};
+                  b->best_pn, b->best_number, b->answered, b->accepts};
     for (u32 i = 0; i < 11; i++) p = put(p, head[i]);
     u64 three[] = {b->best, b->waiting, b->agreeing};
     p = put_records(p, three, 3);
@@ -111,7 +111,7 @@ static void get_records(struct rest *r, u64 *records, u32 count) {
 static void get_box(struct rest *r, const struct site *s, struct camera *b) {
     b->leads = get(r), b->state = get(r), b->phase = get(r), b->pn = get(r), b->last = get(r);
     b->stored_pn = get(r), b->stored_number = get(r), b->best_pn = get(r), b->best_number = get(r);
-    b->replies = get(r), b->accepts = get(r);
+    b->answered = get(r), b->accepts = get(r);
     get_records(r, &b->best, 1), get_records(r, &b->waiting, 1), get_records(r, &b->agreeing, 1);
     for (u32 k = 0; k < s->n; k++) b->peers[k] = get(r);
     b->held = get_count(r, s->j);
@@ -171,7 +171,7 @@ static u32 box_by_form(const struct site *s, u32 c) {
     u32 j = s->j, fine = b->leads <= 1 && b->state <= REFRESH && b->phase <= COMMIT_PHASE;
     fine &= b->pn <= HIGHEST_PN && b->stored_pn <= HIGHEST_PN && b->best_pn <= HIGHEST_PN;
     fine &= b->last <= j && b->stored_number <= j && b->best_number <= j && b->held <= j;
-    fine &= b->replies <= s->n && !(b->accepts >> s->n);
+    fine &= !(b->answered >> s->n) && !(b->accepts >> s->n);
     fine &= !b->best || proper(b->best);
     fine &= !b->waiting || proper(b->waiting);
     fine &= !b->agreeing || proper(b->agreeing);

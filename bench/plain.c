@@ -46,6 +46,19 @@ static void drop_head(struct site *s, struct link *link) {
     link->count--;
 }
 
+/* The head stands twice: the first place steps back by one, and the mail is copied there. */
+static u32 repeat(struct site *s, struct link *link) {
+    if (!link->count) return 3;
+    if (link->count == s->l) return 8;
+    const struct mail *head = &link->mails[link->first];
+    link->first = link->first == 0 ? s->l - 1 : link->first - 1;
+    struct mail *m = &link->mails[link->first];
+    __builtin_memcpy(m, head, __builtin_offsetof(struct mail, records));
+    copy(m->records, head->records, head->count);
+    link->count++;
+    return DONE;
+}
+
 static void put_unagreed(struct camera *b, u64 r, u32 pn) {
     b->records[b->last] = r;
     b->held = b->stored_number = b->last + 1;
@@ -114,7 +127,7 @@ static u32 collect(struct site *s, u32 c, struct camera *b) {
     if (b->state != RECOVERING || b->phase != SEND_COLLECT) return 3;
     if (full(s, c, others(s, c))) return 8;
     forget_peers(s, b);
-    b->replies = 1;
+    b->answered = 1u << (c - 1);
     if (b->held > b->last)
         b->best_pn = unagreed_pn(b), b->best_number = b->last + 1, b->best = b->records[b->last];
     else
@@ -141,7 +154,7 @@ static u32 start(struct site *s, u32 c, struct camera *b, u64 r) {
 }
 
 static u32 ready(struct site *s, u32 c, struct camera *b) {
-    if (b->phase != COLLECT_PHASE || b->replies != ones(s->present)) return 3;
+    if (b->phase != COLLECT_PHASE || b->answered != s->present) return 3;
     if (full(s, c, others(s, c))) return 8;
     forget_peers(s, b);
     if (b->best_number != b->last + 1 || b->best == 0) return lease(s, c, b);
@@ -202,7 +215,7 @@ static u32 hear(struct camera *b, const struct mail *m) {
 
 static u32 on_last(struct site *s, u32 from, u32 c, struct camera *b, const struct mail *m) {
     if (!b->leads) return ROLE;
-    if (b->phase != COLLECT_PHASE || b->replies >= ones(s->present)) return PHASE;
+    if (b->phase != COLLECT_PHASE) return PHASE;
     if (m->pn > b->pn && new_pn(m->pn, c) > HIGHEST_PN) return 6;
     u32 last = m->last > b->last ? m->last : b->last, lagging = 0;
     for (u32 k = 1; k <= s->n; k++) {
@@ -218,7 +231,7 @@ static u32 on_last(struct site *s, u32 from, u32 c, struct camera *b, const stru
     if (m->pn > b->pn)
         b->pn = new_pn(m->pn, c), b->phase = SEND_COLLECT;
     else if (m->pn == b->pn)
-        b->replies++, became = hear(b, m);
+        b->answered |= 1u << (from - 1), became = hear(b, m);
     if (!became) clear_stale_best(b);
     return TAKEN;
 }
@@ -289,6 +302,9 @@ u32 step(struct site *s, u32 call, u32 c, u32 x, u32 y) {
         if (!link_of(s, c, x)->count) return 3;
         drop_head(s, link_of(s, c, x));
         return DONE;
+    case REPEAT:
+        if (x < 1 || x > s->n || x == c) return 2;
+        return repeat(s, link_of(s, c, x));
     case DELIVER:
         if (x < 1 || x > s->n || x == c) return 2;
         return deliver(s, c, x);

@@ -22,7 +22,7 @@ enum { RECOVERING, ACTIVE, UPDATING, UPDATING_PREVIOUS, REFRESH };
 enum { ELECTION, SEND_COLLECT, COLLECT_PHASE, LEASE_PHASE, BEGIN_PHASE, COMMIT_PHASE };
 enum { COLLECT = 1, LAST, BEGIN, ACCEPT, COMMIT, LEASE };
 enum { ELECT, RECOVER, COLLECT_CALL, READY, PROPOSE, AGREE, FINISH, STOP, RETURN, TIMEOUT,
-       OFFER, LOSE, DELIVER, HOLDS, SITE };
+       OFFER, LOSE, REPEAT, DELIVER, HOLDS, SITE };
 enum { DONE = 0, TAKEN = 100, ROLE, PHASE, NUMBER, PLACE };
 
 struct mail {
@@ -37,7 +37,7 @@ struct link {
 
 struct camera {
     u32 leads, state, phase, pn, last, stored_pn, stored_number, best_pn, best_number;
-    u32 replies, accepts;
+    u32 answered, accepts;
     u64 best, waiting, agreeing;
     u32 peers[N_MAX];
     u32 held;

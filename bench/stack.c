@@ -46,6 +46,7 @@ static void recover(void) { must(journal_recover(LENT, 1), 0); }
 static void collect(void) { must(journal_collect(LENT, 1), 0); }
 static void deliver(void) { must(journal_deliver(LENT, 1, 2), 100); }
 static void answer(void) { must(journal_deliver(LENT, 2, 1), 100); }
+static void repeat(void) { must(journal_repeat(LENT, 1, 3), 0); }
 static void lose(void) { must(journal_lose(LENT, 1, 3), 0); }
 static void stop(void) { must(journal_stop(LENT, 5), 0); }
 static void asked(void) { must(journal_holds(LENT, 1, 1, 7, 8), 14); }
@@ -73,10 +74,11 @@ int main(void) {
         {"journal_fresh", fresh_site},         {"journal_elect", elect},
         {"journal_recover", recover},          {"journal_collect", collect},
         {"journal_deliver, a Collect", deliver}, {"journal_deliver, a Last", answer},
-        {"journal_lose", lose},                {"journal_holds", asked},
-        {"journal_stop", stop},                {"journal_own_recover", own_recover},
-        {"journal_own_mail", own_mail},        {"journal_image_length", image_size},
-        {"journal_write", written},        {"journal_read", taken},
+        {"journal_repeat", repeat},            {"journal_lose", lose},
+        {"journal_holds", asked},              {"journal_stop", stop},
+        {"journal_own_recover", own_recover},  {"journal_own_mail", own_mail},
+        {"journal_image_length", image_size},  {"journal_write", written},
+        {"journal_read", taken},
     };
     for (u32 i = 0; i < sizeof entries / sizeof *entries; i++)
         printf("%s\t%lu\n", entries[i].name, depth_of(entries[i].act));
