@@ -1,32 +1,30 @@
--- The site's own calls: elections, stops, returns, timeouts and lost mail.
+-- The site's own calls: elections, stops, returns, timeouts, mail that is lost or repeated.
 use Prim.Native.Nat.{ℕ, _+_, _*_, _≤_}
 use mathlib.Core.Path.{_≡_, refl, sym, ap, _∙_, subst}
-use mathlib.Core.Bool.{true, _&&_, cond}
-use mathlib.Core.List.{List, [], tail}
+use mathlib.Core.Bool.{true}
+use mathlib.Core.List.{List, []}
 use native.Mathlib.Omega.{arith}
-use lib.Dec.{eqb}
 use lib.ListN.{length, set}
-use Rattle.rules.specs.Site.{Site, Outcome, isLink}
+use Rattle.rules.specs.Box.{Letter}
+use Rattle.rules.specs.Site.{Site, Outcome, relinked}
 use Rattle.rules.specs.Needs.{Need, ruled}
-use Rattle.rules.specs.Step.{refused, did, elect, presented, risen, step}
+use Rattle.rules.specs.Step.{refused, did, elect, presented, risen}
 use Rattle.rules.specs.declared.model.Answer.{Answer}
-use Rattle.rules.specs.declared.model.Call.{Call}
 use Rattle.rules.specs.declared.model.Refusal.{Refusal}
 use Rattle.rules.specs.declared.model.Setting.{Setting}
 use Rattle.rules.specs.declared.model.Verdict.{Verdict}
 use Rattle.laws.proofs.Logic.{true≠false}
 use Rattle.memory.specs.Memory.{rowWidth, pastSite, pastLinks, siteOf, readable}
 use Rattle.memory.specs.Memory.{memoryForm}
-use Rattle.memory.specs.After.{settingAt, linksOf, RowsPut, LinksPut}
+use Rattle.memory.specs.After.{settingAt, linksBy, RowsPut, LinksPut}
 use Rattle.memory.proofs.LentLaws.{form-readable, setting-same, readable-rows, readable-made}
 use Rattle.site.specs.General.{generalPut, withGeneral}
 use Rattle.site.proofs.GeneralLaws.{general-length, general-past, general-put}
 use Rattle.site.proofs.GeneralLaws.{general-readable}
 use Rattle.site.specs.Entries.{After}
 use Rattle.site.specs.Verdicts.{verdictOf}
-use Rattle.rules.specs.Step.{loseNeeds}
 use Rattle.site.proofs.AfterLaws.{refused-after, changed-after, rows-same, site-changed}
-use Rattle.site.proofs.CallLaws.{verdict-go, verdict-refuse, lose-needs}
+use Rattle.site.proofs.CallLaws.{verdict-refuse}
 
 module _ (xs ls : List ℕ) (f : memoryForm xs ls ≡ true) where
   abbrev s : Site
@@ -92,16 +90,12 @@ module _ (xs ls : List ℕ) (f : memoryForm xs ls ≡ true) where
         (rw (setting-same xs xs' c (rows .general)) (links .lent)));
   }
 
-  -- ---- a lost mail
+  -- ---- one link changed
 
-  pub lost-after : (a b : ℕ) (ls' : List ℕ) (v : Verdict) → isLink (at b .n) a b ≡ true
-      → v ≡ verdictOf (loseNeeds (linksOf (at b) ls a b))
-      → v ≡ Verdict.Go
-      → LinksPut (at b) (λ x y. cond (eqb x a && eqb y b) (tail (linksOf (at b) ls x y))
-      (linksOf (at b) ls x y)) ls ls'
-      → After (step s (Call.Lose a b)) xs ls xs ls' Answer.Done
+  pub relinked-after : (g : List Letter → List Letter) (a b : ℕ) (o : Outcome) (ls' : List ℕ)
+      → o ≡ did (relinked g s a b) → LinksPut (at b) (linksBy g (at b) a b ls) ls ls'
+      → After o xs ls xs ls' Answer.Done
   unfolding siteOf
-  lost-after a b ls' v h p q links =
-      changed-after xs ls xs ls' b _ _ _ Answer.Done
-      (lose-needs xs ls f a b h ∙ verdict-go _ _ _ (sym p ∙ q))
-      refl (rows-same xs ls b (form-readable xs ls f)) links
+  relinked-after g a b o ls' e links =
+      changed-after xs ls xs ls' b _ _ _ Answer.Done e refl
+      (rows-same xs ls b (form-readable xs ls f)) links

@@ -5,7 +5,7 @@ use mathlib.Core.Bool.{Bool, true, false, cond}
 use mathlib.Core.List.{List, [], _∷_}
 use native.Mathlib.Omega.{arith}
 use Rattle.rules.specs.Box.{Letter, own, mail, turnOf}
-use Rattle.rules.specs.Site.{Site, Outcome, isBox, isLink, popped}
+use Rattle.rules.specs.Site.{Site, Outcome, isBox, isLink, popped, doubled}
 use Rattle.rules.specs.Form.{form}
 use Rattle.rules.specs.Needs.{Need, need, ruled}
 use Rattle.rules.specs.Step.{refused, did, byTurn, atBox, atLink, acting, delivered, elect}
@@ -22,6 +22,7 @@ use Rattle.memory.specs.After.{settingAt, boxesOf}
 use Rattle.memory.proofs.LentLaws.{form-site}
 use Rattle.site.specs.Verdicts.{verdictOf}
 use Rattle.rules.specs.Step.{electNeeds, stopNeeds, returnNeeds, timeoutNeeds, loseNeeds}
+use Rattle.rules.specs.Step.{repeatNeeds}
 use Rattle.site.proofs.AfterLaws.{no-needs, need-met, need-not}
 
 -- ---- needs as a verdict
@@ -168,6 +169,17 @@ module _ (xs ls : List ℕ) (f : memoryForm xs ls ≡ true) where
         → step s (Call.Lose a b) ≡ ruled (refused s) (loseNeeds (s .link a b)) (did (popped s a b))
     unfolding step
     lose-needs h = at-link a b _ _ h
+
+    pub repeat-no-link : isLink (s .n) a b ≡ false
+        → step s (Call.Repeat a b) ≡ refused s Refusal.Box
+    unfolding step
+    repeat-no-link h = no-link a b _ _ h
+
+    pub repeat-needs : isLink (s .n) a b ≡ true
+        → step s (Call.Repeat a b)
+        ≡ ruled (refused s) (repeatNeeds (s .L) (s .link a b)) (did (doubled s a b))
+    unfolding step
+    repeat-needs h = at-link a b _ _ h
 
     pub deliver-no-link : isLink (s .n) a b ≡ false
         → step s (Call.Deliver a b) ≡ refused s Refusal.Box

@@ -1,24 +1,22 @@
 -- What the code knows of a mail at the head of a link of words by form.
-use Prim.Native.Nat.{ℕ, zero, suc, _+_, _-_, _<_}
+use Prim.Native.Nat.{ℕ, zero, suc, _+_, _-_, _≤_, _<_}
 use mathlib.Core.Path.{_≡_, refl, sym, ap, _∙_, subst}
 use mathlib.Core.Bool.{Bool, true, false, not, _&&_, _||_, cond}
-use mathlib.Core.List.{List, [], _∷_, tail}
+use mathlib.Core.List.{List, _∷_, tail}
 use native.Mathlib.Omega.{arith}
 use lib.Dec.{eqb, ltb}
 use lib.ListN.{length, getD}
-use borrow.Author.Tests.{ne-eqb, not-true, not-false}
+use borrow.Author.Tests.{ne-eqb, lt-ltb, le-ltb, not-true, not-false}
 use Rattle.words.specs.Rows.{part}
 use Rattle.rules.specs.Every.{every}
 use Rattle.rules.specs.Sets.{has}
 use Rattle.rules.specs.Box.{Box, Letter, mail, turned}
-use Rattle.rules.specs.Site.{isBox, isLink, upd, posted, room, popped}
+use Rattle.rules.specs.Site.{isBox, isLink, upd, posted, room, popped, twice}
 use Rattle.rules.specs.Form.{formLetter}
-use Rattle.rules.specs.Needs.{need}
 use Rattle.rules.specs.Step.{step}
 use Rattle.rules.specs.declared.model.Answer.{Answer}
 use Rattle.rules.specs.declared.model.Call.{Call}
 use Rattle.rules.specs.declared.model.Refusal.{Refusal}
-use Rattle.rules.specs.declared.model.Verdict.{Verdict}
 use Rattle.rules.specs.declared.model.Out.{Out}
 use Rattle.rules.specs.declared.model.Setting.{Setting}
 use Rattle.rules.specs.declared.model.Turn.{Turn}
@@ -29,25 +27,19 @@ use Rattle.laws.proofs.TurnForm.{EventFits}
 use Rattle.place.specs.Place.{letterAt, placeForm}
 use Rattle.link.specs.Link.{placeWidth}
 use Rattle.memory.specs.Memory.{siteOf, memoryForm}
-use Rattle.memory.specs.After.{settingAt, boxesOf, linksOf, RowsPut, LinksPut}
+use Rattle.memory.specs.After.{settingAt, boxesOf, linksOf, linksBy, RowsPut, LinksPut}
 use Rattle.memory.specs.After.{HeadStands, Playable}
 use Rattle.site.specs.Carry.{roomOut, lessHead, Posts, TakesMail, Knows, Carried}
 use Rattle.site.specs.Entries.{After}
-use Rattle.site.specs.Verdicts.{verdictOf}
-use Rattle.site.proofs.AfterLaws.{need-not, refused-after}
-use Rattle.site.proofs.CallLaws.{lose-needs}
-use Rattle.site.proofs.CallAfter.{lost-after}
+use Rattle.site.proofs.AfterLaws.{no-needs, need-met, need-not, refused-after}
+use Rattle.site.proofs.CallLaws.{lose-needs, repeat-needs}
+use Rattle.site.proofs.CallAfter.{relinked-after}
 use Rattle.site.proofs.KnownLaws.{formed}
 use Rattle.site.proofs.CarryLaws.{playable, posts-after, sent-after}
 
 positive : (n : ℕ) → (n ≡ 0 → ⊥) → 0 < n
 positive zero k = absurd (k refl)
 positive (suc n) k = omega arith
-
--- a single need that is met
-only-go : (why : Refusal) (t : Bool) → t ≡ true → verdictOf (need why t ∷ []) ≡ Verdict.Go
-unfolding verdictOf
-only-go why t e = rw e refl
 
 -- ---- a test of two numbers
 
@@ -59,9 +51,6 @@ module _ (xs : List ℕ) (a b : ℕ) (s : Setting) (e : s ≡ settingAt xs b) wh
   pub link-not : (r : Bool) → r ≡ isLink (s .n) a b → not r ≡ true
       → isLink (getD xs 0 0) a b ≡ false
   link-not r p q = ap (λ (k : Setting). isLink (k .n) a b) (sym e) ∙ sym p ∙ not-true r q
-
-  pub link-said : isLink (getD xs 0 0) a b ≡ true → isLink (s .n) a (s .me) ≡ true
-  link-said h = rw e h
 
   pub link-count : (ls : List ℕ) (n : ℕ) → n ≡ length (linksOf s ls a b)
       → n ≡ length (linksOf (settingAt xs b) ls a b)
@@ -154,36 +143,87 @@ module _ (xs : List ℕ) (a b : ℕ) (s : Setting) (e : s ≡ settingAt xs b) wh
       → length (linksOf (settingAt xs b) ls a b) ≡ 0
   count-none ls n h z = sym (link-count xs a b s e ls n h) ∙ z
 
-module _ (xs ls : List ℕ) (f : memoryForm xs ls ≡ true) (a b : ℕ) where
-  module _ (s : Setting) (e : s ≡ settingAt xs b) (is : isLink (getD xs 0 0) a b ≡ true) (n : ℕ)
-      (h : n ≡ length (linksOf s ls a b)) (z : n ≡ 0 → ⊥) where
-    some : 0 < length (linksOf (settingAt xs b) ls a b)
-    some = omega (arith, link-count xs a b s e ls n h, positive n z)
+-- the link is empty
+module _ (xs ls : List ℕ) (f : memoryForm xs ls ≡ true) (a b : ℕ)
+    (is : isLink (getD xs 0 0) a b ≡ true)
+    (z : length (linksOf (settingAt xs b) ls a b) ≡ 0) where
+  no-head : not (eqb (length (linksOf (settingAt xs b) ls a b)) 0) ≡ false
+  no-head = ap (λ (k : ℕ). not (eqb k 0)) z
 
-    -- the mail at the head, as the code that takes it wants to know of it
-    pub known-mail : Knows s xs ls × ((isLink (s .n) a (s .me) ≡ true)
-        × (0 < length (linksOf s ls a (s .me))))
-    known-mail = rw e (record { form = f; setting = refl }, (is, some))
-
-  pub lost-empty : isLink (getD xs 0 0) a b ≡ true → length (linksOf (settingAt xs b) ls a b) ≡ 0
-      → After (step (siteOf xs ls) (Call.Lose a b)) xs ls xs ls (Answer.Refused Refusal.Condition)
+  pub lost-empty : After (step (siteOf xs ls) (Call.Lose a b)) xs ls xs ls
+      (Answer.Refused Refusal.Condition)
   unfolding siteOf
-  lost-empty is z =
+  lost-empty =
       refused-after xs ls Refusal.Condition _
-      (lose-needs xs ls f a b is ∙ need-not _ _ _ _ _ (ap (λ (k : ℕ). not (eqb k 0)) z))
+      (lose-needs xs ls f a b is ∙ need-not _ _ _ _ _ no-head)
 
-  pub lost-known : (s : Setting) → s ≡ settingAt xs b → isLink (getD xs 0 0) a b ≡ true
-      → (n : ℕ) (ls' : List ℕ)
-      → n ≡ length (linksOf s ls a b) → (n ≡ 0 → ⊥) → LinksPut s (lessHead s a ls) ls ls'
+  pub repeated-empty : After (step (siteOf xs ls) (Call.Repeat a b)) xs ls xs ls
+      (Answer.Refused Refusal.Condition)
+  unfolding siteOf
+  repeated-empty =
+      refused-after xs ls Refusal.Condition _
+      (repeat-needs xs ls f a b is ∙ need-not _ _ _ _ _ no-head)
+
+-- the link holds n mails, at least one
+module _ (xs ls : List ℕ) (f : memoryForm xs ls ≡ true) (a b : ℕ) (s : Setting)
+    (e : s ≡ settingAt xs b) (is : isLink (getD xs 0 0) a b ≡ true) (n : ℕ)
+    (h : n ≡ length (linksOf s ls a b)) (z : n ≡ 0 → ⊥) where
+  abbrev mails : ℕ
+  mails = length (linksOf (settingAt xs b) ls a b)
+
+  held : n ≡ mails
+  held = link-count xs a b s e ls n h
+
+  -- the mail at the head, as the code that takes it wants to know of it
+  pub known-mail : Knows s xs ls × ((isLink (s .n) a (s .me) ≡ true)
+      × (0 < length (linksOf s ls a (s .me))))
+  known-mail =
+      let some : 0 < mails = omega (arith, held, positive n z) in
+      rw e (record { form = f; setting = refl }, (is, some))
+
+  some-head : not (eqb mails 0) ≡ true
+  some-head = ap (λ (k : ℕ). not (eqb k 0)) (sym held) ∙ ap not (ne-eqb n 0 z)
+
+  pub lost-known : {ls' : List ℕ} → LinksPut s (lessHead s a ls) ls ls'
       → After (step (siteOf xs ls) (Call.Lose a b)) xs ls xs ls' Answer.Done
   unfolding siteOf
-  lost-known s e is n ls' h z put =
-      lost-after xs ls f a b ls' Verdict.Go is
-      (sym (only-go Refusal.Condition _
-      (ap (λ (k : ℕ). not (eqb k 0)) (sym (link-count xs a b s e ls n h)) ∙ ap not
-      (ne-eqb n 0 z))))
-      refl
+  lost-known {ls'} put =
+      relinked-after xs ls f tail a b _ ls'
+      (lose-needs xs ls f a b is ∙ need-met _ _ _ _ _ some-head ∙ no-needs _ _)
       (subst (λ (k : Setting). LinksPut k (lessHead k a ls) ls ls') e put)
+
+  -- the room that it has
+  most : s .l ≡ settingAt xs b .l
+  most = ap (λ (k : Setting). k .l) e
+
+  module _ (full : s .l ≤ n) where
+    no-room : ltb mails (settingAt xs b .l) ≡ false
+    no-room = le-ltb mails (settingAt xs b .l) (omega (arith, held, most))
+
+    pub repeated-full : After (step (siteOf xs ls) (Call.Repeat a b)) xs ls xs ls
+        (Answer.Refused Refusal.Link)
+    unfolding siteOf
+    repeated-full =
+        refused-after xs ls Refusal.Link _
+        (repeat-needs xs ls f a b is ∙ need-met _ _ _ _ _ some-head ∙ need-not _ _ _ _ _ no-room)
+
+  module _ (room : n < s .l) where
+    some-room : ltb mails (settingAt xs b .l) ≡ true
+    some-room = lt-ltb mails (settingAt xs b .l) (omega (arith, held, most))
+
+    pub known-room : length (linksOf s ls a (s .me)) < s .l
+    known-room =
+        subst (λ (k : Setting). length (linksOf k ls a (k .me)) < k .l) (sym e)
+        (omega (arith, held, most))
+
+    pub repeated-known : {ls' : List ℕ} → LinksPut s (linksBy twice s a (s .me) ls) ls ls'
+        → After (step (siteOf xs ls) (Call.Repeat a b)) xs ls xs ls' Answer.Done
+    unfolding siteOf
+    repeated-known {ls'} put =
+        relinked-after xs ls f twice a b _ ls'
+        (repeat-needs xs ls f a b is ∙ need-met _ _ _ _ _ some-head
+        ∙ need-met _ _ _ _ _ some-room ∙ no-needs _ _)
+        (subst (λ (k : Setting). LinksPut k (linksBy twice k a (k .me) ls) ls ls') e put)
 
 -- the outcome at me is the outcome at b
 pub delivered-known : (xs ls : List ℕ) (a b : ℕ) (s : Setting) → s ≡ settingAt xs b

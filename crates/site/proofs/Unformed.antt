@@ -30,6 +30,7 @@ module _ (s : Site) (f : form s ≡ false) where
   unformed-step (Call.Return c) = need-not _ _ _ _ _ f
   unformed-step (Call.Timeout c) = need-not _ _ _ _ _ f
   unformed-step (Call.Lose a b) = need-not _ _ _ _ _ f
+  unformed-step (Call.Repeat a b) = need-not _ _ _ _ _ f
   unformed-step (Call.Deliver a b) = need-not _ _ _ _ _ f
 
   unformed-holds : (c k l r : ℕ) → holds s c k l r ≡ Answer.Refused Refusal.Form

@@ -1,9 +1,8 @@
 -- A turn carried out in the words.
 use Prim.Native.Nat.{ℕ, _+_}
 use mathlib.Core.Path.{_≡_}
-use mathlib.Core.Bool.{Bool, true, _&&_, cond}
+use mathlib.Core.Bool.{Bool, true}
 use mathlib.Core.List.{List, [], tail}
-use lib.Dec.{eqb}
 use Rattle.rules.specs.Every.{every}
 use Rattle.rules.specs.Sets.{setForm}
 use Rattle.rules.specs.Box.{Box, Letter, BookFits, letterOf, turned}
@@ -20,7 +19,7 @@ use Rattle.place.specs.Place.{letterAt}
 use Rattle.link.specs.Link.{placeWidth}
 use Rattle.memory.specs.Memory.{memoryForm}
 use Rattle.site.specs.General.{generalPut}
-use Rattle.memory.specs.After.{settingAt, boxesOf, linksOf, roomFor, electedBoxes, HeadStands}
+use Rattle.memory.specs.After.{settingAt, boxesOf, linksBy, roomFor, electedBoxes, HeadStands}
 use Rattle.memory.specs.After.{LinksLent, BoxLent, RowsPut, LinksPut, Sends}
 
 -- every link that is sent on has room
@@ -56,7 +55,7 @@ Posts s ls (Out.To set m) rs = Sends s ls set m rs
 
 -- the links without the head from a to me
 abbrev pub lessHead : Setting → ℕ → List ℕ → ℕ → ℕ → List Letter
-lessHead s a ls x y = cond (eqb x a && eqb y (s .me)) (tail (linksOf s ls x y)) (linksOf s ls x y)
+lessHead s a ls = linksBy tail s a (s .me) ls
 
 -- box me can carry out the turn t by the mail at p, the head of the link from a
 pub record TakesMail (s : Setting) (a p : ℕ) (xs ls : List ℕ) (t : Turn) : Type 0 where

@@ -36,6 +36,7 @@ pub fn step_formed(site: &mut [u64], links: &mut [u64], call: Call) -> Answer
         Call::Return(c) => presence::come_back(site, links, c),
         Call::Timeout(c) => presence::time_out(site, links, c),
         Call::Lose(a, b) => mail::lose(site, links, a, b),
+        Call::Repeat(a, b) => mail::repeat(site, links, a, b),
         Call::Deliver(a, b) => mail::deliver(site, links, a, b),
     }
 }

@@ -1,4 +1,5 @@
-// A mail handed over: the head of a link, the turn that it makes, and what that sends.
+// A mail handed over, the head of a link: the turn that it makes, and what that sends. A head that
+// is lost, and one that is repeated.
 ghost use mathlib.Core.Path.{_≡_};
 ghost use mathlib.Core.Bool.{true};
 ghost use Prim.Native.Nat.{_<_};
@@ -99,4 +100,25 @@ pub(crate) fn lose(site: &[u64], links: &mut [u64], a: u32, b: u32) -> Answer
     }
     memory::pop(links, s, a);
     Answer::Done
+}
+
+pub(crate) fn repeat(site: &[u64], links: &mut [u64], a: u32, b: u32) -> Answer
+    requires { ⌜ memoryForm (now site) (now links) ≡ true ⌝ }
+    ensures { λ r.
+        ⌜ After (step (siteOf (now (site .entry)) (now (links .entry))) (Call.Repeat a b))
+        (now (site .entry)) (now (links .entry)) (now (site .entry)) (now (links .exit)) r ⌝ }
+{
+    let s = memory::setting_of(site, b);
+    if !ranges::is_link(s.n, a, b) {
+        return Answer::Refused(Refusal::Box);
+    }
+    let held = memory::count(links, s, a, b);
+    if held == 0 {
+        return Answer::Refused(Refusal::Condition);
+    }
+    if held < s.l as usize {
+        memory::double(links, s, a);
+        return Answer::Done;
+    }
+    Answer::Refused(Refusal::Link)
 }

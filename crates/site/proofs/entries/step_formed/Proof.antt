@@ -26,6 +26,7 @@ frames κs (Call.Stop c) g = tt
 frames κs (Call.Return c) g = tt
 frames κs (Call.Timeout c) g = tt
 frames κs (Call.Lose a b) g = tt
+frames κs (Call.Repeat a b) g = tt
 frames κs (Call.Deliver a b) g = tt
 
 fits : (c : tie.Start) → CallFits (c .args .call)
@@ -177,12 +178,20 @@ returns-12 c =
 returns-13 : tie.Need-returns-13
 unfolding step
 returns-13 c =
+    let start = c .before .before .before .before .before .before .before .before .before .before in
+    formed (start .args .call) (fits start) (start .pre)
+    (rw (c .before .before .before .before .before .before .call13 .given .1)
+    (c .before .before .repeat .ensures))
+
+returns-14 : tie.Need-returns-14
+unfolding step
+returns-14 c =
     let at-deliver = c .before .before .before .before in
-    let at-call13 = at-deliver .before .before .before .before in
-    let at-before = at-call13 .before .before .before in
+    let at-call14 = at-deliver .before .before .before .before in
+    let at-before = at-call14 .before .before .before in
     let start = at-before .before in
     formed (start .args .call) (fits start) (start .pre)
-    (rw (at-call13 .call13 .given .1)
+    (rw (at-call14 .call14 .given .1)
     (at-deliver .deliver .ensures))
 
 pub step-formed-spec : {M : Type 1} → statement M
@@ -205,6 +214,8 @@ step-formed-spec =
     acting-requires-6
     (λ c. search needs)
     acting-requires-7
+    (λ c. search needs)
+    (λ c κs. search needs)
     (λ c. search needs)
     (λ c κs. search needs)
     (λ c. search needs)
@@ -253,4 +264,7 @@ step-formed-spec =
     returns-12
     (λ c. search needs)
     (λ c. search needs)
-    returns-13)
+    returns-13
+    (λ c. search needs)
+    (λ c. search needs)
+    returns-14)

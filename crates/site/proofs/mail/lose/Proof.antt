@@ -69,7 +69,7 @@ returns-3 c =
     (link-yes (s .args .site .now) (s .args .a) (s .args .b) _ e _
     (at-is-link .is-link .ensures)
     (at-if1 .if1 .left))
-    _ _ (at-count .count .ensures)
+    _ (at-count .count .ensures)
     (at-if2 .if2 .left) (at-pop .pop .ensures)
 
 pub lose-spec : {M : Type 1} → statement M
