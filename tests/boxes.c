@@ -57,6 +57,18 @@ static u32 deliver(u32 a, u32 c) {
     return answer;
 }
 
+/* What a bridge does to a letter that is carried: its copy stands right behind it. */
+static u32 repeat(u32 a, u32 c) {
+    if (!is_box(a) || !is_box(c) || a == c) return JOURNAL_BOX;
+    u64 *link = link_of(a, c);
+    if (!link[1]) return JOURNAL_CONDITION;
+    if (link[1] == l) return JOURNAL_LINK;
+    link[0] = (link[0] + l - 1) % l, link[1]++;
+    u64 *head = place_of(link, 1);
+    __builtin_memcpy(place_of(link, 0), head, 8 * (5 + head[4]));
+    return JOURNAL_DONE;
+}
+
 static u32 lead(const struct line *line) {
     u32 c = line->a, to = 0, answer;
     __builtin_memcpy(row, row_of(is_box(c) ? c : 1), 8 * (20 + (u64)j));
@@ -79,6 +91,7 @@ static u32 by_boxes(const struct line *line) {
     case RETURN: return journal_return(LENT, line->a);
     case TIMEOUT: return journal_timeout(LENT, line->a);
     case LOSE: return journal_lose(LENT, line->a, line->b);
+    case REPEAT: return repeat(line->a, line->b);
     case HOLDS: return journal_holds(LENT, line->a, line->b, line->c, line->d);
     case DELIVER: return deliver(line->a, line->b);
     default: return lead(line);

@@ -36,18 +36,25 @@ fn text(bytes: &[u8]) -> String {
     shown.lines().map(|line| format!("    {line}\n")).collect()
 }
 
-/// How often each answer was given, by its words.
+/// How often each answer was given, by its words; to a repeat also by that word.
 #[derive(Default)]
 struct Met(BTreeMap<String, u64>);
 
+/// What a repeat must have been refused with.
+const REPEATS: [&str; 3] = ["repeat refused 2", "repeat refused 3", "repeat refused 8"];
+
 impl Met {
-    fn count(&mut self, words: &[&str]) {
-        let answer = match words {
+    fn count(&mut self, asked: &[u8], answer: &str) {
+        let words: Vec<_> = answer.trim_end().split(' ').collect();
+        let answer = match words[..] {
             ["refused", number] | [_, "refused", number] => format!("refused {number}"),
             ["discarded", cause, _] => format!("discarded {cause}"),
             ["done" | "taken", _] => words[0].into(),
             _ => "printed".into(),
         };
+        if asked.starts_with(b"repeat ") {
+            *self.0.entry(format!("repeat {answer}")).or_default() += 1;
+        }
         *self.0.entry(answer).or_default() += 1;
     }
 
@@ -129,8 +136,9 @@ pub fn replays(command: &str, seed: u64, count: u64) -> bool {
             show_replay(command, k);
             return false;
         }
-        for line in String::from_utf8_lossy(&trace::replay(&lines.concat(), Fault::None)).lines() {
-            met.count(&line.split(' ').collect::<Vec<_>>());
+        let answers = trace::replay(&lines.concat(), Fault::None);
+        for (asked, answer) in lines.iter().zip(String::from_utf8_lossy(&answers).lines()) {
+            met.count(asked, answer);
             printed += 1;
         }
     }
@@ -146,10 +154,11 @@ pub fn replays(command: &str, seed: u64, count: u64) -> bool {
         show_difference(&expected, &got);
         return false;
     }
-    let last = String::from_utf8_lossy(&expected).lines().last().unwrap_or_default().to_string();
-    met.count(&last.split(' ').collect::<Vec<_>>());
+    let expected = String::from_utf8_lossy(&expected);
+    met.count(b"timeout 1", expected.lines().last().unwrap_or_default());
     println!("{count} traces from seed {seed}, {printed} lines, and one of a million: the same");
-    met.all(&[2, 3, 4, 5, 7, 8, 10, 11, 13, 14], &["printed"])
+    let others = [&["printed", "repeat printed"][..], &REPEATS].concat();
+    met.all(&[2, 3, 4, 5, 7, 8, 10, 11, 13, 14], &others)
 }
 
 /// The first line whose answers differ.
@@ -183,8 +192,8 @@ pub fn applies(command: &str, seed: u64, count: u64) -> bool {
         }
         for line in &lines {
             let answer = trace::apply(&[line, &b"\n"[..]].concat(), Fault::None);
-            let answer = String::from_utf8_lossy(&answer).into_owned();
-            met.count(&answer.trim_end().split(' ').collect::<Vec<_>>());
+            let asked = line.splitn(2, |byte| *byte == b' ').nth(1).unwrap_or_default();
+            met.count(asked, &String::from_utf8_lossy(&answer));
         }
     }
     for input in [random_image_step(&mut Random::new(seed)), vec![]] {
@@ -197,7 +206,8 @@ pub fn applies(command: &str, seed: u64, count: u64) -> bool {
     }
     println!("{count} image steps from seed {seed}: the same");
     let causes = ["discarded role", "discarded phase", "discarded number", "discarded place"];
-    met.all(&[1, 2, 3, 4, 5, 6, 7, 8, 9, 10, 11, 14], &[&["done", "taken"][..], &causes].concat())
+    let others = [&["done", "taken", "repeat done"][..], &causes, &REPEATS].concat();
+    met.all(&[1, 2, 3, 4, 5, 6, 7, 8, 9, 10, 11, 14], &others)
 }
 
 /// A simpler line that differs too.
@@ -251,7 +261,7 @@ fn simpler_sites(site: &Site) -> Vec<Site> {
         with(&|s| s.at_mut(c).pn = 0);
         with(&|s| (s.at_mut(c).stored_pn, s.at_mut(c).stored_number) = (0, 0));
         with(&|s| s.at_mut(c).best = fresh.best);
-        with(&|s| s.at_mut(c).replies = 0);
+        with(&|s| s.at_mut(c).answered = 0);
         with(&|s| s.at_mut(c).accepts = 0);
         with(&|s| s.at_mut(c).waiting = 0);
         with(&|s| s.at_mut(c).agreeing = 0);

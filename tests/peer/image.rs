@@ -14,7 +14,7 @@ fn box_body(b: &Camera) -> Vec<u8> {
     let mut body = vec![];
     put(&mut body, &[b.leads as u32, b.state as u32, b.phase as u32, b.pn, b.last]);
     put(&mut body, &[b.stored_pn, b.stored_number, b.best.pn, b.best.number]);
-    put(&mut body, &[b.replies, b.accepts]);
+    put(&mut body, &[b.answered, b.accepts]);
     put_records(&mut body, &[b.best.record, b.waiting, b.agreeing]);
     put(&mut body, &b.peers);
     put(&mut body, &[b.records.len() as u32]);
@@ -84,7 +84,7 @@ impl Rest<'_> {
         b.stored_number = self.word()?;
         b.best.pn = self.word()?;
         b.best.number = self.word()?;
-        b.replies = self.word()?;
+        b.answered = self.word()?;
         b.accepts = self.word()?;
         b.best.record = self.record()?;
         b.waiting = self.record()?;

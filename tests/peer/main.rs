@@ -6,6 +6,7 @@
 //!     peer compare-replay    random traces to this and to another program, command=SHELL
 //!     peer compare-apply     random image steps to both
 //!     peer walk              long random walks with demand 3 looked at, and broken rules noticed
+//!     peer watch             a trace with demand 3 looked at after every line
 //!     peer faults            the names of the broken rules
 //!
 //! `fault=NAME` breaks a rule on purpose; a walk then shows the shortest trace. `seed=N`, and
@@ -72,6 +73,7 @@ fn main() -> ExitCode {
         (Some("replay"), _) => filter(trace::replay, fault),
         (Some("apply"), _) => filter(trace::apply, fault),
         (Some("damage"), _) => filter(damage::damage, fault),
+        (Some("watch"), _) => filter(walk::watch, fault),
         (Some("compare-replay"), Some(other)) => {
             status(compare::replays(other, seed, number("count", 300)))
         }
@@ -85,7 +87,7 @@ fn main() -> ExitCode {
         (Some("walk"), _) => walks(seed, number("walks", 2000), number("steps", 500) as u32, fault),
         _ => {
             eprintln!(
-                "usage: peer replay|apply|damage|walk|faults|compare-replay|compare-apply [NAME=VALUE ..]"
+                "usage: peer replay|apply|damage|walk|watch|faults|compare-replay|compare-apply [NAME=VALUE ..]"
             );
             ExitCode::FAILURE
         }

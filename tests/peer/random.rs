@@ -48,9 +48,17 @@ pub struct Style {
     lose: u32,
     /// Of a hundred calls between elections, those that change who is present.
     shuffle: u32,
+    /// Of a hundred mails whose turn it is, those that are repeated first.
+    repeat: u32,
     /// A box whose mail is seldom handed over, and so lags; or none.
     slow: u32,
+    /// Whether those boxes are slow instead that hold more than the leader.
+    deaf: bool,
 }
+
+/// Nothing but the leader's way to a load that is agreed.
+pub const QUIET: Style =
+    Style { disturb: 0, awkward: 0, lose: 0, shuffle: 0, repeat: 0, slow: 0, deaf: false };
 
 impl Style {
     pub fn random(r: &mut Random, n: u32) -> Style {
@@ -59,7 +67,22 @@ impl Style {
             awkward: r.pick(&[0, 20, 80, 200]),
             lose: r.pick(&[0, 30, 70]),
             shuffle: r.pick(&[10, 40, 70]),
+            repeat: r.pick(&[0, 0, 10]),
             slow: r.below(2 * n),
+            deaf: false,
+        }
+    }
+
+    /// A bridge that repeats much, at a leader that hears last from those who could tell it more.
+    pub fn bridge(r: &mut Random, n: u32) -> Style {
+        Style { repeat: 40, deaf: true, ..Style::random(r, n) }
+    }
+
+    fn any(r: &mut Random, n: u32) -> Style {
+        if r.percent(25) {
+            Style::bridge(r, n)
+        } else {
+            Style::random(r, n)
         }
     }
 }
@@ -118,7 +141,12 @@ pub fn likely_call(site: &Site, r: &mut Random, style: &Style, frame: u32) -> Ca
         }
         return if r.percent(40) { timeout } else { presence_call(site, r) };
     }
-    let prompt = |(a, b): &(u32, u32)| *a != style.slow && *b != style.slow;
+    let held = |c: u32| site.at(c).records.len();
+    let slow = |c: u32| match leader {
+        Some(leader) if style.deaf => held(c) > held(leader),
+        _ => c == style.slow,
+    };
+    let prompt = |(a, b): &(u32, u32)| !slow(*a) && !slow(*b);
     let mut mails: Vec<_> = full.iter().copied().filter(prompt).collect();
     if mails.is_empty() || r.percent(5) {
         mails = full;
@@ -128,7 +156,11 @@ pub fn likely_call(site: &Site, r: &mut Random, style: &Style, frame: u32) -> Ca
         _ if mails.is_empty() => timeout,
         _ => {
             let (a, b) = r.pick(&mails);
-            Call::Deliver(a, b)
+            if r.percent(style.repeat) {
+                Call::Repeat(a, b)
+            } else {
+                Call::Deliver(a, b)
+            }
         }
     }
 }
@@ -148,7 +180,7 @@ pub fn any_call(n: u32, r: &mut Random) -> Call {
         }
     };
     let (c, x) = (number(r), number(r));
-    match r.below(13) {
+    match r.below(14) {
         0 => Call::Elect(c),
         1 => Call::Recover(c),
         2 => Call::Collect(c),
@@ -161,6 +193,7 @@ pub fn any_call(n: u32, r: &mut Random) -> Call {
         9 => Call::Return(c),
         10 => Call::Timeout(c),
         11 => Call::Lose(c, x),
+        12 => Call::Repeat(c, x),
         _ => Call::Deliver(c, x),
     }
 }
@@ -212,7 +245,7 @@ pub fn random_trace(r: &mut Random) -> Vec<u8> {
         return text;
     }
     let mut site = Site::fresh(sizes);
-    let style = Style::random(r, sizes.n);
+    let style = Style::any(r, sizes.n);
     for frame in 1..=r.pick(&[3, 30, 100, 400]) {
         let line = if r.percent(3) {
             holds_text(&site, r, true)
@@ -228,10 +261,21 @@ pub fn random_trace(r: &mut Random) -> Vec<u8> {
     text
 }
 
+/// A repeat on a link with mail, or with any two numbers.
+fn some_repeat(site: &Site, r: &mut Random) -> Call {
+    let full = full_links(site);
+    if full.is_empty() || r.percent(50) {
+        let number = |r: &mut Random| r.from(0, site.sizes.n + 1);
+        return Call::Repeat(number(r), number(r));
+    }
+    let (a, b) = r.pick(&full);
+    Call::Repeat(a, b)
+}
+
 fn ending(site: &mut Site, r: &mut Random, style: &Style) -> Vec<u8> {
     let n = site.sizes.n;
     let line = |call| call_text(call) + "\n";
-    match r.below(9) {
+    match r.below(11) {
         0 => vec![],
         1 => [spoilt(&call_text(any_call(n, r)), r), b"\n".to_vec()].concat(),
         2 => (holds_text(site, r, false).unwrap() + "\n").into_bytes(),
@@ -247,6 +291,8 @@ fn ending(site: &mut Site, r: &mut Random, style: &Style) -> Vec<u8> {
         }
         6 => line(leader_call(site, site.leader().unwrap_or(1), 1)).into_bytes(),
         7 => (0..20).map(|_| line(any_call(n, r))).collect::<String>().into_bytes(),
+        8 => line(some_repeat(site, r)).repeat(site.sizes.l as usize).into_bytes(),
+        9 => line(Call::Offer(r.from(0, n + 1), r.below(2), r.below(2))).into_bytes(),
         _ => {
             let mut lines = String::new();
             for frame in 1000..1200 {
@@ -264,7 +310,7 @@ fn ending(site: &mut Site, r: &mut Random, style: &Style) -> Vec<u8> {
 /// A site that the steps reach.
 fn reached(r: &mut Random, sizes: Sizes) -> Site {
     let mut site = Site::fresh(sizes);
-    let style = Style::random(r, sizes.n);
+    let style = Style::any(r, sizes.n);
     for frame in 1..=r.pick(&[0, 10, 40, 200, 1000]) {
         let call = likely_call(&site, r, &style, frame);
         let _ = step(&mut site, call);
@@ -275,6 +321,14 @@ fn reached(r: &mut Random, sizes: Sizes) -> Site {
 /// Numbers from few, so that two are often equal, and edges.
 fn some_pn(r: &mut Random) -> u32 {
     r.pick(&[0, 101, 102, 103, 202, 202, 305, HIGHEST_PN - 100, HIGHEST_PN - 99, HIGHEST_PN])
+}
+
+fn some_set(r: &mut Random, n: u32) -> u32 {
+    if r.percent(50) {
+        everyone(n)
+    } else {
+        r.below(1 << n)
+    }
 }
 
 fn some_record(r: &mut Random) -> Record {
@@ -342,8 +396,8 @@ fn some_box(r: &mut Random, sizes: Sizes, c: u32) -> Camera {
         stored_pn: some_pn(r),
         stored_number: number(r),
         best: Best { pn: some_pn(r), number: number(r), record: record(r) },
-        replies: r.from(0, n),
-        accepts: r.below(1 << n) | if r.percent(50) { everyone(n) } else { 0 },
+        answered: some_set(r, n),
+        accepts: some_set(r, n),
         waiting: record(r),
         agreeing: record(r),
         peers: (1..=n)
@@ -357,7 +411,7 @@ fn some_box(r: &mut Random, sizes: Sizes, c: u32) -> Camera {
 fn foreign(r: &mut Random, sizes: Sizes) -> Site {
     let mut site = Site::fresh(sizes);
     site.epoch = r.pick(&[1, 2, 2, 4, 6, 999_998, 999_999, LAST_EPOCH]);
-    site.present = r.below(1 << sizes.n) | if r.percent(60) { everyone(sizes.n) } else { 0 };
+    site.present = some_set(r, sizes.n);
     for c in site.numbers() {
         *site.at_mut(c) = some_box(r, sizes, c);
     }
@@ -368,7 +422,7 @@ fn foreign(r: &mut Random, sizes: Sizes) -> Site {
         b.leads = true;
         if hears {
             // most of the rules' choices are in a Last
-            (b.state, b.phase, b.replies) = (State::Recovering, Phase::Collect, r.below(sizes.n));
+            (b.state, b.phase) = (State::Recovering, Phase::Collect);
         }
     }
     let full = r.below(4);
@@ -394,7 +448,8 @@ fn damaged(mut image: Vec<u8>, r: &mut Random) -> Vec<u8> {
         4 => drop(image.drain(word..word + 4)),
         5 => image.splice(word..word, [0; 4]).for_each(drop),
         _ => {
-            let value = r.pick(&[0, 1, 2, 3, 4, 5, 6, 7, 16, 4097, 1_000_000_000, u32::MAX - 1]);
+            let edges = [0, 1, 2, 3, 4, 5, 6, 7, 8, 15, 16, 31, 32, 4097, 1_000_000_000];
+            let value = if r.percent(5) { u32::MAX - 1 } else { r.pick(&edges) };
             image[word..word + 4].copy_from_slice(&value.to_le_bytes());
         }
     }
@@ -410,8 +465,12 @@ fn some_sizes(r: &mut Random) -> Sizes {
     }
 }
 
-/// A call that has something to do with the site; of those whose condition fails, a few.
+/// A call that has something to do with the site; of those whose condition fails, a few, and the
+/// leader's next, which may have to wait for others.
 fn fitting_call(site: &Site, r: &mut Random) -> Call {
+    if let Some(c) = site.leader().filter(|_| r.percent(10)) {
+        return leader_call(site, c, 3);
+    }
     let mut call = some_call(site, r);
     for _ in 0..12 {
         if step(&mut site.clone(), call) != Err(3) || r.percent(5) {
@@ -429,7 +488,7 @@ fn some_call(site: &Site, r: &mut Random) -> Call {
     }
     if r.percent(50) && !full.is_empty() {
         let (a, b) = r.pick(&full);
-        return Call::Deliver(a, b);
+        return if r.percent(5) { Call::Repeat(a, b) } else { Call::Deliver(a, b) };
     }
     let c = site.leader().unwrap_or(1);
     if r.percent(50) {

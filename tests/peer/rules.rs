@@ -16,6 +16,7 @@ pub enum Call {
     Return(u32),
     Timeout(u32),
     Lose(u32, u32),
+    Repeat(u32, u32),
     Deliver(u32, u32),
 }
 
@@ -47,18 +48,20 @@ pub enum Fault {
     PromisedInLast,
     FirstHeard,
     SharedBeforeStored,
+    CountOfReplies,
 }
 
 /// Each fault, its name, and whether it breaks demand 3 itself. Two do not: with a majority of all
 /// n the accepts still meet every later election, and a box that was told too little is told the
 /// rest at the next one. They break the rule's own sentence, and that is looked at instead.
-pub const FAULTS: [(Fault, &str, bool); 6] = [
+pub const FAULTS: [(Fault, &str, bool); 7] = [
     (Fault::MajorityOfPresent, "majority-of-present", true),
     (Fault::MajorityOfSite, "majority-of-site", false),
     (Fault::PromiseClearedAtStop, "promise-cleared-at-stop", true),
     (Fault::PromisedInLast, "promised-in-last", true),
     (Fault::FirstHeard, "first-heard", true),
     (Fault::SharedBeforeStored, "shared-before-stored", false),
+    (Fault::CountOfReplies, "count-of-replies", true),
 ];
 
 /// What a box sees of its site.
@@ -125,6 +128,26 @@ impl Around {
             _ => accepts & self.present == self.present,
         }
     }
+
+    /// Who has answered once this box has, too. The paper's count knows nobody by name.
+    fn joined(&self, answered: u32, k: u32) -> u32 {
+        match self.fault {
+            Fault::CountOfReplies => answered + 1,
+            _ => answered | only(k),
+        }
+    }
+
+    fn all_answered(&self, answered: u32) -> bool {
+        match self.fault {
+            Fault::CountOfReplies => answered == self.count(),
+            _ => answered == self.present,
+        }
+    }
+
+    /// Whether a further Last comes too late: the paper's count takes no more than it waits for.
+    fn enough_answers(&self, answered: u32) -> bool {
+        self.fault == Fault::CountOfReplies && answered >= self.count()
+    }
 }
 
 impl Mail {
@@ -150,7 +173,7 @@ impl Call {
             Call::Elect(c) | Call::Recover(c) | Call::Collect(c) | Call::Ready(c) => c,
             Call::Offer(c, ..) | Call::Propose(c) | Call::Agree(c) | Call::Finish(c) => c,
             Call::Stop(c) | Call::Return(c) | Call::Timeout(c) => c,
-            Call::Lose(a, _) | Call::Deliver(a, _) => a,
+            Call::Lose(a, _) | Call::Repeat(a, _) | Call::Deliver(a, _) => a,
         }
     }
 }
@@ -215,7 +238,7 @@ impl Camera {
     fn collect(mut self, c: u32, around: Around) -> Result<Turn, Refusal> {
         needs(self.leads && self.state == State::Recovering && self.phase == Phase::SendCollect)?;
         self.forget_peers();
-        self.replies = 1;
+        self.answered = around.joined(0, c);
         self.best = match self.unagreed() {
             Some(record) => Best { pn: self.unagreed_pn(), number: self.last + 1, record },
             None => Best::default(),
@@ -226,7 +249,8 @@ impl Camera {
     }
 
     fn ready(mut self, c: u32, around: Around) -> Result<Turn, Refusal> {
-        needs(self.leads && self.phase == Phase::Collect && self.replies == around.count())?;
+        needs(self.leads && self.phase == Phase::Collect)?;
+        needs(around.all_answered(self.answered))?;
         self.forget_peers();
         if self.best.number == self.last + 1 && self.best.record != 0 {
             self.state = State::UpdatingPrevious;
@@ -308,7 +332,7 @@ impl Camera {
         let causes = match mail.kind {
             Kind::Collect | Kind::Commit => [self.leads, false, false, false],
             Kind::Last => {
-                let closed = self.phase != Phase::Collect || self.replies >= around.count();
+                let closed = self.phase != Phase::Collect || around.enough_answers(self.answered);
                 [!self.leads, closed, false, false]
             }
             Kind::Begin if !self.leads && mail.pn > self.pn => return Err(9),
@@ -355,7 +379,7 @@ impl Camera {
             self.pn = new_pn(mail.pn, c)?;
             self.phase = Phase::SendCollect;
         } else if mail.pn == self.pn {
-            self.replies += 1;
+            self.answered = around.joined(self.answered, from);
             became = self.hear(around, mail);
         }
         if !became {
@@ -412,7 +436,9 @@ pub fn step_with(site: &mut Site, call: Call, fault: Fault) -> Result<Answer, Re
     let n = site.sizes.n;
     let on_site = |c: u32| (1..=n).contains(&c);
     let named = match call {
-        Call::Lose(a, b) | Call::Deliver(a, b) => on_site(a) && on_site(b) && a != b,
+        Call::Lose(a, b) | Call::Repeat(a, b) | Call::Deliver(a, b) => {
+            on_site(a) && on_site(b) && a != b
+        }
         _ => on_site(call.at()),
     };
     if !named {
@@ -431,6 +457,7 @@ pub fn step_with(site: &mut Site, call: Call, fault: Fault) -> Result<Answer, Re
             needs(site.link_mut(a, b).pop_front().is_some())?;
             Ok(Answer::Done)
         }
+        Call::Repeat(a, b) => repeat(site, a, b),
         Call::Deliver(a, b) => deliver(site, a, b, around),
         Call::Offer(_, 0, _) | Call::Offer(_, _, 0) => Err(10),
         _ => {
@@ -497,6 +524,18 @@ fn next_epoch_if_even(site: &mut Site) -> Result<Answer, Refusal> {
     } else {
         Ok(Answer::Done)
     }
+}
+
+/// The head of the link stands twice, the copy right behind it.
+fn repeat(site: &mut Site, a: u32, b: u32) -> Result<Answer, Refusal> {
+    let room = site.sizes.l as usize;
+    let link = site.link_mut(a, b);
+    let head = link.front().cloned().ok_or(3u32)?;
+    if link.len() >= room {
+        return Err(8);
+    }
+    link.insert(1, head);
+    Ok(Answer::Done)
 }
 
 fn deliver(site: &mut Site, a: u32, b: u32, around: Around) -> Result<Answer, Refusal> {

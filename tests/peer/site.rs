@@ -76,7 +76,8 @@ pub struct Camera {
     pub stored_pn: u32,
     pub stored_number: u32,
     pub best: Best,
-    pub replies: u32,
+    /// The boxes that answered, the leader among them.
+    pub answered: u32,
     pub accepts: u32,
     pub waiting: Record,
     pub agreeing: Record,
@@ -140,7 +141,7 @@ impl Camera {
             stored_pn: 0,
             stored_number: 0,
             best: Best::default(),
-            replies: 0,
+            answered: 0,
             accepts: 0,
             waiting: 0,
             agreeing: 0,
@@ -227,8 +228,7 @@ impl Site {
         let held = b.records.len() as u32;
         [b.pn, b.stored_pn, b.best.pn].iter().all(|pn| *pn <= HIGHEST_PN)
             && [b.last, b.stored_number, b.best.number].iter().all(|number| *number <= j)
-            && b.replies <= n
-            && b.accepts <= everyone(n)
+            && [b.answered, b.accepts].iter().all(|set| *set <= everyone(n))
             && [b.best.record, b.waiting, b.agreeing].iter().all(|r| *r == 0 || proper(*r))
             && self.numbers().all(|k| {
                 let last = b.peers[k as usize - 1];

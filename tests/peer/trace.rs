@@ -46,6 +46,7 @@ pub fn read_line(line: &[u8]) -> Option<Line> {
         (b"return", &[c]) => Line::Call(Call::Return(c)),
         (b"timeout", &[c]) => Line::Call(Call::Timeout(c)),
         (b"lose", &[a, b]) => Line::Call(Call::Lose(a, b)),
+        (b"repeat", &[a, b]) => Line::Call(Call::Repeat(a, b)),
         (b"mail", &[a, b]) => Line::Call(Call::Deliver(a, b)),
         _ => return None,
     })
@@ -65,6 +66,7 @@ pub fn call_text(call: Call) -> String {
         Call::Return(c) => format!("return {c}"),
         Call::Timeout(c) => format!("timeout {c}"),
         Call::Lose(a, b) => format!("lose {a} {b}"),
+        Call::Repeat(a, b) => format!("repeat {a} {b}"),
         Call::Deliver(a, b) => format!("mail {a} {b}"),
     }
 }
@@ -75,7 +77,7 @@ pub fn lines_of(input: &[u8]) -> Vec<Vec<u8>> {
 }
 
 /// The lines without their newlines; the last is None where no newline ends it.
-fn lines(input: &[u8]) -> impl Iterator<Item = Option<&[u8]>> {
+pub fn lines(input: &[u8]) -> impl Iterator<Item = Option<&[u8]>> {
     input.split_inclusive(|byte| *byte == b'\n').map(|line| line.strip_suffix(b"\n"))
 }
 

@@ -5,7 +5,7 @@ use crate::random::*;
 use crate::rules::*;
 use crate::shrink::fewest;
 use crate::site::*;
-use crate::trace::call_text;
+use crate::trace::{call_text, lines, read_line, replay_line, Line};
 use std::collections::HashSet;
 
 /// What has been agreed so far, over all boxes, and which offers were accepted.
@@ -17,6 +17,13 @@ struct Journal {
 }
 
 impl Journal {
+    /// An offer that was accepted is one of those that may be agreed.
+    fn note(&mut self, call: Call) {
+        if let Call::Offer(_, left, right) = call {
+            self.offers.insert((left as u64) << 32 | right as u64);
+        }
+    }
+
     /// Demand 3: the same record at every box, numbers from 1 without a hole that never shrink and
     /// never change, each from one accepted offer, and no offer at two numbers.
     fn look(&mut self, site: &Site) -> Result<(), String> {
@@ -80,6 +87,7 @@ pub struct Told {
     elections: u64,
     recovered: u64,
     shared: u64,
+    repeated: u64,
 }
 
 /// Plays calls from a fresh site until something is wrong; refused calls leave the site.
@@ -96,11 +104,10 @@ fn play(
     while let Some(call) = calls(&site) {
         let watched = if let Call::Deliver(_, c) = call { site.at(c).last } else { 0 };
         let Ok(answer) = step_with(&mut site, call, fault) else { continue };
-        if let Call::Offer(_, left, right) = call {
-            journal.offers.insert((left as u64) << 32 | right as u64);
-        }
+        journal.note(call);
         told.steps += 1;
         told.elections += matches!(call, Call::Elect(_)) as u64;
+        told.repeated += matches!(call, Call::Repeat(..)) as u64;
         told.recovered +=
             matches!(call, Call::Ready(c) if site.at(c).state == State::UpdatingPrevious) as u64;
         told.shared += matches!(call, Call::Deliver(_, c) if site.at(c).last > watched + 1) as u64;
@@ -120,16 +127,61 @@ fn play(
     (told, None)
 }
 
+/// The first line of a trace that is refused or after which demand 3 does not hold.
+pub fn watch(input: &[u8], fault: Fault) -> Vec<u8> {
+    let (mut site, mut journal) = (None, Journal::default());
+    for (k, line) in (1..).zip(lines(input)) {
+        if let Err(refusal) = replay_line(&mut site, line, fault) {
+            return format!("{k} refused {refusal}\n").into_bytes();
+        }
+        if let Some(Line::Call(call)) = line.and_then(read_line) {
+            journal.note(call);
+        }
+        if let Err(wrong) = site.as_ref().map_or(Ok(()), |site| journal.look(site)) {
+            return format!("{k} {wrong}\n").into_bytes();
+        }
+    }
+    b"demand 3 held after each line\n".to_vec()
+}
+
+/// A walk's sizes, its style, and who is away at its opening. A quarter of the walks have a bridge
+/// that repeats: one box that answers for others does harm once two of five missed a load.
+fn beginning(r: &mut Random) -> (Sizes, Style, u32) {
+    let j = r.pick(&[2, 4, 12]);
+    if r.percent(75) {
+        let sizes = Sizes { n: r.pick(&[2, 3, 3, 3, 4, 5, 5]), j, l: r.pick(&[1, 3, 8]) };
+        return (sizes, Style::random(r, sizes.n), 0);
+    }
+    let sizes = Sizes { n: r.pick(&[3, 4, 5, 5, 5]), j, l: r.pick(&[3, 8]) };
+    let mut away = 0u32;
+    while away.count_ones() < sizes.n - majority(sizes.n) {
+        away |= only(r.from(1, sizes.n));
+    }
+    (sizes, Style::bridge(r, sizes.n), away)
+}
+
+/// The calls by which a bare majority agrees a load, and those who are away come back before
+/// anyone is told.
+fn opening(site: &Site, away: &mut u32, r: &mut Random, frame: u32) -> Option<Call> {
+    let first = |set: u32| site.numbers().find(|c| member(set, *c));
+    let back = first(*away)?;
+    if site.numbers().all(|c| site.at(c).last == 0) {
+        let stop = first(*away & site.present).map(Call::Stop);
+        return stop.or_else(|| Some(likely_call(site, r, &QUIET, frame)));
+    }
+    *away ^= only(back);
+    Some(Call::Return(back))
+}
+
 /// One walk of its own seed; the calls that were made, and what was wrong.
 fn walk(seed: u64, steps: u32, fault: Fault) -> (Sizes, Vec<Call>, Told, Option<String>) {
     let mut r = Random::new(seed);
-    let sizes =
-        Sizes { n: r.pick(&[2, 3, 3, 4, 5, 5]), j: r.pick(&[2, 4, 12]), l: r.pick(&[1, 3, 8]) };
-    let style = Style::random(&mut r, sizes.n);
+    let (sizes, style, mut away) = beginning(&mut r);
     let mut made = vec![];
     let next = |site: &Site| {
         let frame = made.len() as u32 + 1;
-        let call = likely_call(site, &mut r, &style, frame);
+        let call = opening(site, &mut away, &mut r, frame)
+            .unwrap_or_else(|| likely_call(site, &mut r, &style, frame));
         made.push(call);
         (frame < steps).then_some(call)
     };
@@ -157,12 +209,13 @@ pub fn right(seed: u64, walks: u64, steps: u32) -> bool {
         all.elections += told.elections;
         all.recovered += told.recovered;
         all.shared += told.shared;
+        all.repeated += told.repeated;
     }
-    let Told { steps, agreed, elections, recovered, shared } = all;
+    let Told { steps, agreed, elections, recovered, shared, repeated } = all;
     println!("{walks} walks from seed {seed}, {steps} steps: demand 3 and form held after each");
     println!("  {elections} elections, {agreed} loads agreed, {recovered} started again,");
-    println!("  {shared} times a box caught up by two or more");
-    agreed > walks && recovered > walks / 10 && shared > 0
+    println!("  {shared} times a box caught up by two or more, {repeated} mails repeated");
+    agreed > walks && recovered > walks / 10 && shared > 0 && repeated > walks
 }
 
 /// Under a broken rule some walk must go wrong.
