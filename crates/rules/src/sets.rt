@@ -5,6 +5,7 @@ ghost use lib.Count.{ones};
 ghost use Rattle.rules.specs.Sizes.{even, mostBoxes, mostPn};
 ghost use Rattle.rules.specs.Sets.{bit, joined, without, includes};
 ghost use Rattle.rules.specs.NewPn.{newPn};
+use crate::turns;
 
 // Box k alone: 0 for a number that is no box's.
 pub fn bit_of(k: u32) -> u32
@@ -66,5 +67,8 @@ pub(crate) fn new_pn(old: u32, rank: u32) -> u32
     requires { ⌜ rank ≤ mostBoxes ⌝ }
     ensures { λ r. ⌜ r ≡ newPn old rank ⌝ }
 {
-    (old / 100 + 1) * 100 + rank
+    let hundreds = old / 100;
+    let here = hundreds * 100 + rank;
+    let next = (hundreds + 1) * 100 + rank;
+    turns::pick_number(old % 100 < rank, here, next)
 }

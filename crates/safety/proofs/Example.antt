@@ -61,9 +61,9 @@ replay-reads s =
 
 -- ---- the trace of the early Ceph bug (document 000, 4.1)
 
--- "In collect phase mon3 must choose between v1 or v2": box 1 stored v1 under 101 and has promised
--- 301 since, box 3 stored v2 under 202, and box 2 has agreed v2. Were the promised numbers told in
--- place of the stored ones, box 3 would choose v1.
+-- "In collect phase mon3 must choose between v1 or v2": box 1 stored v1 under 1 and has promised 101
+-- since, box 3 stored v2 under 2, and box 2 has agreed v2. Were the promised numbers told in place
+-- of the stored ones, box 3 would choose v1.
 
 -- "Epoch number 2. The monitor mon1 is elected as the leader .. The client requests the value v1.
 -- The monitor mon1 crashes before sending the begin messages to its peers."
@@ -103,8 +103,7 @@ epoch4 =
     ∷ []
 
 -- "Epoch number 6. The monitor mon1 is elected as the leader with the quorum of mon1, mon2, and
--- mon3. The monitor mon2 crashes at the begin of the collect phase." Box 3's answer raises what box
--- 1 has promised.
+-- mon3. The monitor mon2 crashes at the begin of the collect phase."
 pub epoch6 : List Call
 epoch6 =
     Call.Elect 1
@@ -163,13 +162,13 @@ pub record Computed : Type 0 where
   -- before box 3 is elected, boxes 1 and 3 hold different records of number 1, and neither counts
   -- it as agreed
   pub choice : trace-reads (ran 3 4 8 (epoch2 ++ epoch4 ++ epoch6))
-      ≡ (0 ∷ 1 ∷ 0 ∷ []) ∷ (301 ∷ 202 ∷ 202 ∷ []) ∷ (1 ∷ 2 ∷ 2 ∷ []) ∷ []
+      ≡ (0 ∷ 1 ∷ 0 ∷ []) ∷ (101 ∷ 2 ∷ 101 ∷ []) ∷ (1 ∷ 2 ∷ 2 ∷ []) ∷ []
   -- box 3 keeps v2
   pub kept-v2 : trace-reads (ran 3 4 8 (epoch2 ++ epoch4 ++ epoch6 ++ epoch8))
-      ≡ (0 ∷ 1 ∷ 1 ∷ []) ∷ (303 ∷ 202 ∷ 303 ∷ []) ∷ (2 ∷ 2 ∷ 2 ∷ []) ∷ []
+      ≡ (0 ∷ 1 ∷ 1 ∷ []) ∷ (103 ∷ 2 ∷ 103 ∷ []) ∷ (2 ∷ 2 ∷ 2 ∷ []) ∷ []
   -- two boxes would count number 1 as agreed, with different records
   pub split : trace-reads (run alone (reverse (parted ++ epoch4)))
-      ≡ (1 ∷ 1 ∷ 0 ∷ []) ∷ (0 ∷ 102 ∷ 102 ∷ []) ∷ (1 ∷ 2 ∷ 2 ∷ []) ∷ []
+      ≡ (1 ∷ 1 ∷ 0 ∷ []) ∷ (0 ∷ 2 ∷ 2 ∷ []) ∷ (1 ∷ 2 ∷ 2 ∷ []) ∷ []
 
 pub computed : Computed
 unfolding replayed epoch2 epoch4 epoch6 epoch8 parted

@@ -60,12 +60,17 @@ starBytes (g ∷ gs) (s ∷ ss) = star g s ∷ starBytes gs ss
 
 unfoldable pub stars : List Star
 stars =
-    -- "new: 305 rank 5 gives 405; 0 rank 1, 101; 999,999,899 rank 2, 999,999,902"
+    -- "new: 305 rank 5 gives 405; .. 999,999,899 rank 2, 999,999,902"
     star (pnAfter 305 5) 405
-    ∷ star (pnAfter 0 1) 101
     ∷ star (pnAfter 999999899 2) 999999902
-    -- "999,999,901 rank 2, refusal 6"
-    ∷ star (answerNumber (recovered 999999901 2 .answer)) 6
+    -- Q-2: "302 with rank 5 gives 305, .. 305 with rank 2 gives 402"
+    ∷ star (pnAfter 302 5) 305
+    ∷ star (pnAfter 305 2) 402
+    -- Q-2: "0 with rank 1 now gives 1, and 999,999,901 with rank 2 gives 999,999,902; a new one is
+    -- 999,999,901 with rank 1, refusal 6"
+    ∷ star (pnAfter 0 1) 1
+    ∷ star (pnAfter 999999901 2) 999999902
+    ∷ star (answerNumber (recovered 999999901 1 .answer)) 6
     -- "Fresh image: n=3, 340 bytes; n=1, 124."
     ∷ star (length (imageOf (fresh 3 16 8))) 340
     ∷ star (length (imageOf (fresh 1 16 8))) 124

@@ -1,5 +1,4 @@
 -- `rules::sets::new_pn` meets its contract.
-use mathlib.Core.Path.{refl}
 use Rattle.rules.specs.NewPn.{newPn}
 use borrow.Author.Needs.{needs}
 use Rattle.rules.proofs.sets.new_pn.Statement.{statement}
@@ -7,7 +6,9 @@ use Rattle.rules.proofs.sets.new_pn.Tie as tie
 
 returns : tie.Need-returns
 unfolding newPn
-returns c = refl
+returns c =
+    simp
+    (c .pick-number .ensures)
 
 pub new-pn-spec : {M : Type 1} → statement M
 new-pn-spec =
@@ -16,4 +17,7 @@ new-pn-spec =
     (λ c. search needs)
     (λ c. search needs)
     (λ c. search needs)
+    (λ c. search needs)
+    (λ c. search needs)
+    (λ c κs. search needs)
     returns)
