@@ -61,9 +61,9 @@ replay-reads s =
 
 -- ---- the trace of the early Ceph bug (document 000, 4.1)
 
--- "In collect phase mon3 must choose between v1 or v2": box 1 stored v1 under 1 and has promised 101
--- since, box 3 stored v2 under 2, and box 2 has agreed v2. Were the promised numbers told in place
--- of the stored ones, box 3 would choose v1.
+-- "In collect phase mon3 must choose between v1 or v2": box 1 stored v1 under 1 and has promised
+-- 101 since, box 3 stored v2 under 2, and box 2 has agreed v2. Were the promised numbers told in
+-- place of the stored ones, box 3 would choose v1.
 
 -- "Epoch number 2. The monitor mon1 is elected as the leader .. The client requests the value v1.
 -- The monitor mon1 crashes before sending the begin messages to its peers."
