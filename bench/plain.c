@@ -3,7 +3,7 @@
 
 static u32 has(u32 set, u32 c) { return set >> (c - 1) & 1; }
 static u32 ones(u32 set) { return (u32)__builtin_popcount(set); }
-static u32 new_pn(u32 old, u32 rank) { return (old / 100 + 1) * 100 + rank; }
+static u32 new_pn(u32 old, u32 rank) { return (old / 100 + (old % 100 >= rank)) * 100 + rank; }
 static struct camera *at(struct site *s, u32 c) { return &s->boxes[c - 1]; }
 static struct link *link_of(struct site *s, u32 a, u32 b) { return &s->links[a - 1][b - 1]; }
 static u32 others(const struct site *s, u32 c) { return s->present & ~(1u << (c - 1)); }

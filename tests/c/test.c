@@ -180,7 +180,7 @@ static void each_call(void) {
     SITE(JOURNAL_CONDITION, journal_elect(ON, 1));
     SITE(JOURNAL_CONDITION, journal_collect(ON, 1));
     SITE(JOURNAL_DONE, journal_recover(ON, 1));
-    WORD(site, 5 + 3, 101);
+    WORD(site, 5 + 3, 1);
     SITE(JOURNAL_DONE, journal_collect(ON, 1));
     SITE(JOURNAL_CONDITION, journal_ready(ON, 1));
     SITE(JOURNAL_TAKEN, journal_deliver(ON, 1, 2));
@@ -221,8 +221,11 @@ static void each_call(void) {
     site.words[3] = 1000000;
     SITE(JOURNAL_EPOCH, journal_timeout(ON, 1));
     SITE(JOURNAL_EPOCH, journal_stop(ON, 1));
-    site.words[5 + 21 + 3] = 999999901; /* the promise of box 2, who leads */
+    site.words[5 + 21 + 3] = 999999902; /* the promise of box 2, who leads */
     SITE(JOURNAL_NEW_PN, journal_recover(ON, 2));
+    site.words[5 + 21 + 3] = 999999901;
+    SITE(JOURNAL_DONE, journal_recover(ON, 2));
+    WORD(site, 5 + 21 + 3, 999999902);
     site.words[5 + 21 + 1] = UINT64_MAX; /* its state */
     SITE(JOURNAL_FORM, journal_recover(ON, 2));
     release_site();
@@ -341,7 +344,7 @@ static void own_boxes(void) {
     OWN(JOURNAL_BUFFER, 0, journal_own_collect(ROW, TOLD, 1));
     out.lent = out.size;
     OWN(JOURNAL_DONE, 2, journal_own_collect(ROW, TOLD, 1));
-    WORD(out, 0, 1), WORD(out, 1, 101);
+    WORD(out, 0, 1), WORD(out, 1, 1);
     PUT(1), CARRY(), BOX(2);
     OWN(JOURNAL_BOX, 0, journal_own_mail(MAIL, TOLD, 2, 2));
     OWN(JOURNAL_BOX, 0, journal_own_mail(MAIL, TOLD, 2, 0));
@@ -350,7 +353,7 @@ static void own_boxes(void) {
     OWN(JOURNAL_FORM, 0, journal_own_mail(MAIL, TOLD, 2, 1));
     letter.lent = letter.size;
     OWN(JOURNAL_TAKEN, 1, journal_own_mail(MAIL, TOLD, 2, 1));
-    WORD(out, 0, 2), WORD(row, 3, 101);
+    WORD(out, 0, 2), WORD(row, 3, 1);
     PUT(2), CARRY(), BOX(1);
     OWN(JOURNAL_TAKEN, 0, journal_own_mail(MAIL, TOLD, 1, 2));
     OWN(JOURNAL_TAKEN, 0, journal_own_mail(MAIL, TOLD, 1, 2)); /* heard again: taken again */
