@@ -71,7 +71,7 @@ uint32_t journal_fresh(uint64_t *site, size_t site_words, uint64_t *links, size_
  * done. c is a box.
  *
  * elect: c alone leads; needs an odd epoch, c present, and a majority present.            4
- * recover: leader c takes a new proposal number.                                          6
+ * recover: leader c takes the next proposal number whose last two digits are c.           6
  * collect: leader c asks the others for what they hold.                                   8
  * ready: all present have answered; c starts an unagreed record again, or leases.         8
  * offer: the frames left and right wait at leader c.                                      10
