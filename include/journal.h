@@ -36,7 +36,8 @@ enum {
     JOURNAL_CONDITION = 3, /* the step's condition fails */
     JOURNAL_MAJORITY = 4,  /* elect with fewer present than a majority */
     JOURNAL_EPOCH = 5,     /* stop, return or timeout at epoch 1,000,000 */
-    JOURNAL_NEW_PN = 6,    /* the new proposal number would exceed 999,999,999 */
+    JOURNAL_NEW_PN = 6,    /* the new proposal number would exceed 999,999,999; not within the first
+                            * 9,999,999 elections of a fresh site, and its epochs allow 500,000 */
     JOURNAL_ABOVE = 9,     /* a Begin mail with a proposal number above the receiver's */
     JOURNAL_BOOK = 7,      /* propose with a full book */
     JOURNAL_LINK = 8,      /* a mail would go onto a full link */
