@@ -318,9 +318,13 @@ fn reached(r: &mut Random, sizes: Sizes) -> Site {
     site
 }
 
-/// Numbers from few, so that two are often equal, and edges.
+/// Numbers from few, so that two are often equal, and those after which some rank has no new one.
 fn some_pn(r: &mut Random) -> u32 {
-    r.pick(&[0, 101, 102, 103, 202, 202, 305, HIGHEST_PN - 100, HIGHEST_PN - 99, HIGHEST_PN])
+    match r.below(10) {
+        0 => HIGHEST_PN,
+        1 | 2 => HIGHEST_PN - r.from(94, 100),
+        _ => r.pick(&[0, 1, 101, 102, 103, 105, 202, 202, 302, 305]),
+    }
 }
 
 fn some_set(r: &mut Random, n: u32) -> u32 {
@@ -417,12 +421,17 @@ fn foreign(r: &mut Random, sizes: Sizes) -> Site {
     }
     if r.percent(90) {
         let c = r.from(1, sizes.n);
-        let hears = r.percent(40);
         let b = site.at_mut(c);
         b.leads = true;
-        if hears {
+        match r.below(10) {
             // most of the rules' choices are in a Last
-            (b.state, b.phase) = (State::Recovering, Phase::Collect);
+            0..=3 => (b.state, b.phase) = (State::Recovering, Phase::Collect),
+            // the last number that it can make, the one before, and none
+            4 => {
+                (b.state, b.phase) = (State::Recovering, Phase::Election);
+                b.pn = HIGHEST_PN - 100 + c + r.below(3);
+            }
+            _ => {}
         }
     }
     let full = r.below(4);

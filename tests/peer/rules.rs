@@ -49,12 +49,14 @@ pub enum Fault {
     FirstHeard,
     SharedBeforeStored,
     CountOfReplies,
+    FullHundred,
 }
 
-/// Each fault, its name, and whether it breaks demand 3 itself. Two do not: with a majority of all
-/// n the accepts still meet every later election, and a box that was told too little is told the
-/// rest at the next one. They break the rule's own sentence, and that is looked at instead.
-pub const FAULTS: [(Fault, &str, bool); 7] = [
+/// Each fault, its name, and whether it breaks demand 3 itself. Three do not: with a majority of
+/// all n the accepts still meet every later election, a box that was told too little is told the
+/// rest at the next one, and a number that jumps too far is above the old one. They break the
+/// rule's own sentence, and that is looked at instead.
+pub const FAULTS: [(Fault, &str, bool); 8] = [
     (Fault::MajorityOfPresent, "majority-of-present", true),
     (Fault::MajorityOfSite, "majority-of-site", false),
     (Fault::PromiseClearedAtStop, "promise-cleared-at-stop", true),
@@ -62,6 +64,7 @@ pub const FAULTS: [(Fault, &str, bool); 7] = [
     (Fault::FirstHeard, "first-heard", true),
     (Fault::SharedBeforeStored, "shared-before-stored", false),
     (Fault::CountOfReplies, "count-of-replies", true),
+    (Fault::FullHundred, "full-hundred", false),
 ];
 
 /// What a box sees of its site.
@@ -96,15 +99,6 @@ fn needs(condition: bool) -> Result<(), Refusal> {
     }
 }
 
-pub fn new_pn(old: u32, rank: u32) -> Result<u32, Refusal> {
-    let new = (old / 100 + 1) * 100 + rank;
-    if new > HIGHEST_PN {
-        Err(6)
-    } else {
-        Ok(new)
-    }
-}
-
 impl Around {
     fn count(&self) -> u32 {
         self.present.count_ones()
@@ -126,6 +120,18 @@ impl Around {
             }
             Fault::MajorityOfSite => accepts.count_ones() >= majority(self.n),
             _ => accepts & self.present == self.present,
+        }
+    }
+
+    /// The smallest number above the old one whose last two digits are the rank.
+    fn new_pn(&self, old: u32, rank: u32) -> Result<u32, Refusal> {
+        let near = old / 100 * 100 + rank;
+        let far = near <= old || self.fault == Fault::FullHundred;
+        let new = if far { near + 100 } else { near };
+        if new > HIGHEST_PN {
+            Err(6)
+        } else {
+            Ok(new)
         }
     }
 
@@ -230,7 +236,7 @@ impl Camera {
     fn recover(mut self, c: u32, around: Around) -> Result<Turn, Refusal> {
         needs(self.leads && self.phase == Phase::Election && self.state == State::Recovering)?;
         needs(around.count() > 1)?;
-        self.pn = new_pn(self.pn, c)?;
+        self.pn = around.new_pn(self.pn, c)?;
         self.phase = Phase::SendCollect;
         done(self, vec![])
     }
@@ -376,7 +382,7 @@ impl Camera {
         let out = if around.fault == Fault::SharedBeforeStored { early } else { shared };
         let mut became = false;
         if mail.pn > self.pn {
-            self.pn = new_pn(mail.pn, c)?;
+            self.pn = around.new_pn(mail.pn, c)?;
             self.phase = Phase::SendCollect;
         } else if mail.pn == self.pn {
             self.answered = around.joined(self.answered, from);

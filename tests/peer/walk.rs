@@ -53,14 +53,39 @@ impl Journal {
     }
 }
 
+/// What a step began with: its box's last and promise, and the number that a new one is made from.
+#[derive(Default)]
+struct Before {
+    last: u32,
+    pn: u32,
+    old: u32,
+}
+
+impl Before {
+    fn of(site: &Site, call: Call) -> Before {
+        let (c, mail) = match call {
+            Call::Recover(c) | Call::Agree(c) => (c, None),
+            Call::Deliver(a, c) => (c, site.link(a, c).front()),
+            _ => return Before::default(),
+        };
+        let Camera { last, pn, .. } = *site.at(c);
+        Before { last, pn, old: mail.map_or(pn, |mail| mail.pn) }
+    }
+}
+
 /// What a step's own rule makes visible, beyond demand 3: a record is agreed once all present hold
-/// it, and a Last leaves no present box behind that is known to lag.
-fn look_at_rule(site: &Site, call: Call, answer: Answer, last: u32) -> Result<(), String> {
+/// it, a Last leaves no present box behind that is known to lag, and a leader's new number is the
+/// smallest above the old one with its rank.
+fn look_at_rule(site: &Site, call: Call, answer: Answer, before: Before) -> Result<(), String> {
     let c = match call {
-        Call::Agree(c) | Call::Deliver(_, c) => c,
+        Call::Recover(c) | Call::Agree(c) | Call::Deliver(_, c) => c,
         _ => return Ok(()),
     };
     let own = site.at(c);
+    let smallest = own.pn > before.old && own.pn - before.old <= 100 && own.pn % 100 == c;
+    if own.leads && own.pn != before.pn && !smallest {
+        return Err("a new number is not the smallest".into());
+    }
     let present = || site.numbers().filter(|k| *k != c && member(site.present, *k));
     if matches!(call, Call::Agree(_)) {
         let r = own.records[own.last as usize - 1];
@@ -70,7 +95,7 @@ fn look_at_rule(site: &Site, call: Call, answer: Answer, last: u32) -> Result<()
                 own.last
             ));
         }
-    } else if answer == Answer::Taken && own.leads && own.last > last {
+    } else if answer == Answer::Taken && own.leads && own.last > before.last {
         let shared = |k: u32| site.link(c, k).back().is_some_and(|m| m.records == own.agreed());
         let lags = |k: u32| own.peers[k as usize - 1] < own.last;
         if present().any(|k| lags(k) && !shared(k)) {
@@ -102,7 +127,7 @@ fn play(
     let mut told = Told::default();
     let demand_alone = FAULTS.iter().any(|(f, _, breaks)| *f == fault && *breaks);
     while let Some(call) = calls(&site) {
-        let watched = if let Call::Deliver(_, c) = call { site.at(c).last } else { 0 };
+        let before = Before::of(&site, call);
         let Ok(answer) = step_with(&mut site, call, fault) else { continue };
         journal.note(call);
         told.steps += 1;
@@ -110,13 +135,14 @@ fn play(
         told.repeated += matches!(call, Call::Repeat(..)) as u64;
         told.recovered +=
             matches!(call, Call::Ready(c) if site.at(c).state == State::UpdatingPrevious) as u64;
-        told.shared += matches!(call, Call::Deliver(_, c) if site.at(c).last > watched + 1) as u64;
+        told.shared +=
+            matches!(call, Call::Deliver(_, c) if site.at(c).last > before.last + 1) as u64;
         let looked = if site.by_form() { Ok(()) } else { Err("not by form".to_string()) };
         let looked = looked.and_then(|()| journal.look(&site)).and_then(|()| {
             if demand_alone {
                 Ok(())
             } else {
-                look_at_rule(&site, call, answer, watched)
+                look_at_rule(&site, call, answer, before)
             }
         });
         if let Err(wrong) = looked {
