@@ -145,6 +145,11 @@ module _ {ℓ κ} {A : Type ℓ} {P : A → Type κ} where
   All-tail nil = nil
   All-tail (cons p ps) = ps
 
+  -- wherever it stands
+  pub All-in : (l : List A) (x : A) (m : List A) → All P (l ++ (x ∷ m)) → P x
+  All-in [] x m h = All-head h
+  All-in (y ∷ l) x m h = All-in l x m (All-tail h)
+
   pub All-twice : {l : List A} → All P l → All P (twice l)
   unfolding twice
   All-twice nil = nil

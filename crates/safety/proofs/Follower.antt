@@ -2,7 +2,7 @@
 use Prim.Native.Nat.{ℕ, suc, _≤_, _<_}
 use mathlib.Core.Path.{_≡_, sym, ap, _∙_, subst}
 use mathlib.Core.Bool.{true, false, _&&_, cond}
-use mathlib.Core.List.{List, _∷_, tail}
+use mathlib.Core.List.{List, [], _∷_, _++_, tail}
 use native.Mathlib.Omega.{arith}
 use lib.Dec.{eqb, ltb}
 use lib.ListN.{length, take}
@@ -12,7 +12,7 @@ use Rattle.rules.specs.Sets.{has}
 use Rattle.rules.specs.Box.{Box, Letter}
 use Rattle.rules.specs.Site.{upd}
 use Rattle.laws.proofs.Types.{Kind}
-use Rattle.laws.proofs.Logic.{Or, left, right, In, decide, All, All-head, All-map}
+use Rattle.laws.proofs.Logic.{Or, left, right, In, decide, All, All-in, All-map}
 use Rattle.laws.proofs.FrameLaws.{upd-all, upd-other, all-pop}
 use Rattle.laws.proofs.View.{Links, Store, store, phaseOf, stateOf, Reading, Collect, Last, Begin}
 use Rattle.laws.proofs.View.{Accept, Commit, Lease, read, readAs}
@@ -37,13 +37,21 @@ module _ {n w : ℕ} {box : ℕ → Box} {link : Links} {g : Agreement} (k : Cor
       ∙ ap (take l) (lead-ok .prefix)
       ∙ take-take l (store (L .x) .last) (g .records) le
 
+-- a mail anywhere on a link
+pub mail-on : {n w : ℕ} {box : ℕ → Box} {link : Links} {g : Agreement} (L : Live n w box link g)
+    (a b : ℕ) (ahead : List Letter) (y : Letter) (behind : List Letter)
+    → link a b ≡ ahead ++ (y ∷ behind) → (a ≡ b → ⊥) → (k : Kind) → y .head .kind ≡ k
+    → MailOk w g (L .c) (L .x) a (store (box a)) b (store (box b)) (readAs k y)
+mail-on {w = w} {g = g} L a b ahead y behind e ab k is =
+    let m = subst (All (PostOk w g (L .c) (L .x) a _ b _)) e (L .mails a b) in
+    subst (MailOk w g (L .c) (L .x) a _ b _) (ap (λ (k : Kind). readAs k y) is)
+    (All-in ahead y behind m ab)
+
 module _ {n w : ℕ} {box : ℕ → Box} {link : Links} {g : Agreement} (L : Live n w box link g)
     (a b : ℕ) (y : Letter) (ys : List Letter) (e : link a b ≡ y ∷ ys) where
   pub head-mail : (a ≡ b → ⊥) → (k : Kind) → y .head .kind ≡ k
       → MailOk w g (L .c) (L .x) a (store (box a)) b (store (box b)) (readAs k y)
-  head-mail ab k is =
-      let m = subst (All (PostOk w g (L .c) (L .x) a _ b _)) e (L .mails a b) in
-      subst (MailOk w g (L .c) (L .x) a _ b _) (ap (λ (k : Kind). readAs k y) is) (All-head m ab)
+  head-mail = mail-on L a b [] y ys e
 
   pub no-election : phaseOf (L .x) ≡ 0 → ⊥
   no-election z = let h : 0 ≡ suc (length ys) = ap length (sym (L .quiet z a b) ∙ e) in omega arith

@@ -23,6 +23,7 @@ pub mod MailAccept
 pub mod MailCommit
 pub mod MailLease
 pub mod Safe
+pub mod Begins
 pub mod Moves
 pub mod Desk
 pub mod Origin

@@ -22,13 +22,19 @@ use Rattle.laws.proofs.Conditions.{go-begin}
 use Rattle.laws.proofs.FrameLaws.{all-pop, all-post}
 use Rattle.laws.proofs.View.{Links, Store, store, Shaped, stored}
 use Rattle.laws.proofs.StepLaws.{changed, by-settled}
-use Rattle.safety.proofs.Inv.{VotedFor, BeginOk, AcceptOk, Settled, Live, Inv}
+use Rattle.safety.proofs.Inv.{Agreement, VotedFor, BeginOk, AcceptOk, Settled, Live, Inv}
 use Rattle.safety.proofs.Stores.{box-stored, stored-length, stored-at}
 use Rattle.safety.proofs.Base.{core-put, ranks-put}
 use Rattle.safety.proofs.Follower.{lead-ok, head-mail, no-election, Moved, PostAfter}
 use Rattle.safety.proofs.Follower.{mails-moved, live-moved}
 use Rattle.safety.proofs.Quiet.{inv-popped}
 use Rattle.safety.proofs.Arrival.{Arrives}
+
+-- its pn is just its receiver's: all present have promised the leader's
+pub begin-pn : {n w : ℕ} {box : ℕ → Box} {link : Links} {g : Agreement} (L : Live n w box link g)
+    {a b q l r : ℕ} → In b n → BeginOk w g (L .c) (L .x) a b (store (box b)) q l r
+    → q ≡ store (box b) .pn
+begin-pn L {b = b} bn ok = ok .pn ∙ sym (L .settled (ok .recovered) .ripe .pns b bn (ok .to))
 
 module _ (s : Site) (i : Inv s) (a b : ℕ) (y : Letter) (ys : List Letter)
     (r : Arrives s a b y ys Kind.Begin) where
@@ -61,9 +67,8 @@ module _ (s : Site) (i : Inv s) (a b : ℕ) (y : Letter) (ys : List Letter)
   S : Settled (s .n) (s .present) (s .box) (i .agreed) (L .c) (L .x)
   S = L .settled (ok .recovered)
 
-  -- its pn is just its receiver's
-  pub begin-pn : q ≡ st .pn
-  begin-pn = ok .pn ∙ sym (S .ripe .pns b (r .to) (ok .to))
+  same-pn : q ≡ st .pn
+  same-pn = begin-pn L (r .to) ok
 
   module _ (place : l ≡ st .last) where
     shaped : Shaped st
@@ -153,13 +158,13 @@ module _ (s : Site) (i : Inv s) (a b : ℕ) (y : Letter) (ys : List Letter)
     begun = record {
       agreed = i .agreed;
       core = core-put (i .core) b v (r .to)
-          (box-stored st (i .core .boxes b (r .to)) q value begin-pn shaped
+          (box-stored st (i .core .boxes b (r .to)) q value same-pn shaped
           (omega (arith, place, ok .top (omega (arith, place)))) value-is)
           (omega arith) (omega arith)
           (has (s .present)) (L .major) (λ j h t. omega (arith, S .ripe .pns j h t, ok .pn));
       ranks = ranks-put (i .ranks) b v (omega arith)
           (λ x hx ne t. i .ranks .pns x b hx (r .to) t)
-          (λ x hx t. rw begin-pn (i .ranks .pns x b hx (r .to) (rw begin-pn at t)));
+          (λ x hx t. rw same-pn (i .ranks .pns x b hx (r .to) (rw same-pn at t)));
       live = λ z.
           live-moved L b v moved link′ (ok .to) ne refl (no-election L a b y ys (r .head))
           (λ h. absurd (ok .recovered h)) (λ h. omega (arith, ok .pn)) (λ h f. f)

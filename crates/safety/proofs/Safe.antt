@@ -32,7 +32,7 @@ use Rattle.safety.proofs.Agree.{inv-agree}
 use Rattle.safety.proofs.Finish.{inv-finish}
 use Rattle.safety.proofs.MailCollect.{inv-collect-mail}
 use Rattle.safety.proofs.MailLast.{inv-last}
-use Rattle.safety.proofs.MailBegin.{begin-pn, inv-begin}
+use Rattle.safety.proofs.MailBegin.{inv-begin}
 use Rattle.safety.proofs.MailAccept.{inv-accept}
 use Rattle.safety.proofs.MailCommit.{inv-commit}
 use Rattle.safety.proofs.MailLease.{inv-lease}
@@ -165,8 +165,3 @@ module _ (n J L : ℕ) (size : In n mostBoxes) where
         sym (getD-take last (end .box b .records) k 0 l)
         ∙ ap (λ (t : List ℕ). getD t k 0) (box-ok b h .prefix)
         ∙ getD-take last (inv-run cs .agreed .records) k 0 l
-
-    -- Refusal 9 never comes: in an even epoch a Begin at a link's head has just its receiver's pn.
-    pub no-nine : (a b : ℕ) (y : Letter) (ys : List Letter) → Arrives end a b y ys Kind.Begin
-        → y .head .pn ≡ end .box b .head .kept .pn
-    no-nine a b y ys r = begin-pn end (inv-run cs) a b y ys r

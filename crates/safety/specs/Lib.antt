@@ -1,2 +1,3 @@
--- Demand 3, in statements.
+-- Demand 3 and Q-10, in statements.
 pub mod Demand3
+pub mod Begins
