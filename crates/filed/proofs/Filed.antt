@@ -7,7 +7,7 @@ use lib.Dec.{leb}
 use lib.ListN.{length}
 use borrow.Author.Tests.{leb-true, le-leb, eq-eqb}
 use Rattle.rules.specs.Sizes.{mostBoxes, sizesForm, leftOf, rightOf}
-use Rattle.rules.specs.Box.{Box}
+use Rattle.rules.specs.Box.{Box, Letter}
 use Rattle.rules.specs.Site.{Site, Outcome, isBox, fresh}
 use Rattle.rules.specs.Step.{step, run, agreedAs, holds}
 use Rattle.rules.specs.declared.model.Answer.{Answer}
@@ -25,7 +25,9 @@ use Rattle.site.proofs.CallLaws.{holds-no-box, holds-true, holds-untrue}
 use Rattle.site.proofs.Once.{form-kept, held-formed}
 use Rattle.safety.specs.Demand3.{In, Agreed, recordAt, start}
 use Rattle.safety.proofs.Safe.{same-n}
+use Rattle.safety.specs.Begins.{BeginComes}
 use Rattle.safety.proofs.Demand.{demand-3}
+use Rattle.safety.proofs.Begins.{begins}
 use Rattle.filed.specs.Served.{Served, made, called, Filed}
 
 not-refused : {a : Answer} → a ≡ Answer.Done → isRefusal a ≡ true → ⊥
@@ -171,6 +173,15 @@ module _ {n J L : ℕ} {calls : List Call} {xs ls : List ℕ} (h : Holds n J L c
       ∙ sym (ap (λ (x : Box). recordAt x k) (at d)) in
       (sym (t .left-is) ∙ ap leftOf e ∙ u .left-is, sym (t .right-is) ∙ ap rightOf e ∙ u .right-is)
 
+  -- what is true of every run's Begins is true of these
+  pub begins-served : (a b : ℕ) → In b n → (ahead : List Letter) (y : Letter)
+      → BeginComes site a b ahead y → y .head .pn ≡ site .box b .head .kept .pn
+  begins-served =
+      subst
+      (λ (s : Site). (a b : ℕ) → In b n → (ahead : List Letter) (y : Letter)
+      → BeginComes s a b ahead y → y .head .pn ≡ s .box b .head .kept .pn)
+      (sym (h .site)) (begins .promised n J L in-range calls)
+
 pub filed : Filed
 unfolding run
 filed = record {
@@ -196,4 +207,5 @@ filed = record {
   returned = λ c b served after.
       let i = inner (Call.Return c) (holds-run served .form) after in
       ap (λ (s : Site). s .box b) (i .site) ∙ other-box _ b (Call.Return c) tt;
+  begins = λ served. begins-served (holds-run served);
 }

@@ -3,11 +3,14 @@
 use Prim.Native.Nat.{ℕ}
 use mathlib.Core.Path.{_≡_}
 use mathlib.Core.List.{List, [], _∷_}
+use Rattle.rules.specs.Box.{Letter}
 use Rattle.rules.specs.declared.model.Answer.{Answer}
 use Rattle.rules.specs.declared.model.Call.{Call}
 use Rattle.laws.specs.Frames.{CallFits}
 use Rattle.memory.specs.Memory.{siteOf}
 use Rattle.site.specs.Entries.{After, FreshMade, stepOn, holdsOn}
+use Rattle.safety.specs.Demand3.{In}
+use Rattle.safety.specs.Begins.{BeginComes}
 
 -- the calls since (the latest first), and the words that they left. By the contracts of `fresh` and
 -- `step` a program that calls them has just this. Frame numbers are numbers of 32 bits.
@@ -35,3 +38,8 @@ pub record Filed : Type 0 where
   pub returned : {n J L : ℕ} {calls : List Call} {xs ls xs' ls' : List ℕ} {a : Answer} (c b : ℕ)
       → Served n J L calls xs ls → After (stepOn xs ls (Call.Return c)) xs ls xs' ls' a
       → siteOf xs' ls' .box b ≡ siteOf xs ls .box b
+  -- A Begin on its way to box b has just the number that b has promised, wherever it stands (Q-10).
+  pub begins : {n J L : ℕ} {calls : List Call} {xs ls : List ℕ} → Served n J L calls xs ls
+      → (a b : ℕ) → In b n → (ahead : List Letter) (y : Letter)
+      → BeginComes (siteOf xs ls) a b ahead y
+      → y .head .pn ≡ siteOf xs ls .box b .head .kept .pn
