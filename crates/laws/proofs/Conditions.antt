@@ -5,7 +5,7 @@ use mathlib.Core.Bool.{Bool, true, false, not, _&&_}
 use native.Mathlib.Omega.{arith}
 use lib.Count.{ones}
 use lib.Dec.{eqb, leb}
-use borrow.Author.Tests.{leb-true, ltb-true, ltb-false, not-true, not-false}
+use borrow.Author.Tests.{leb-true, ltb-true, not-true, not-false}
 use Rattle.rules.specs.Pick.{pick}
 use Rattle.rules.specs.Sizes.{even, mostPn}
 use Rattle.rules.specs.Sets.{includes}
@@ -18,7 +18,7 @@ use Rattle.rules.specs.Mails.{beginVerdict, acceptVerdict}
 use Rattle.rules.specs.Steps.{canRecover, canCollect, canReady, hasPrevious, canOffer, canPropose}
 use Rattle.rules.specs.Steps.{canAgree, canFinish}
 use Rattle.laws.proofs.Types.{BoxState, Held, Mail, Phase, Refusal, Setting, State, Verdict}
-use Rattle.laws.proofs.Logic.{Or, left, right, eqb-yes, eqb-no, both-no, and-yes, or-cases}
+use Rattle.laws.proofs.Logic.{Or, left, right, eqb-yes, eqb-no, and-yes, or-cases}
 
 -- ---- verdicts
 
@@ -78,26 +78,16 @@ go-last {b} {s} {m} e =
 
 pub record BeginTaken (b : BoxState) (m : Mail) : Type 0 where
   pub follows : b .leads ≡ false
-  pub pn : m .pn ≡ b .kept .pn
+  pub pn : b .kept .pn ≡ m .pn
   pub place : b .kept .last ≡ m .last
 
 pub go-begin : {b : BoxState} {m : Mail} → beginVerdict b m ≡ Verdict.Go → BeginTaken b m
 unfolding beginVerdict
-go-begin {b} {m} e =
-    let h = go-unless _ _ _ e in
-    let g = go-cause _ _ _ _ _ (h .1) in
-    record {
-      follows = g .no-role;
-      pn =
-          go (g .no-role) (or-cases (b .leads) (leb (m .pn) (b .kept .pn)) (h .0))
-          (ltb-false _ _ (g .no-number));
-      place = eqb-yes _ _ (not-false _ (g .no-place));
-    }
-  where
-    go : b .leads ≡ false → Or (b .leads ≡ true) (leb (m .pn) (b .kept .pn) ≡ true)
-        → b .kept .pn ≤ m .pn → m .pn ≡ b .kept .pn
-    go f (left h) le = absurd (both-no h f)
-    go f (right h) le = omega (arith, leb-true (m .pn) (b .kept .pn) h)
+go-begin {b} {m} e = let g = go-cause _ _ _ _ _ e in record {
+  follows = g .no-role;
+  pn = eqb-yes _ _ (not-false _ (g .no-number));
+  place = eqb-yes _ _ (not-false _ (g .no-place));
+}
 
 pub record AcceptTaken (b : BoxState) (m : Mail) : Type 0 where
   pub leads : b .leads ≡ true

@@ -1,7 +1,7 @@
 -- "Mail": what a box does with each kind. Last has a file of its own.
 use Prim.Native.Nat.{ℕ, _+_, max}
-use mathlib.Core.Bool.{false, not, _||_}
-use lib.Dec.{leb, ltb, eqb}
+use mathlib.Core.Bool.{false, not}
+use lib.Dec.{eqb}
 use Rattle.rules.specs.Sizes.{even}
 use Rattle.rules.specs.Sets.{bit, joined}
 use Rattle.rules.specs.Numbers.{inPhase}
@@ -29,13 +29,14 @@ onCollect b sender m mine =
     (Out.To (bit sender)
     (mailOf Kind.Last (max (b .kept .pn) (m .pn)) (b .kept .last) (unagreedOf (b .kept) mine))))
 
--- "Begin (role: receiver leads; number: pn below promised; place: lasts differ)"; refusal 9 stands
--- before every discard but role
+-- "Begin (role: receiver leads; number: pn below promised; place: lasts differ)"; "such mail in a
+-- foreign image", above it, "is discarded for the cause 'number'" too (Q-10)
 unfoldable pub beginVerdict : BoxState → Mail → Verdict
 beginVerdict b m =
-    unless (b .leads || leb (m .pn) (b .kept .pn)) Refusal.Above
-    (firstCause (b .leads) false (ltb (m .pn) (b .kept .pn)) (not (eqb (b .kept .last) (m .last)))
-    Verdict.Go)
+    firstCause (b .leads) false
+    (not (eqb (b .kept .pn) (m .pn)))
+    (not (eqb (b .kept .last) (m .last)))
+    Verdict.Go
 
 -- "last+1 holds the record; stored pn and number set; Updating; replies Accept(pn, last)."
 unfoldable pub onBegin : BoxState → ℕ → Mail → ℕ → Turn

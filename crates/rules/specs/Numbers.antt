@@ -37,7 +37,7 @@ causeNumber Cause.Phase = 2
 causeNumber Cause.Number = 3
 causeNumber Cause.Place = 4
 
--- the table "Refusals and their order"
+-- the table "Refusals and their order"; 9 went with Q-10 and is not given anew
 abbrev pub refusalNumber : Refusal → ℕ
 refusalNumber Refusal.Sizes = 13
 refusalNumber Refusal.Form = 1
@@ -47,7 +47,6 @@ refusalNumber Refusal.Condition = 3
 refusalNumber Refusal.Majority = 4
 refusalNumber Refusal.Epoch = 5
 refusalNumber Refusal.NewPn = 6
-refusalNumber Refusal.Above = 9
 refusalNumber Refusal.Book = 7
 refusalNumber Refusal.Link = 8
 refusalNumber Refusal.Buffer = 12

@@ -67,15 +67,13 @@ impl BoxState {
     pub(crate) fn judge_begin(self, m: Mail) -> Verdict
         ensures { λ r. ⌜ r ≡ beginVerdict self m ⌝ }
     {
-        let k = self.kept;
-        let f = turns::first_cause(
+        turns::first_cause(
             self.leads,
             false,
-            m.pn < k.pn,
-            k.last != m.last,
+            self.kept.pn != m.pn,
+            self.kept.last != m.last,
             Verdict::Go,
-        );
-        turns::unless(self.leads | (m.pn <= k.pn), Refusal::Above, f)
+        )
     }
 
     pub(crate) fn on_begin(self, sender: u32, m: Mail, r: u64) -> Turn

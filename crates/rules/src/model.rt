@@ -35,8 +35,8 @@ pub enum Cause {
     Place,
 }
 
-// Why a call is refused, in the order of the paper's table: 13, 1, 2, 10, 3, 4, 5, 6, 9, 7, 8, 12,
-// 14, 11.
+// Why a call is refused, in the order of the paper's table: 13, 1, 2, 10, 3, 4, 5, 6, 7, 8, 12, 14,
+// 11. (9 went with Q-10.)
 pub enum Refusal {
     Sizes,
     Form,
@@ -46,7 +46,6 @@ pub enum Refusal {
     Majority,
     Epoch,
     NewPn,
-    Above,
     Book,
     Link,
     Buffer,

@@ -78,7 +78,6 @@ pub fn refusal_number(f: Refusal) -> u32
         Refusal::Majority => 4,
         Refusal::Epoch => 5,
         Refusal::NewPn => 6,
-        Refusal::Above => 9,
         Refusal::Book => 7,
         Refusal::Link => 8,
         Refusal::Buffer => 12,

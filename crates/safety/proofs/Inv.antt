@@ -130,8 +130,7 @@ module _ (w : ℕ) (g : Agreement) (c : ℕ) (x : Box) where
   pub record BeginOk (a b : ℕ) (sb : Store) (q l r : ℕ) : Type 0 where
     pub from : a ≡ c
     pub to : has w b ≡ true
-    -- the leader has recovered, and this is its pn: so it is the receiver's too, and refusal 9
-    -- never comes
+    -- the leader has recovered, and this is its pn: so it is the receiver's too
     pub recovered : stateOf x ≡ 0 → ⊥
     pub pn : q ≡ store x .pn
     -- the record is the leader's
