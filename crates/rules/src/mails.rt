@@ -67,11 +67,12 @@ impl BoxState {
     pub(crate) fn judge_begin(self, m: Mail) -> Verdict
         ensures { λ r. ⌜ r ≡ beginVerdict self m ⌝ }
     {
+        let k = self.kept;
         turns::first_cause(
             self.leads,
             false,
-            self.kept.pn != m.pn,
-            self.kept.last != m.last,
+            k.pn != m.pn,
+            k.last != m.last,
             Verdict::Go,
         )
     }
