@@ -38,11 +38,11 @@ enum {
     JOURNAL_EPOCH = 5,     /* stop, return or timeout at epoch 1,000,000 */
     JOURNAL_NEW_PN = 6,    /* the new proposal number would exceed 999,999,999; not within the first
                             * 9,999,999 elections of a fresh site, and its epochs allow 500,000 */
-    JOURNAL_ABOVE = 9,     /* a Begin mail with a proposal number above the receiver's */
     JOURNAL_BOOK = 7,      /* propose with a full book */
     JOURNAL_LINK = 8,      /* a mail would go onto a full link */
     JOURNAL_BUFFER = 12,   /* too few words or bytes are lent */
     JOURNAL_UNTRUE = 14,   /* a holds line that is untrue */
+    /* 9 is no longer given and stays unused: a number given back is not given anew. */
     /* A mail that was handed over. */
     JOURNAL_TAKEN = 100,
     JOURNAL_DISCARDED_ROLE = 101,
@@ -84,7 +84,7 @@ uint32_t journal_fresh(uint64_t *site, size_t site_words, uint64_t *links, size_
  * lose: the head of the link from a to b is dropped, in any epoch.
  * repeat: the head of the link from a to b stands twice, the copy right behind it, in any
  *         epoch: what a radio bridge does that hands a mail over again. (3: no mail)      8
- * deliver: the head of the link from a to b is handed to b.       6 9 8 100 101 102 103 104
+ * deliver: the head of the link from a to b is handed to b.         6 8 100 101 102 103 104
  *          (not 0) A refused mail stays at the head. */
 uint32_t journal_elect(uint64_t *site, size_t site_words, uint64_t *links, size_t links_words,
                        uint32_t c);
@@ -134,7 +134,7 @@ uint32_t journal_holds(const uint64_t *site, size_t site_words, const uint64_t *
  * in every row word 0 becomes 1 at c and 0 elsewhere, words 1, 2, 12 and 13 become 0 (word 1
  * becomes 1 where exactly one box is present).
  *
- * Answers 0, 13, 1, 2, 10, 3, 6, 7, 12; mail 100 to 104, 13, 1, 2, 3, 6, 9, 12. */
+ * Answers 0, 13, 1, 2, 10, 3, 6, 7, 12; mail 100 to 104, 13, 1, 2, 3, 6, 12. */
 uint32_t journal_own_recover(uint64_t *row, size_t row_words, uint64_t *out, size_t out_words,
                              uint32_t *to, uint32_t n, uint32_t j, uint32_t l, uint32_t epoch,
                              uint32_t present, uint32_t me);

@@ -8,7 +8,8 @@
 
 use std::fmt;
 
-/// Why a call is refused; the number of each is the paper's. Every word stays as it was.
+/// Why a call is refused; the number of each is the paper's. Every word stays as it was. 9 is no
+/// longer given and stays unused.
 #[derive(Clone, Copy, Debug, PartialEq, Eq)]
 #[repr(u32)]
 pub enum Refusal {
@@ -20,7 +21,6 @@ pub enum Refusal {
     Majority = 4,
     Epoch = 5,
     NewPn = 6,
-    Above = 9,
     Book = 7,
     Link = 8,
     Buffer = 12,
@@ -51,7 +51,7 @@ impl fmt::Display for Refusal {
 
 impl std::error::Error for Refusal {}
 
-const REFUSALS: [Refusal; 13] = [
+const REFUSALS: [Refusal; 12] = [
     Refusal::Sizes,
     Refusal::Form,
     Refusal::Box,
@@ -60,7 +60,6 @@ const REFUSALS: [Refusal; 13] = [
     Refusal::Majority,
     Refusal::Epoch,
     Refusal::NewPn,
-    Refusal::Above,
     Refusal::Book,
     Refusal::Link,
     Refusal::Buffer,
