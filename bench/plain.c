@@ -238,8 +238,7 @@ static u32 on_last(struct site *s, u32 from, u32 c, struct camera *b, const stru
 
 static u32 on_begin(struct site *s, u32 from, u32 c, struct camera *b, const struct mail *m) {
     if (b->leads) return ROLE;
-    if (m->pn > b->pn) return 9;
-    if (m->pn < b->pn) return NUMBER;
+    if (m->pn != b->pn) return NUMBER;
     if (m->last != b->last) return PLACE;
     if (full(s, c, 1u << (from - 1))) return 8;
     put_unagreed(b, m->records[0], m->pn);

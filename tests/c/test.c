@@ -274,7 +274,7 @@ static void repeats(void) {
     release_site();
 }
 
-/* Mails of a foreign site: 9 and the four causes. Link 1 to 2 of a site of two boxes stands first. */
+/* Mails of a foreign site: the four causes. Link 1 to 2 of a site of two boxes stands first. */
 static void post(uint64_t kind, uint64_t pn, uint64_t last, uint64_t count) {
     uint64_t mail[] = {0, 1, kind, pn, last, 0, count, 0x700000008u};
     memcpy(links.words, mail, sizeof mail);
@@ -295,9 +295,9 @@ static void mails(void) {
     SITE(JOURNAL_DISCARDED_NUMBER, journal_deliver(ON, 1, 2));
     post(6, 0, 1, 0);
     SITE(JOURNAL_DISCARDED_PLACE, journal_deliver(ON, 1, 2));
-    post(3, 204, 0, 1);
-    SITE(JOURNAL_ABOVE, journal_deliver(ON, 1, 2));
-    WORD(links, 1, 1);
+    post(3, 204, 0, 1); /* above the promise as below it */
+    SITE(JOURNAL_DISCARDED_NUMBER, journal_deliver(ON, 1, 2));
+    WORD(links, 1, 0);
     post(3, 203, 0, 1);
     SITE(JOURNAL_TAKEN, journal_deliver(ON, 1, 2));
     post(7, 0, 0, 0);
