@@ -58,7 +58,8 @@ impl Met {
         *self.0.entry(answer).or_default() += 1;
     }
 
-    /// Whether all of these were met: a driver that misses an answer has not tried it.
+    /// Whether all of these were met: a driver that misses an answer has not tried it. Refusal 9
+    /// must not have been.
     fn all(&self, refusals: &[u32], others: &[&str]) -> bool {
         let named = refusals.iter().map(|k| format!("refused {k}"));
         let wanted = named.chain(others.iter().map(|word| word.to_string()));
@@ -66,7 +67,11 @@ impl Met {
         let counts: Vec<_> = self.0.iter().map(|(answer, n)| format!("{answer} {n}")).collect();
         println!("  {}", counts.join(", "));
         missed.iter().for_each(|answer| println!("  never met: {answer}"));
-        missed.is_empty()
+        let gone = self.0.contains_key("refused 9");
+        if gone {
+            println!("  met: refused 9, which is gone");
+        }
+        missed.is_empty() && !gone
     }
 }
 
@@ -207,7 +212,7 @@ pub fn applies(command: &str, seed: u64, count: u64) -> bool {
     println!("{count} image steps from seed {seed}: the same");
     let causes = ["discarded role", "discarded phase", "discarded number", "discarded place"];
     let others = [&["done", "taken", "repeat done"][..], &causes, &REPEATS].concat();
-    met.all(&[1, 2, 3, 4, 5, 6, 7, 8, 9, 10, 11, 14], &others)
+    met.all(&[1, 2, 3, 4, 5, 6, 7, 8, 10, 11, 14], &others)
 }
 
 /// A simpler line that differs too.

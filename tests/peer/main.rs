@@ -22,7 +22,7 @@ mod site;
 mod trace;
 mod walk;
 
-use rules::{Fault, FAULTS};
+use rules::{Fault, Shows, FAULTS};
 use std::io::{Read, Write};
 use std::process::ExitCode;
 
@@ -47,9 +47,13 @@ fn status(good: bool) -> ExitCode {
     }
 }
 
-/// The right rules on long walks; each broken rule on many short ones.
+/// The right rules on long walks; each broken rule on many short ones, or on long ones where no
+/// walk may notice it.
 fn walks(seed: u64, walks: u64, steps: u32, fault: Fault) -> ExitCode {
-    let broken = |(fault, name, _), tell| walk::broken(seed, 100_000, 400, fault, name, tell);
+    let broken = |(fault, name, shows), tell| match shows {
+        Shows::OnForeign => walk::unseen(seed, walks, steps, fault, name),
+        _ => walk::broken(seed, 100_000, 400, fault, name, tell),
+    };
     if let Some(one) = FAULTS.iter().find(|(f, ..)| *f == fault) {
         return status(broken(*one, true));
     }

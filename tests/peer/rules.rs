@@ -50,21 +50,33 @@ pub enum Fault {
     SharedBeforeStored,
     CountOfReplies,
     FullHundred,
+    AboveRefused,
 }
 
-/// Each fault, its name, and whether it breaks demand 3 itself. Three do not: with a majority of
-/// all n the accepts still meet every later election, a box that was told too little is told the
-/// rest at the next one, and a number that jumps too far is above the old one. They break the
-/// rule's own sentence, and that is looked at instead.
-pub const FAULTS: [(Fault, &str, bool); 8] = [
-    (Fault::MajorityOfPresent, "majority-of-present", true),
-    (Fault::MajorityOfSite, "majority-of-site", false),
-    (Fault::PromiseClearedAtStop, "promise-cleared-at-stop", true),
-    (Fault::PromisedInLast, "promised-in-last", true),
-    (Fault::FirstHeard, "first-heard", true),
-    (Fault::SharedBeforeStored, "shared-before-stored", false),
-    (Fault::CountOfReplies, "count-of-replies", true),
-    (Fault::FullHundred, "full-hundred", false),
+/// Where a fault shows.
+#[derive(Clone, Copy, PartialEq, Eq, Debug)]
+pub enum Shows {
+    /// It breaks demand 3.
+    InDemand,
+    /// It breaks its rule's own sentence. With a majority of all n the accepts still meet every
+    /// later election, a box that was told too little is told the rest at the next one, and a
+    /// number that jumps too far is above the old one.
+    InRule,
+    /// On sites that the steps do not reach, and on no others.
+    OnForeign,
+}
+
+/// Each fault, its name, and where a walk notices it.
+pub const FAULTS: [(Fault, &str, Shows); 9] = [
+    (Fault::MajorityOfPresent, "majority-of-present", Shows::InDemand),
+    (Fault::MajorityOfSite, "majority-of-site", Shows::InRule),
+    (Fault::PromiseClearedAtStop, "promise-cleared-at-stop", Shows::InDemand),
+    (Fault::PromisedInLast, "promised-in-last", Shows::InDemand),
+    (Fault::FirstHeard, "first-heard", Shows::InDemand),
+    (Fault::SharedBeforeStored, "shared-before-stored", Shows::InRule),
+    (Fault::CountOfReplies, "count-of-replies", Shows::InDemand),
+    (Fault::FullHundred, "full-hundred", Shows::InRule),
+    (Fault::AboveRefused, "above-refused", Shows::OnForeign),
 ];
 
 /// What a box sees of its site.
@@ -319,7 +331,11 @@ impl Camera {
     }
 
     fn receive(self, c: u32, around: Around, from: u32, mail: &Mail) -> Result<Turn, Refusal> {
-        if let Some(cause) = self.discards(around, mail)? {
+        let above = mail.kind == Kind::Begin && !self.leads && mail.pn > self.pn;
+        if above && around.fault == Fault::AboveRefused {
+            return Err(9);
+        }
+        if let Some(cause) = self.discards(around, mail) {
             return Ok(Turn { answer: Answer::Discarded(cause), next: self, out: vec![] });
         }
         match mail.kind {
@@ -332,22 +348,21 @@ impl Camera {
         }
     }
 
-    /// The first cause that applies; refusal 9 stands before every cause but role.
-    fn discards(&self, around: Around, mail: &Mail) -> Result<Option<Cause>, Refusal> {
-        let place = mail.last != self.last;
+    /// The first cause that applies.
+    fn discards(&self, around: Around, mail: &Mail) -> Option<Cause> {
+        let (number, place) = (mail.pn != self.pn, mail.last != self.last);
         let causes = match mail.kind {
             Kind::Collect | Kind::Commit => [self.leads, false, false, false],
             Kind::Last => {
                 let closed = self.phase != Phase::Collect || around.enough_answers(self.answered);
                 [!self.leads, closed, false, false]
             }
-            Kind::Begin if !self.leads && mail.pn > self.pn => return Err(9),
-            Kind::Begin => [self.leads, false, mail.pn < self.pn, place],
-            Kind::Accept => [!self.leads, self.phase != Phase::Begin, mail.pn != self.pn, place],
+            Kind::Begin => [self.leads, false, number, place],
+            Kind::Accept => [!self.leads, self.phase != Phase::Begin, number, place],
             Kind::Lease => [self.leads, false, false, place],
         };
         let names = [Cause::Role, Cause::Phase, Cause::Number, Cause::Place];
-        Ok(causes.iter().position(|applies| *applies).map(|first| names[first]))
+        causes.iter().position(|applies| *applies).map(|first| names[first])
     }
 
     fn on_collect(mut self, around: Around, from: u32, mail: &Mail) -> Result<Turn, Refusal> {

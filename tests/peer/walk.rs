@@ -105,6 +105,17 @@ fn look_at_rule(site: &Site, call: Call, answer: Answer, before: Before) -> Resu
     Ok(())
 }
 
+/// A Begin on its way has the number that its receiver promised: none is above, and none below.
+fn look_at_begins(site: &Site) -> Result<(), String> {
+    let stray = |(a, b): &(u32, u32)| {
+        site.link(*a, *b).iter().any(|m| m.kind == Kind::Begin && m.pn != site.at(*b).pn)
+    };
+    match site.pairs().iter().find(|pair| stray(pair)) {
+        Some((a, b)) => Err(format!("a Begin from {a} to {b} has not the number promised there")),
+        None => Ok(()),
+    }
+}
+
 #[derive(Default)]
 pub struct Told {
     steps: u64,
@@ -125,10 +136,14 @@ fn play(
     let mut site = Site::fresh(sizes);
     let mut journal = Journal::default();
     let mut told = Told::default();
-    let demand_alone = FAULTS.iter().any(|(f, _, breaks)| *f == fault && *breaks);
+    let demand_alone = FAULTS.iter().any(|(f, _, shows)| *f == fault && *shows == Shows::InDemand);
     while let Some(call) = calls(&site) {
         let before = Before::of(&site, call);
-        let Ok(answer) = step_with(&mut site, call, fault) else { continue };
+        let answer = match step_with(&mut site, call, fault) {
+            Ok(answer) => answer,
+            Err(9) => return (told, Some("refused 9".into())),
+            Err(_) => continue,
+        };
         journal.note(call);
         told.steps += 1;
         told.elections += matches!(call, Call::Elect(_)) as u64;
@@ -142,7 +157,7 @@ fn play(
             if demand_alone {
                 Ok(())
             } else {
-                look_at_rule(&site, call, answer, before)
+                look_at_begins(&site).and(look_at_rule(&site, call, answer, before))
             }
         });
         if let Err(wrong) = looked {
@@ -260,6 +275,16 @@ pub fn broken(seed: u64, walks: u64, steps: u32, fault: Fault, name: &str, tell:
     }
     println!("{name}: NOT noticed in {walks} walks from seed {seed}");
     false
+}
+
+/// Under a broken rule that shows on foreign sites alone no walk may go wrong.
+pub fn unseen(seed: u64, walks: u64, steps: u32, fault: Fault, name: &str) -> bool {
+    let met = (seed..seed + walks).find(|k| walk(*k, steps, fault).3.is_some());
+    match met {
+        Some(k) => println!("{name}: MET in walk {k}"),
+        None => println!("{name}: met in none of {walks} walks from seed {seed}"),
+    }
+    met.is_none()
 }
 
 /// The trace, ready for a replay.
