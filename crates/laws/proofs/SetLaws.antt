@@ -182,9 +182,6 @@ has-bit (suc k) zero h = sym (ne-eqb zero (suc k) (λ e. omega (arith, e)))
 has-bit (suc k) (suc i) h =
     ap (λ (t : ℕ). digit t i) (bit-power k (omega arith)) ∙ digit-power k i ∙ sym (eqb·suc-suc i k)
 
-pub bit-own : (k : ℕ) → In k mostBoxes → has (bit k) k ≡ true
-bit-own k h = has-bit k k h ∙ eqb-same k
-
 pub bit-is : (k i : ℕ) → In k mostBoxes → has (bit k) i ≡ true → i ≡ k
 bit-is k i h e = eqb-yes i k (sym (has-bit k i h) ∙ e)
 
