@@ -80,8 +80,8 @@ replied b me sender m next =
     (pick (eqb (m .pn) (b .kept .pn)) (counted b sender m next)
     (uncounted b))
 
--- "(role: not leader"; "the phase cause of a discarded Last is then only 'not Collect'" (Q-1));
--- refusal 6
+-- "(role: not leader; phase: not Collect ..", and no more: "the phase cause of a discarded Last is
+-- then only 'not Collect'" (Q-1); refusal 6
 unfoldable pub lastVerdict : BoxState → Setting → Mail → Verdict
 lastVerdict b s m =
     firstCause (not (b .leads))
