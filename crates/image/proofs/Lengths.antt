@@ -1,7 +1,7 @@
 -- How long an image is: a sum over what it holds; and the starred fresh images.
 use mathlib.Core.Path.{_≡_, refl, ap, _∙_}
 use mathlib.Core.Bool.{true}
-use Prim.Native.Nat.{ℕ, _+_, _*_, _≤_, _<_}
+use Prim.Native.Nat.{ℕ, _+_, _≤_, _<_}
 use native.Mathlib.Omega.{arith}
 use mathlib.Core.List.{List, [], _∷_}
 use lib.ListN.{length, getD, length-append}
@@ -18,6 +18,7 @@ use Rattle.image.specs.Image.{numbersFrom, boxesOf, bySender, linksOf, b
 use Rattle.image.specs.Image.{linkBytes}
 use Rattle.image.specs.Image.{tableOf, imageOf}
 use Rattle.image.specs.Parts.{listed, bodiesIn, listedBytes}
+use Rattle.image.specs.Longest.{tableLong, generalLong, boxLong, letterLong}
 use Rattle.image.proofs.OrderLaws.{length-boxes, boxes-at}
 use Rattle.image.proofs.TableLaws.{length-table, bodies-count, image-in}
 
@@ -42,13 +43,13 @@ all-always f (x ∷ l) = (f x, all-always f l)
 -- ---- the parts
 
 abbrev pub letterLength : Letter → ℕ
-letterLength y = 20 + 8 * length (y .records)
+letterLength y = letterLong (length (y .records))
 
 abbrev pub linkLength : List Letter → ℕ
 linkLength ys = 4 + total letterLength ys
 
 abbrev pub boxLength : ℕ → Box → ℕ
-boxLength n x = 72 + 4 * n + 8 * length (x .records)
+boxLength n x = boxLong n (length (x .records))
 
 pub length-letter : (y : Letter) → length (letterBytes y) ≡ letterLength y
 unfolding letterBytes
@@ -77,8 +78,8 @@ length-box n x h l =
 -- Table of contents, general body, boxes and mail.
 pub imageLength : Site → ℕ
 imageLength s =
-    4 + 8 * (s .n + 2)
-    + (20 + (total (boxLength (s .n)) (boxesOf s) + total linkLength (linksOf s)))
+    tableLong (s .n)
+    + (generalLong + (total (boxLength (s .n)) (boxesOf s) + total linkLength (linksOf s)))
 
 module _ (s : Site) (few : s .n ≤ mostBoxes)
     (peers : (b : ℕ) → In b (s .n) → length (s .box b .head .peers) ≡ mostBoxes) where
@@ -86,7 +87,7 @@ module _ (s : Site) (few : s .n ≤ mostBoxes)
   Long x = length (boxBody (s .n) x) ≡ boxLength (s .n) x
 
   length-bodies : length (listedBytes (listed s))
-      ≡ 20 + (total (boxLength (s .n)) (boxesOf s) + total linkLength (linksOf s))
+      ≡ generalLong + (total (boxLength (s .n)) (boxesOf s) + total linkLength (linksOf s))
   unfolding listed listedBytes
   length-bodies =
       let boxes = length-total (boxBody (s .n)) (boxLength (s .n)) (boxesOf s) all in

@@ -7,5 +7,6 @@ pub mod TableLaws
 pub mod OneImage
 pub mod SiteIn
 pub mod Lengths
+pub mod LongestLaws
 pub mod Short
 pub mod MemoryImage

@@ -5,3 +5,4 @@ pub mod ContentsLaws
 pub mod MemoryLaws
 pub mod WholeLaws
 pub mod Once
+pub mod RoomLaws

@@ -1,0 +1,36 @@
+-- How long the parts of an image are, and the longest image of a site of given sizes. Numbers have
+-- 4 bytes and records 8.
+use Prim.Native.Nat.{ℕ, _+_, _-_, _*_}
+
+-- "number of bodies (n+2), then byte offset .. and length of each"
+abbrev pub tableLong : ℕ → ℕ
+tableLong n = 4 + 8 * (n + 2)
+
+-- "general (n, J, L, epoch, present set ..)": five numbers
+abbrev pub generalLong : ℕ
+generalLong = 20
+
+-- a box that holds r records: eleven numbers ("flag, state, .. accept set"), "three records" and
+-- the "count of records held" are 72 bytes; "n peers' lasts"; "and these"
+abbrev pub boxLong : ℕ → ℕ → ℕ
+boxLong n r = 72 + 4 * n + 8 * r
+
+-- a mail with r records: five numbers ("kind .., pn, last, unagreed pn, record count"), "records"
+abbrev pub letterLong : ℕ → ℕ
+letterLong r = 20 + 8 * r
+
+-- "each a count and its mails", L of them with J records each
+abbrev pub linkLong : ℕ → ℕ → ℕ
+linkLong J L = 4 + L * letterLong J
+
+-- each of n books is full, and so is each link, n (n − 1) of them, of mails with the whole book
+unfoldable pub longest : ℕ → ℕ → ℕ → ℕ
+longest n J L =
+    tableLong n
+    + (generalLong
+    + (n * boxLong n J
+    + n * (n - 1) * linkLong J L))
+
+-- no image is longer than this: n = 5, J = 4,096, L = 16
+abbrev pub longestOfAll : ℕ
+longestOfAll = 10656620
