@@ -30,25 +30,24 @@ memory-bounded xs ls =
       link = λ a b h. ap (λ (t : Bool). cond t (linkOf J L (linkAt n J L ls a b)) []) h;
     }
 
+pub memory-formed : (xs ls : List ℕ) → memoryForm xs ls ≡ true → form (siteOf xs ls) ≡ true
+unfolding memoryForm
+memory-formed xs ls e = passed _ e .1 .0
+
 pub one-memory : (xs ls ys ks : List ℕ) → memoryForm xs ls ≡ true → memoryForm ys ks ≡ true
     → imageOf (siteOf xs ls) ≡ imageOf (siteOf ys ks) → siteOf xs ls ≡ siteOf ys ks
-unfolding memoryForm
 one-memory xs ls ys ks f g e =
-    one-site (siteOf xs ls) (siteOf ys ks) (passed _ f .1 .0) (passed _ g .1 .0)
+    one-site (siteOf xs ls) (siteOf ys ks) (memory-formed xs ls f) (memory-formed ys ks g)
     (memory-bounded xs ls) (memory-bounded ys ks) e
 
 -- ---- how long
 
 module _ (xs ls : List ℕ) (e : memoryForm xs ls ≡ true) where
-  memory-formed : form (siteOf xs ls) ≡ true
-  unfolding memoryForm
-  memory-formed = passed _ e .1 .0
-
   -- As the words' own sizes allow.
   pub memory-most : length (imageOf (siteOf xs ls))
       ≤ longest (getD xs 0 0) (getD xs 1 0) (getD xs 2 0)
   unfolding siteOf
-  memory-most = image-most (siteOf xs ls) memory-formed
+  memory-most = image-most (siteOf xs ls) (memory-formed xs ls e)
 
   -- As sizes allow that theirs do not exceed.
   pub memory-within : (n J L : ℕ) → getD xs 0 0 ≤ n → getD xs 1 0 ≤ J → getD xs 2 0 ≤ L
@@ -57,7 +56,7 @@ module _ (xs ls : List ℕ) (e : memoryForm xs ls ≡ true) where
 
   -- Any words.
   pub any-memory : length (imageOf (siteOf xs ls)) ≤ longestOfAll
-  any-memory = any-image (siteOf xs ls) memory-formed
+  any-memory = any-image (siteOf xs ls) (memory-formed xs ls e)
 
   -- Eight bytes for each word, whatever the sizes.
   pub memory-words : length (imageOf (siteOf xs ls)) ≤ 8 * (length xs + length ls)

@@ -17,7 +17,6 @@ use Rattle.words.proofs.RingLaws.{slot-lt, length-ring, ring-at}
 use Rattle.rules.specs.Every.{each}
 use Rattle.rules.specs.Sizes.{mostBoxes, mostLoads, mostMails}
 use Rattle.rules.specs.Site.{freshBox}
-use Rattle.rules.specs.Form.{form}
 use Rattle.laws.proofs.Logic.{In, passed, and-yes, and-both, every-at}
 use Rattle.laws.proofs.Logic as logic
 use Rattle.laws.proofs.FormLaws.{FormedSizes, sizes-says, box-is}
@@ -115,14 +114,10 @@ module _ (xs ls : List ℕ) (e : memoryForm xs ls ≡ true) where
   abbrev links : ℕ
   links = nIn * (nIn - 1)
 
-  -- What the words show, and that the site that they hold is by form.
+  -- What the words show.
   pub memory-roomy : roomy nIn JIn LIn xs ls ≡ true
   unfolding memoryForm
   memory-roomy = passed _ e .0
-
-  pub memory-formed : form (siteOf xs ls) ≡ true
-  unfolding memoryForm
-  memory-formed = passed _ e .1 .0
 
   pub memory-sizes : FormedSizes nIn JIn LIn
   unfolding roomy

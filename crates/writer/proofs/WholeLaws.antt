@@ -22,13 +22,13 @@ use Rattle.memory.proofs.FormLaws.{general-lent}
 use Rattle.image.specs.Image.{boxBody, linkBytes, contents, tableOf}
 use Rattle.image.specs.Parts.{Listed, listed, bodiesIn, listedBytes}
 use Rattle.image.proofs.TableLaws.{length-contents, table-groups, image-in}
+use Rattle.image.proofs.MemoryImage.{memory-formed}
 use Rattle.writer.specs.declared.Extent.{Extent}
 use Rattle.writer.specs.declared.Written.{Written}
 use Rattle.writer.specs.Fits.{linksIn, BoxesFit, boxesIn, LinksFit, tableIn, bodiesOf}
 use Rattle.writer.specs.Writer.{image, Measured, WriteIs, written}
 use Rattle.writer.proofs.BoxLaws.{length-boxes-in}
-use Rattle.writer.proofs.MemoryLaws.{memory-formed, memory-boxes, memory-links}
-use Rattle.writer.proofs.MemoryLaws.{memory-listed}
+use Rattle.writer.proofs.MemoryLaws.{memory-boxes, memory-links, memory-listed}
 
 -- What the code reads of words by form.
 module _ (xs ls : List ℕ) (e : memoryForm xs ls ≡ true) where
