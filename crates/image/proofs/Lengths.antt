@@ -23,7 +23,7 @@ use Rattle.image.proofs.OrderLaws.{length-boxes, boxes-at}
 use Rattle.image.proofs.TableLaws.{length-table, bodies-count, image-in}
 
 -- the sum of a length over a list
-pub total {ℓ} : {A : Type ℓ} → (A → ℕ) → List A → ℕ
+unfoldable pub total {ℓ} : {A : Type ℓ} → (A → ℕ) → List A → ℕ
 total f [] = 0
 total f (x ∷ xs) = f x + total f xs
 
@@ -76,7 +76,7 @@ length-box n x h l =
 -- ---- the image
 
 -- Table of contents, general body, boxes and mail.
-pub imageLength : Site → ℕ
+unfoldable pub imageLength : Site → ℕ
 imageLength s =
     tableLong (s .n)
     + (generalLong + (total (boxLength (s .n)) (boxesOf s) + total linkLength (linksOf s)))

@@ -8,5 +8,6 @@ pub mod OneImage
 pub mod SiteIn
 pub mod Lengths
 pub mod LongestLaws
+pub mod LongestMet
 pub mod Short
 pub mod MemoryImage
