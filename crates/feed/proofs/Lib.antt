@@ -6,3 +6,4 @@ pub mod AnswerLaws
 pub mod FeedLaws
 pub mod EntryLaws
 pub mod WholeLaws
+pub mod SizedLaws
