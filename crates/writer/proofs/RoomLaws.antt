@@ -1,5 +1,5 @@
 -- When a buffer is long enough: a write of words by form is then never refused.
-use mathlib.Core.Path.{_≡_, refl}
+use mathlib.Core.Path.{_≡_, sym, ap}
 use mathlib.Core.Bool.{true}
 use Prim.Native.Nat.{ℕ, _≤_}
 use native.Mathlib.Omega.{arith}
@@ -12,16 +12,20 @@ use Rattle.image.specs.Longest.{longest}
 use Rattle.image.proofs.MemoryImage.{memory-most}
 use Rattle.writer.specs.declared.Written.{Written}
 use Rattle.writer.specs.Writer.{image, WriteIs, not-by-form, too-short, written}
+use Rattle.writer.specs.Writer.{writtenBytes, WholeImage}
 
--- Where the image fits it is written.
-pub fits-written : {xs ls o o' : List ℕ} {r : Written} → WriteIs xs ls o r o'
-    → memoryForm xs ls ≡ true → length (image xs ls) ≤ length o
-    → (r ≡ Written.Length (length (image xs ls)))
-    × (o' ≡ image xs ls ++ drop (length (image xs ls)) o)
-fits-written (not-by-form e) f h = absurd (both-no f e)
-fits-written (too-short e g) f h = absurd (omega arith)
-fits-written (written e g) f h = (refl, refl)
+-- Where the image of words by form fits, it is written ..
+pub fits-written : {xs ls o o' : List ℕ} {w : Written} {r : ℕ} → WriteIs xs ls o w o'
+    → memoryForm xs ls ≡ true → length (image xs ls) ≤ length o → r ≡ writtenBytes w
+    → WholeImage xs ls o o' r
+fits-written (not-by-form e) f h n = absurd (both-no f e)
+fits-written (too-short e g) f h n = absurd (omega arith)
+fits-written {xs} {ls} {o} (written e g) f h n = record {
+  count = n;
+  bytes = ap (λ (k : ℕ). image xs ls ++ drop k o) (sym n);
+}
 
+-- .. and never refused.
 pub fits-not-refused : {xs ls o o' : List ℕ} {why : Refusal}
     → WriteIs xs ls o (Written.Refused why) o' → memoryForm xs ls ≡ true
     → length (image xs ls) ≤ length o → ⊥

@@ -24,6 +24,16 @@ pub data WriteIs (xs ls o : List ℕ) : Written → List ℕ → Type 0 where
       → WriteIs xs ls o (Written.Length (length (image xs ls)))
       (image xs ls ++ drop (length (image xs ls)) o)
 
+-- for callers: how many bytes were written, none where it was refused
+abbrev pub writtenBytes : Written → ℕ
+writtenBytes (Written.Length n) = n
+writtenBytes (Written.Refused why) = 0
+
+-- for callers with room enough: the image, r bytes, was written to the front of the buffer o
+pub record WholeImage (xs ls o o' : List ℕ) (r : ℕ) : Type 0 where
+  pub count : r ≡ length (image xs ls)
+  pub bytes : o' ≡ image xs ls ++ drop r o
+
 -- what `image_length` answers: the same without a buffer
 pub data LengthIs (xs ls : List ℕ) : Written → Type 0 where
   no-image : memoryForm xs ls ≡ false → LengthIs xs ls (Written.Refused Refusal.Form)
