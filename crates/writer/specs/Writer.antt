@@ -5,10 +5,12 @@ use mathlib.Core.Bool.{true, false}
 use Prim.Native.Nat.{ℕ, _-_, _*_, _≤_, _<_}
 use mathlib.Core.List.{List, _++_}
 use lib.ListN.{length, drop, getD}
+use Rattle.rules.specs.Sizes.{mostBoxes, mostLoads}
 use Rattle.rules.specs.declared.model.Refusal.{Refusal}
 use Rattle.memory.specs.Memory.{siteOf, memoryForm}
 use Rattle.cells.specs.Cells.{chain}
 use Rattle.image.specs.Image.{imageOf, boxBody, linkBytes}
+use Rattle.image.specs.Longest.{boxLong}
 use Rattle.writer.specs.declared.Extent.{Extent}
 use Rattle.writer.specs.declared.Written.{Written}
 use Rattle.writer.specs.Fits.{boxesIn, linksIn}
@@ -46,6 +48,6 @@ pub record Measured (xs ls : List ℕ) (e : Extent) : Type 0 where
   pub l : e .l ≡ getD xs 2 0
   pub pairs : e .pairs ≡ e .n * (e .n - 1)
   pub boxes : e .boxes ≡ length (chain (boxBody (e .n)) (boxesIn (e .n) (e .j) xs))
-  pub few : e .boxes ≤ 164300
+  pub few : e .boxes ≤ mostBoxes * boxLong mostBoxes mostLoads
   pub mail : e .mail ≡ length (chain linkBytes (linksIn (e .pairs) (e .j) (e .l) ls))
   pub total : e .total ≡ length (image xs ls)

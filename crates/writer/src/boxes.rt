@@ -3,16 +3,20 @@ use words::size;
 use words::word;
 ghost use mathlib.Core.Path.{_≡_};
 ghost use mathlib.Core.List.{map};
-ghost use Prim.Native.Nat.{_+_, _≤_};
+ghost use Prim.Native.Nat.{_+_, _*_, _≤_};
 ghost use lib.ListN.{length};
+ghost use Rattle.rules.specs.Sizes.{mostBoxes, mostLoads};
 ghost use Rattle.row.specs.Row.{boxOf};
 ghost use Rattle.cells.specs.Cells.{chain, cells, Room, Wrote};
 ghost use Rattle.image.specs.Image.{boxBody, contents};
+ghost use Rattle.image.specs.Longest.{boxLong};
 ghost use Rattle.writer.specs.Fits.{BoxFits, BoxesFit, boxesIn};
 
 fn box_length(row: &[u64], n: usize, j: u32) -> usize
     requires { ⌜ BoxFits n j (now row) ⌝ }
-    ensures { λ r. ⌜ (r ≡ length (boxBody n (boxOf n (now (row .entry))))) × (r ≤ 32860) ⌝ }
+    ensures { λ r.
+        ⌜ (r ≡ length (boxBody n (boxOf n (now (row .entry)))))
+        × (r ≤ boxLong mostBoxes mostLoads) ⌝ }
 {
     72 + 4 * n + 8 * size(row[19])
 }
@@ -21,7 +25,8 @@ fn box_length(row: &[u64], n: usize, j: u32) -> usize
 pub fn boxes_length(site: &[u64], n: usize, j: u32) -> usize
     requires { ⌜ BoxesFit n j (now site) ⌝ }
     ensures { λ r.
-        ⌜ (r ≡ length (chain (boxBody n) (boxesIn n j (now (site .entry))))) × (r ≤ 164300) ⌝ }
+        ⌜ (r ≡ length (chain (boxBody n) (boxesIn n j (now (site .entry)))))
+        × (r ≤ mostBoxes * boxLong mostBoxes mostLoads) ⌝ }
 {
     let w = 20 + j as usize;
     let mut total = 0;

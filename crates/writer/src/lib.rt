@@ -5,9 +5,11 @@ ghost use mathlib.Core.Path.{_≡_};
 ghost use mathlib.Core.Bool.{true};
 ghost use Prim.Native.Nat.{_+_, _*_, _≤_};
 ghost use lib.ListN.{length};
+ghost use Rattle.rules.specs.Sizes.{mostBoxes, mostLoads};
 ghost use Rattle.memory.specs.Memory.{memoryForm};
 ghost use Rattle.cells.specs.Cells.{chain, Room, Wrote};
 ghost use Rattle.image.specs.Image.{boxBody};
+ghost use Rattle.image.specs.Longest.{boxLong};
 ghost use Rattle.writer.specs.Fits.{BoxesFit, LinksFit, boxesIn, tableIn, bodiesOf};
 ghost use Rattle.writer.specs.Writer.{Measured, LengthIs, WriteIs};
 
@@ -65,7 +67,7 @@ fn measure(site: &[u64], links: &[u64]) -> Extent
 fn write_table(out: &mut [u8], site: &[u64], n: usize, j: u32, boxes: usize, mail: usize) -> usize
     requires { ⌜ BoxesFit n j (now site) ⌝ }
     requires { ⌜ boxes ≡ length (chain (boxBody n) (boxesIn n j (now site))) ⌝ }
-    requires { ⌜ boxes ≤ 164300 ⌝ }
+    requires { ⌜ boxes ≤ mostBoxes * boxLong mostBoxes mostLoads ⌝ }
     requires { ⌜ Room (tableIn n j (now site) mail) (now out) 0 ⌝ }
     ensures { λ r.
         ⌜ Wrote (tableIn n j (now (site .entry)) mail) (now (out .entry)) 0 (now (out .exit)) r ⌝ }

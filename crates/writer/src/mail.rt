@@ -3,10 +3,12 @@ use words::size;
 ghost use mathlib.Core.Path.{_≡_};
 ghost use Prim.Native.Nat.{_+_, _*_, _≤_, _<_};
 ghost use lib.ListN.{length, getD};
+ghost use Rattle.rules.specs.Sizes.{mostLoads, mostMails};
 ghost use Rattle.place.specs.Place.{letterAt};
 ghost use Rattle.link.specs.Link.{linkOf};
 ghost use Rattle.cells.specs.Cells.{chain, Room, Wrote};
 ghost use Rattle.image.specs.Image.{letterBytes, linkBytes};
+ghost use Rattle.image.specs.Longest.{letterLong, linkLong};
 ghost use Rattle.writer.specs.Fits.{LetterFits, LinkFits, LetterIs, LinksFit, linksIn};
 
 // Where the place of letter i begins.
@@ -25,7 +27,8 @@ pub fn letter_at(link: &[u64], j: u32, l: u32, i: usize) -> usize
 fn letter_length(place: &[u64], j: u32) -> usize
     requires { ⌜ LetterFits j (now place) ⌝ }
     ensures { λ r.
-        ⌜ (r ≡ length (letterBytes (letterAt (now (place .entry))))) × (r ≤ 32788) ⌝ }
+        ⌜ (r ≡ length (letterBytes (letterAt (now (place .entry)))))
+        × (r ≤ letterLong mostLoads) ⌝ }
 {
     20 + 8 * size(place[4])
 }
@@ -33,7 +36,8 @@ fn letter_length(place: &[u64], j: u32) -> usize
 fn letters_length(link: &[u64], j: u32, l: u32) -> usize
     requires { ⌜ LinkFits j l (now link) ⌝ }
     ensures { λ r.
-        ⌜ (r ≡ length (chain letterBytes (linkOf j l (now (link .entry))))) × (r ≤ 524608) ⌝ }
+        ⌜ (r ≡ length (chain letterBytes (linkOf j l (now (link .entry)))))
+        × (r ≤ mostMails * letterLong mostLoads) ⌝ }
 {
     let w = 5 + j as usize;
     let count = size(link[1]);
@@ -50,7 +54,8 @@ fn letters_length(link: &[u64], j: u32, l: u32) -> usize
 fn link_length(link: &[u64], j: u32, l: u32) -> usize
     requires { ⌜ LinkFits j l (now link) ⌝ }
     ensures { λ r.
-        ⌜ (r ≡ length (linkBytes (linkOf j l (now (link .entry))))) × (r ≤ 524612) ⌝ }
+        ⌜ (r ≡ length (linkBytes (linkOf j l (now (link .entry)))))
+        × (r ≤ linkLong mostLoads mostMails) ⌝ }
 {
     4 + letters_length(link, j, l)
 }
@@ -60,7 +65,8 @@ pub fn links_length(links: &[u64], m: usize, j: u32, l: u32) -> usize
     requires { ⌜ LinksFit m j l (now links) ⌝ }
     requires { ⌜ m ≤ 20 ⌝ }
     ensures { λ r.
-        ⌜ (r ≡ length (chain linkBytes (linksIn m j l (now (links .entry))))) × (r ≤ 10492240) ⌝ }
+        ⌜ (r ≡ length (chain linkBytes (linksIn m j l (now (links .entry)))))
+        × (r ≤ 20 * linkLong mostLoads mostMails) ⌝ }
 {
     let w = memory::link_width(j, l);
     let mut total = 0;

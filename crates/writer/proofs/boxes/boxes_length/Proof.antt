@@ -5,11 +5,13 @@ use Prim.Native.Nat.{_+_, _-_, _*_, _≤_}
 use native.Mathlib.Omega.{arith}
 use mathlib.Core.List.{[]}
 use lib.ListN.{length, take, drop, getD}
+use Rattle.rules.specs.Sizes.{mostBoxes, mostLoads}
 use Rattle.rules.specs.Box.{Box}
 use Rattle.row.specs.Row.{boxOf}
 use Rattle.cells.specs.Cells.{chain}
 use Rattle.cells.proofs.ChainLaws.{length-none, length-next, length-all}
 use Rattle.image.specs.Image.{boxBody}
+use Rattle.image.specs.Longest.{boxLong}
 use Rattle.writer.specs.Fits.{BoxFits, boxesIn}
 use Rattle.writer.proofs.BoxLaws.{length-boxes-in, box-cut}
 use Rattle.writer.proofs.boxes.boxes_length.Statement.{statement}
@@ -18,7 +20,7 @@ use Rattle.writer.proofs.boxes.boxes_length.Tie as tie
 abbrev Inv-loop : tie.InvT-loop
 Inv-loop site n j w total₀ i₀ total i =
     (i ≤ n) × (total ≡ length (chain (boxBody n) (take i (boxesIn n j site)))) ×
-    (total ≤ i * 32860)
+    (total ≤ i * boxLong mostBoxes mostLoads)
 
 abbrev μ-loop : tie.MeasureT-loop
 μ-loop site n j w total₀ i₀ total i = n - i

@@ -5,12 +5,14 @@ use Prim.Native.Nat.{_+_, _-_, _*_, _≤_, _<_}
 use native.Mathlib.Omega.{arith}
 use mathlib.Core.List.{[]}
 use lib.ListN.{length, take, drop, getD}
+use Rattle.rules.specs.Sizes.{mostBoxes, mostLoads}
 use Rattle.rules.specs.Box.{Box}
 use Rattle.row.specs.Row.{boxOf}
 use Rattle.cells.specs.Cells.{chain}
 use Rattle.cells.proofs.ChainLaws.{length-none, length-next}
 use Rattle.cells.proofs.WriteLaws.{wrote-length}
 use Rattle.image.specs.Image.{boxBody}
+use Rattle.image.specs.Longest.{boxLong}
 use Rattle.writer.specs.Fits.{BoxFits, boxesIn}
 use Rattle.writer.proofs.BoxLaws.{length-boxes-in, box-cut}
 use Rattle.writer.proofs.ContentsLaws.{Entered, entered-none, entered-room, entered-next}
@@ -21,7 +23,8 @@ use Rattle.writer.proofs.boxes.write_contents.Tie as tie
 abbrev Inv-loop : tie.InvT-loop
 Inv-loop out₀ at start site n j w p₀ o₀ i₀ out p o i =
     (i ≤ n) × (o ≡ start + length (chain (boxBody n) (take i (boxesIn n j site))))
-    × (o ≤ start + i * 32860) × Entered (boxBody n) start (boxesIn n j site) i out₀ at out p
+    × (o ≤ start + i * boxLong mostBoxes mostLoads)
+    × Entered (boxBody n) start (boxesIn n j site) i out₀ at out p
     × (length out ≡ length out₀)
 
 abbrev μ-loop : tie.MeasureT-loop

@@ -5,12 +5,14 @@ use Prim.Native.Nat.{_+_, _-_, _*_, _≤_}
 use native.Mathlib.Omega.{arith}
 use mathlib.Core.List.{[]}
 use lib.ListN.{length, take, drop, getD}
+use Rattle.rules.specs.Sizes.{mostLoads}
 use Rattle.rules.specs.Box.{Letter}
 use Rattle.place.specs.Place.{letterAt}
 use Rattle.link.specs.Link.{linkOf}
 use Rattle.cells.specs.Cells.{chain}
 use Rattle.cells.proofs.ChainLaws.{length-none, length-next, length-all}
 use Rattle.image.specs.Image.{letterBytes}
+use Rattle.image.specs.Longest.{letterLong}
 use Rattle.writer.specs.Fits.{LetterFits}
 use Rattle.writer.proofs.MailLaws.{length-link-of, place-cut}
 use Rattle.writer.proofs.mail.letters_length.Statement.{statement}
@@ -19,7 +21,7 @@ use Rattle.writer.proofs.mail.letters_length.Tie as tie
 abbrev Inv-loop : tie.InvT-loop
 Inv-loop link j l w count total₀ i₀ total i =
     (i ≤ count) × (total ≡ length (chain letterBytes (take i (linkOf j l link)))) ×
-    (total ≤ i * 32788)
+    (total ≤ i * letterLong mostLoads)
 
 abbrev μ-loop : tie.MeasureT-loop
 μ-loop link j l w count total₀ i₀ total i = count - i

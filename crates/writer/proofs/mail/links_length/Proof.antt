@@ -5,11 +5,13 @@ use Prim.Native.Nat.{_+_, _-_, _*_, _≤_}
 use native.Mathlib.Omega.{arith}
 use mathlib.Core.List.{List, []}
 use lib.ListN.{length, take, drop, getD}
+use Rattle.rules.specs.Sizes.{mostLoads, mostMails}
 use Rattle.rules.specs.Box.{Letter}
 use Rattle.link.specs.Link.{linkOf}
 use Rattle.cells.specs.Cells.{chain}
 use Rattle.cells.proofs.ChainLaws.{length-none, length-next, length-all}
 use Rattle.image.specs.Image.{linkBytes}
+use Rattle.image.specs.Longest.{linkLong}
 use Rattle.writer.specs.Fits.{LinkFits, linksIn}
 use Rattle.writer.proofs.MailLaws.{length-links-in, link-cut}
 use Rattle.writer.proofs.mail.links_length.Statement.{statement}
@@ -18,7 +20,7 @@ use Rattle.writer.proofs.mail.links_length.Tie as tie
 abbrev Inv-loop : tie.InvT-loop
 Inv-loop links m j l w total₀ k₀ total k =
     (k ≤ m) × (total ≡ length (chain linkBytes (take k (linksIn m j l links)))) ×
-    (total ≤ k * 524612)
+    (total ≤ k * linkLong mostLoads mostMails)
 
 abbrev μ-loop : tie.MeasureT-loop
 μ-loop links m j l w total₀ k₀ total k = m - k
