@@ -166,9 +166,13 @@ uint32_t journal_own_mail(uint64_t *row, size_t row_words, const uint64_t *lette
  * the rest of a longer buffer stays. Both answer 1; write also 12, where the buffer is too short.
  * read answers 0 where the image_bytes bytes are the image of a site, which the words then hold; 1
  * where they are no site's image; 12 where the words are too few for its site. A refused call leaves
- * *length, the buffer and the words. No image is longer than JOURNAL_IMAGE_MOST. */
+ * *length, the buffer and the words.
+ *
+ * JOURNAL_IMAGE_MOST is the longest image of a site of these sizes, in bytes, as a constant: the
+ * table of contents, the general body, n boxes, n (n - 1) links. That none is longer is proved, and
+ * that some site has it: with so many bytes write never answers 12, and fewer do not do for all. */
 #define JOURNAL_IMAGE_MOST(n, J, L)                                                                \
-    (24 + 8 * ((n) + 2) + (n) * (72 + 4 * (n) + 8 * (J)) +                                         \
+    (4 + 8 * ((n) + 2) + 20 + (n) * (72 + 4 * (n) + 8 * (J)) +                                     \
      (n) * ((n) - 1) * (4 + (L) * (20 + 8 * (J))))
 
 uint32_t journal_image_length(const uint64_t *site, size_t site_words, const uint64_t *links,

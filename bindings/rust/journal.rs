@@ -308,6 +308,19 @@ impl Sizes {
         };
         (site != 0).then_some((site, links))
     }
+
+    /// The bytes of the longest image of a site of these sizes: with so many `write` is never
+    /// refused with `Buffer`. `None` for sizes outside their ranges.
+    pub fn image_most(self) -> Option<usize> {
+        self.words()?;
+        let (n, j, l) = (
+            self.boxes as usize,
+            self.loads as usize,
+            self.mails as usize,
+        );
+        let links = n * (n - 1) * (4 + l * (20 + 8 * j));
+        Some(4 + 8 * (n + 2) + 20 + n * (72 + 4 * n + 8 * j) + links)
+    }
 }
 
 /// A site in lent words. Nobody else can read or write them while it is used.

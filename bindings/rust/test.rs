@@ -19,6 +19,14 @@ fn main() {
         Some((4121, 0))
     );
     assert_eq!(Sizes { boxes: 6, ..z }.words(), None);
+    let largest = Sizes {
+        boxes: 5,
+        loads: 4096,
+        mails: 16,
+    };
+    assert_eq!(z.image_most(), Some(2848));
+    assert_eq!(largest.image_most(), Some(10_656_620));
+    assert_eq!(Sizes { loads: 0, ..z }.image_most(), None);
     let (mut site, mut links) = (vec![0u64; 77], vec![0u64; 340]);
     assert_eq!(Site::of(&mut site, &mut links).elect(1), Err(Refusal::Form));
     assert_eq!(Site::of(&mut [], &mut []).elect(1), Err(Refusal::Form));
