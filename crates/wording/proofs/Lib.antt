@@ -1,0 +1,2 @@
+-- Laws of the wording.
+pub mod FaultLaws
