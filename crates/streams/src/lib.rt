@@ -3,6 +3,8 @@
 // A call that a signal interrupts is made again, and so is one on a descriptor that does not wait,
 // a moment later. Any other failure is the caller's to tell, with errno as the call left it. No
 // contract can say what is read or written: these functions are proved safe and to end.
+mod wait;
+
 ghost use Prim.Native.Nat.{_≤_};
 ghost use lib.ListN.{length};
 ghost use Rattle.streams.specs.Got.{GotFrom};
@@ -21,7 +23,7 @@ fn goes_on() -> bool {
         return true;
     }
     if error == libc::EAGAIN {
-        libc::sched_yield();
+        wait::moment();
         return true;
     }
     false
