@@ -16,12 +16,7 @@ pub(crate) fn put(out: &mut [u8], at: usize, src: &[u8]) -> usize
 {
     let a = least(at, out.len());
     let n = least(src.len(), out.len() - a);
-    let mut i = 0;
-    while i < n {
-        out[a + i] = src[i];
-        i += 1;
-    }
-    a + n
+    print::put_bytes(out, a, &src[..n])
 }
 
 pub(crate) fn put_number(out: &mut [u8], at: usize, x: u64) -> usize {

@@ -1,41 +1,48 @@
 -- `wording::put::put` meets its contract.
+use mathlib.Core.Path.{sym}
 use native.Mathlib.Omega.{arith}
-use Rattle.io.proofs.Counting.{counts}
-use Prim.Native.Nat.{_-_}
-use mathlib.Core.Path.{_≡_, refl}
-use lib.ListN.{length}
+use lib.Seq.{length-take-le}
 use borrow.Author.Needs.{needs}
+use Rattle.io.proofs.Counting.{counts}
 use Rattle.wording.proofs.put.put.Statement.{statement}
 use Rattle.wording.proofs.put.put.Tie as tie
 
-abbrev Inv-loop : tie.InvT-loop
-Inv-loop out₀ at src a n i₀ out i = length out ≡ length out₀
+slice-aggregate-put-bytes : tie.Need-slice-aggregate-put-bytes
+slice-aggregate-put-bytes c = sym (length-take-le _ _ (c .before .before .least2 .ensures .0))
 
-abbrev μ-loop : tie.MeasureT-loop
-μ-loop out₀ at src a n i₀ out i = n - i
+put-bytes-requires : tie.Need-put-bytes-requires
+put-bytes-requires c κs =
+    let n = c .before .before in
+    let src = n .before .before .before .before .args .src .now in
+    omega (
+      arith,
+      n .before .least .ensures .1,
+      n .least2 .ensures .1,
+      length-take-le (n .least2 .result) src (n .least2 .ensures .0),
+    )
 
-loop-holds : tie.Need-loop-holds Inv-loop μ-loop
-loop-holds c = refl
-
-returns : tie.Need-returns Inv-loop μ-loop
-returns c = counts _ _ (omega arith)
+returns : tie.Need-returns
+returns c =
+    let put = c .before .before in
+    let n = put .before .before .before in
+    let src = n .before .before .before .before .args .src .now in
+    counts _ _ (omega (
+      arith,
+      put .put-bytes .ensures .end,
+      put .put-bytes .ensures .room,
+      n .before .least .ensures .1,
+      n .least2 .ensures .1,
+      length-take-le (n .least2 .result) src (n .least2 .ensures .0),
+    ))
 
 pub put-spec : {M : Type 1} → statement M
 put-spec =
     tie.close
     (tie.spec
-    Inv-loop
-    μ-loop
     (λ c κs. search needs)
     (λ c. search needs)
     (λ c κs. search needs)
-    loop-holds
-    (λ c. search needs)
-    (λ c. search needs)
-    (λ c. search needs)
-    (λ c. search needs)
-    (λ c. search needs)
-    (λ c. search needs)
-    (λ c. search needs)
+    slice-aggregate-put-bytes
+    put-bytes-requires
     (λ c. search needs)
     returns)
