@@ -1,2 +1,3 @@
--- Laws of the program's loop.
+-- Laws of the program.
+pub mod ImageLaws
 pub mod LoopLaws

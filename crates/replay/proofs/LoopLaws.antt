@@ -1,10 +1,12 @@
 -- Laws of the loop that feeds a whole piece.
 use Prim.Native.Nat.{ℕ, _+_, _-_, _<_, _≤_}
 use mathlib.Core.Path.{_≡_, refl, ap, sym, _∙_, subst}
+use mathlib.Core.Bool.{true, false}
 use mathlib.Core.List.{List}
 use native.Mathlib.Omega.{arith}
 use lib.ListN.{length, take, drop, length-drop}
 use lib.Seq.{take-all, take-add, length-sets}
+use Rattle.laws.proofs.Logic.{both-no}
 use Rattle.memory.specs.Memory.{siteWords, linksWords}
 use Rattle.trace.specs.Feeding.{Feeding, feedNext, feedText}
 use Rattle.trace.proofs.Pieces.{next-append}
@@ -83,11 +85,22 @@ kept-more s piece xs₀ ls₀ xs ls xs' ls' {x} {y} {z} i g t l room k w =
           ∙ k .out);
     }
 
+-- the whole piece was fed, or a write failed before
 pub kept-all : (f : Feed) (piece xs₀ ls₀ xs ls : List ℕ) {x y : List ℕ} (i : ℕ) (g : Feed)
     → length piece ≤ i → Kept (feedingOf f xs₀ ls₀) piece xs₀ ls₀ xs ls x y i g
-    → FedAll f piece xs₀ ls₀ xs ls g
+    → FedAll f piece xs₀ ls₀ xs ls (record { feed = g; whole = true })
 kept-all f piece xs₀ ls₀ xs ls i g l k = record {
-  next = k .next ∙ ap (feedNext courseNext (feedingOf f xs₀ ls₀)) (take-all i piece l);
+  next = λ e. k .next ∙ ap (feedNext courseNext (feedingOf f xs₀ ls₀)) (take-all i piece l);
+  lent = k .lent;
+  site = k .site;
+  links = k .links;
+}
+
+pub kept-cut : (f : Feed) (piece xs₀ ls₀ xs ls : List ℕ) {x y : List ℕ} {i : ℕ} (g : Feed)
+    → Kept (feedingOf f xs₀ ls₀) piece xs₀ ls₀ xs ls x y i g
+    → FedAll f piece xs₀ ls₀ xs ls (record { feed = g; whole = false })
+kept-cut f piece xs₀ ls₀ xs ls g k = record {
+  next = λ e. absurd (both-no e refl);
   lent = k .lent;
   site = k .site;
   links = k .links;
@@ -101,3 +114,6 @@ lent-first f xs ls b hs hl = record {
   links = hl;
   form = ap (λ (t : Stage). formed t xs ls) (b .stage);
 }
+
+pub lent-of : {xs ls : List ℕ} {f g : Feed} → g ≡ f → Lent (f .stage) xs ls → Lent (g .stage) xs ls
+lent-of {xs} {ls} e h = subst (λ (d : Feed). Lent (d .stage) xs ls) (sym e) h

@@ -1,2 +1,3 @@
 -- Laws of the wording.
 pub mod FaultLaws
+pub mod PutLaws

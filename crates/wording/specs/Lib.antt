@@ -1,3 +1,4 @@
 -- What the contracts of `wording` cite.
 pub mod Fault
 pub mod Number
+pub mod Put

@@ -5,7 +5,7 @@
 pub mod fault;
 mod meaning;
 pub mod number;
-mod put;
+pub mod put;
 
 use fault::Fault;
 use libc::STDERR_FILENO;

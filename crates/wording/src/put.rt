@@ -1,18 +1,19 @@
 // Text put together in a lent buffer. What does not fit is cut.
-ghost use Prim.Native.Nat.{_≤_};
+ghost use mathlib.Core.Path.{_≡_};
+ghost use Prim.Native.Nat.{_≤_, min};
 ghost use lib.ListN.{length};
-ghost use Rattle.io.specs.Counts.{Counts};
+ghost use Rattle.wording.specs.Put.{Put};
 
 fn least(a: usize, b: usize) -> usize
-    ensures { λ r. ⌜ r ≤ a ⌝ }
-    ensures { λ r. ⌜ r ≤ b ⌝ }
+    ensures { λ r. ⌜ r ≡ min a b ⌝ }
 {
     if a < b { a } else { b }
 }
 
-// The bytes of src from the place at on, and the place past them.
-pub(crate) fn put(out: &mut [u8], at: usize, src: &[u8]) -> usize
-    ensures { λ r. ⌜ Counts r (now (out .exit)) ⌝ }
+// The bytes of src from the place at on; gives the place past them.
+pub fn put(out: &mut [u8], at: usize, src: &[u8]) -> usize
+    ensures { λ r.
+        ⌜ Put (now (out .entry)) (now (out .exit)) at r (now (src .entry)) ⌝ }
 {
     let a = least(at, out.len());
     let n = least(src.len(), out.len() - a);

@@ -3,12 +3,13 @@ use mathlib.Core.Path.{sym}
 use native.Mathlib.Omega.{arith}
 use lib.Seq.{length-take-le}
 use borrow.Author.Needs.{needs}
-use Rattle.io.proofs.Counting.{counts}
+use Rattle.wording.proofs.PutLaws.{put-is}
 use Rattle.wording.proofs.put.put.Statement.{statement}
 use Rattle.wording.proofs.put.put.Tie as tie
 
 slice-aggregate-put-bytes : tie.Need-slice-aggregate-put-bytes
-slice-aggregate-put-bytes c = sym (length-take-le _ _ (c .before .before .least2 .ensures .0))
+slice-aggregate-put-bytes c =
+    sym (length-take-le _ _ (omega (arith, c .before .before .least2 .ensures)))
 
 put-bytes-requires : tie.Need-put-bytes-requires
 put-bytes-requires c κs =
@@ -16,24 +17,18 @@ put-bytes-requires c κs =
     let src = n .before .before .before .before .args .src .now in
     omega (
       arith,
-      n .before .least .ensures .1,
-      n .least2 .ensures .1,
-      length-take-le (n .least2 .result) src (n .least2 .ensures .0),
+      n .before .least .ensures,
+      n .least2 .ensures,
+      length-take-le (n .least2 .result) src (omega (arith, n .least2 .ensures)),
     )
 
 returns : tie.Need-returns
 returns c =
     let put = c .before .before in
     let n = put .before .before .before in
-    let src = n .before .before .before .before .args .src .now in
-    counts _ _ (omega (
-      arith,
-      put .put-bytes .ensures .end,
-      put .put-bytes .ensures .room,
-      n .before .least .ensures .1,
-      n .least2 .ensures .1,
-      length-take-le (n .least2 .result) src (n .least2 .ensures .0),
-    ))
+    let start = n .before .before .before .before in
+    put-is (start .args .out .now) _ (start .args .src .now) (start .args .at) _ _ _
+    (n .before .least .ensures) (n .least2 .ensures) (put .put-bytes .ensures)
 
 pub put-spec : {M : Type 1} → statement M
 put-spec =

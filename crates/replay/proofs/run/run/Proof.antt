@@ -1,4 +1,4 @@
--- `replay::run` meets its contract.
+-- `replay::run::run` meets its contract.
 use Prim.Native.Nat.{_≤_}
 use mathlib.Core.Path.{_≡_, refl, _∙_}
 use native.Mathlib.Omega.{arith}
@@ -7,8 +7,8 @@ use borrow.Author.Needs.{needs}
 use Rattle.feed.specs.State.{Lent}
 use Rattle.feed.specs.Says.{answerMost}
 use Rattle.replay.proofs.LoopLaws.{lent-first}
-use Rattle.replay.proofs.run.Statement.{statement}
-use Rattle.replay.proofs.run.Tie as tie
+use Rattle.replay.proofs.run.run.Statement.{statement}
+use Rattle.replay.proofs.run.run.Tie as tie
 
 abbrev Inv-loop : tie.InvT-loop
 Inv-loop site₀ links₀ input₀ out₀ f₀ turns₀ site links input out f turns =
@@ -18,9 +18,6 @@ Inv-loop site₀ links₀ input₀ out₀ f₀ turns₀ site links input out f t
 
 abbrev μ-loop : tie.MeasureT-loop
 μ-loop site₀ links₀ input₀ out₀ f₀ turns₀ site links input out f turns = turns
-
-start-requires : tie.Need-start-requires Inv-loop μ-loop
-start-requires c κs = search needs
 
 loop-holds : tie.Need-loop-holds Inv-loop μ-loop
 loop-holds c =
@@ -67,15 +64,6 @@ same-length-4 c =
     let at-loop = at-read-some .before .before .before .before .before .before in
     at-out .out .given ∙ at-loop .loop .inv .5
 
-returns : tie.Need-returns Inv-loop μ-loop
-returns c = search needs
-
-sub-turns : tie.Need-sub-turns Inv-loop μ-loop
-sub-turns c = search needs
-
-loop-less : tie.Need-loop-less Inv-loop μ-loop
-loop-less c = search needs
-
 loop-again : tie.Need-loop-again Inv-loop μ-loop
 loop-again c =
     let at-out = c .before .before .before .before in
@@ -104,28 +92,25 @@ same-length-7 c = c .before .loop .inv .4
 same-length-8 : tie.Need-same-length-8 Inv-loop μ-loop
 same-length-8 c = c .before .loop .inv .5
 
-returns-2 : tie.Need-returns-2 Inv-loop μ-loop
-returns-2 c = search needs
-
 pub run-spec : {M : Type 1} → statement M
 run-spec =
     tie.close
     (tie.spec
     Inv-loop
     μ-loop
-    start-requires
+    (λ c κs. search needs)
     loop-holds
     read-some-requires
     same-length
     same-length-2
     same-length-3
     same-length-4
-    returns
-    sub-turns
-    loop-less
+    (λ c. search needs)
+    (λ c. search needs)
+    (λ c. search needs)
     loop-again
     same-length-5
     same-length-6
     same-length-7
     same-length-8
-    returns-2)
+    (λ c. search needs))
