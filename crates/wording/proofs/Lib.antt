@@ -1,3 +1,4 @@
 -- Laws of the wording.
 pub mod FaultLaws
+pub mod NumberLaws
 pub mod PutLaws
