@@ -1,6 +1,7 @@
 /* Calls every exported function at its edges and at the largest sizes, and compares each answer
- * with the paper's. A refused call must leave every lent word, and no call may touch the words
- * behind what it was lent. Ends with 1 where anything differs. */
+ * with the paper's. A refused call must leave every lent word, a discarded mail every word but the
+ * two of its link that say where the head stands and how many there are, and no call may touch the
+ * words behind what it was lent. Ends with 1 where anything differs. */
 #include "journal.h"
 #include <stdio.h>
 #include <stdlib.h>
@@ -51,20 +52,33 @@ static uint32_t to, to_before;
 
 static int is_refusal(uint32_t answer) { return 1 <= answer && answer <= 14; }
 
+static int is_discard(uint32_t answer) {
+    return JOURNAL_DISCARDED_ROLE <= answer && answer <= JOURNAL_DISCARDED_PLACE;
+}
+
+/* What a discarded mail from a to b leaves: in the copy of the links the head is handed over. */
+static void hand_over(uint32_t a, uint32_t b) {
+    size_t n = site.before[0], j = site.before[1], l = site.before[2];
+    size_t pair = (a - 1) * (n - 1) + (b < a ? b - 1 : b - 2);
+    uint64_t *link = links.before + pair * (2 + l * JOURNAL_PLACE_WORDS(j));
+    link[0] = (link[0] + 1) % l;
+    link[1]--;
+}
+
 static void settle(int line, const char *what, uint32_t got, uint32_t want) {
     check(line, what, got, want);
-    int all = is_refusal(want);
+    int all = is_refusal(want) || is_discard(want);
     check(line, "site stays", stays(site, all ? 0 : site.lent), 1);
     check(line, "links stay", stays(links, all ? 0 : links.lent), 1);
 }
 
 static void settle_own(int line, const char *what, uint32_t got, uint32_t want, uint32_t set) {
     check(line, what, got, want);
-    int all = is_refusal(want);
+    int refused = is_refusal(want), all = refused || is_discard(want);
     check(line, "row stays", stays(row, all ? 0 : row.lent), 1);
     check(line, "letter stays", stays(letter, 0), 1);
     check(line, "out stays", stays(out, set == 0 || all ? 0 : out.lent), 1);
-    check(line, "to", to, all ? to_before : set);
+    check(line, "to", to, refused ? to_before : set);
 }
 
 #define ON site.words, site.lent, links.words, links.lent
@@ -72,6 +86,11 @@ static void settle_own(int line, const char *what, uint32_t got, uint32_t want, 
     do {                                                                                           \
         keep(site), keep(links);                                                                   \
         settle(__LINE__, #call, call, want);                                                       \
+    } while (0)
+#define DISCARD(want, a, b)                                                                        \
+    do {                                                                                           \
+        keep(site), keep(links), hand_over(a, b);                                                  \
+        settle(__LINE__, "deliver " #a " " #b, journal_deliver(ON, a, b), want);                   \
     } while (0)
 #define ROW row.words, row.lent, out.words, out.lent, &to
 #define MAIL row.words, row.lent, letter.words, letter.lent, out.words, out.lent, &to
@@ -285,23 +304,31 @@ static void mails(void) {
     SITE(JOURNAL_DONE, journal_fresh(ON, 2, 1, 2));
     SITE(JOURNAL_DONE, journal_elect(ON, 2));
     post(1, 101, 0, 0);
-    SITE(JOURNAL_DISCARDED_ROLE, journal_deliver(ON, 1, 2));
+    DISCARD(JOURNAL_DISCARDED_ROLE, 1, 2);
     WORD(links, 1, 0);
     post(2, 101, 0, 0);
-    SITE(JOURNAL_DISCARDED_PHASE, journal_deliver(ON, 1, 2));
+    DISCARD(JOURNAL_DISCARDED_PHASE, 1, 2);
     site.words[5 + 21 + 0] = 0; /* box 2 does not lead, and has promised 203 */
     site.words[5 + 21 + 3] = 203;
     post(3, 202, 0, 1);
-    SITE(JOURNAL_DISCARDED_NUMBER, journal_deliver(ON, 1, 2));
+    DISCARD(JOURNAL_DISCARDED_NUMBER, 1, 2);
     post(6, 0, 1, 0);
-    SITE(JOURNAL_DISCARDED_PLACE, journal_deliver(ON, 1, 2));
+    DISCARD(JOURNAL_DISCARDED_PLACE, 1, 2);
     post(3, 204, 0, 1); /* above the promise as below it */
-    SITE(JOURNAL_DISCARDED_NUMBER, journal_deliver(ON, 1, 2));
+    DISCARD(JOURNAL_DISCARDED_NUMBER, 1, 2);
     WORD(links, 1, 0);
     post(3, 203, 0, 1);
     SITE(JOURNAL_TAKEN, journal_deliver(ON, 1, 2));
     post(7, 0, 0, 0);
     SITE(JOURNAL_FORM, journal_deliver(ON, 1, 2));
+    links.words[1] = 0;
+    /* Link 2 to 1 is full, and its head stands in the last place: the next is the first. */
+    uint64_t full[] = {1, 2, 6, 0, 1, 0, 0, 0, 6, 0, 1, 0, 0, 0};
+    memcpy(links.words + 2 + 2 * JOURNAL_PLACE_WORDS(1), full, sizeof full);
+    DISCARD(JOURNAL_DISCARDED_PLACE, 2, 1);
+    WORD(links, 14, 0), WORD(links, 15, 1);
+    DISCARD(JOURNAL_DISCARDED_PLACE, 2, 1);
+    WORD(links, 14, 1), WORD(links, 15, 0);
     release_site();
 }
 
@@ -373,7 +400,19 @@ static void own_boxes(void) {
     OWN(JOURNAL_TAKEN, 0, journal_own_mail(MAIL, TOLD, 2, 1));
     WORD(row, 4, 1), WORD(row, 20, 0x700000008u);
     BOX(1);
+    uint64_t last[] = {2, 1, 0, 0, 0}, above[] = {3, 2, 0, 0, 1, 0x700000008u};
+    uint64_t ahead[] = {3, 1, 1, 0, 1, 0x700000008u};
+#define POST(mail) memcpy(letter.words, mail, sizeof mail), to = 77
+    to = 77;
     OWN(JOURNAL_DISCARDED_ROLE, 0, journal_own_mail(MAIL, TOLD, 1, 2));
+    POST(last);
+    OWN(JOURNAL_DISCARDED_PHASE, 0, journal_own_mail(MAIL, TOLD, 1, 2));
+    BOX(2);
+    POST(above);
+    OWN(JOURNAL_DISCARDED_NUMBER, 0, journal_own_mail(MAIL, TOLD, 2, 1));
+    POST(ahead);
+    OWN(JOURNAL_DISCARDED_PLACE, 0, journal_own_mail(MAIL, TOLD, 2, 1));
+    BOX(1);
     OWN(JOURNAL_DONE, 2, journal_own_finish(ROW, TOLD, 1));
     OWN(JOURNAL_CONDITION, 0, journal_own_finish(ROW, TOLD, 1));
     release(row), release(letter), release(out);
@@ -427,7 +466,7 @@ static void largest(void) {
     }
     site.words[5 + 2] = 5, site.words[5 + 1] = 4; /* phase Commit, state Refresh */
     SITE(JOURNAL_LINK, journal_finish(ON, 1));
-    for (uint32_t i = 0; i < 16; i++) SITE(JOURNAL_DISCARDED_PLACE, journal_deliver(ON, 1, 2));
+    for (uint32_t i = 0; i < 16; i++) DISCARD(JOURNAL_DISCARDED_PLACE, 1, 2);
     SITE(JOURNAL_CONDITION, journal_deliver(ON, 1, 2));
     SITE(JOURNAL_DONE, journal_finish(ON, 1));
     links.words[1] = 17;
