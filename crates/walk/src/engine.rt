@@ -2,6 +2,7 @@
 use crate::lent;
 use crate::lent::Lent;
 use crate::show;
+use crate::spots;
 use lines::Line;
 use rules::model::Answer;
 use rules::model::Call;
@@ -32,6 +33,19 @@ fn fresh(
     answered(a, z, site, links, site_before, links_before);
 }
 
+// What the call must leave of these links, where it discarded a mail: that link without its head,
+// and every other word.
+fn hand_over(z: Lent, links: &mut [u64], call: Call, a: Answer) {
+    if rules::numbers::answer_number(a) < 101 {
+        return;
+    }
+    let Call::Deliver(a, b) = call else {
+        return;
+    };
+    let at = spots::link_at(z.n, z.j, z.l, a as u64, b as u64);
+    spots::hand_over(links, at, z.l);
+}
+
 fn call(
     z: Lent,
     site: &mut [u64],
@@ -43,6 +57,7 @@ fn call(
     lent::copy(site, site_before);
     lent::copy(links, links_before);
     let a = site::step(site, links, call);
+    hand_over(z, links_before, call, a);
     answered(a, z, site, links, site_before, links_before);
 }
 

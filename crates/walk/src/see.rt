@@ -1,6 +1,7 @@
 // A box, a link or a letter, word by word.
 use crate::lent::Lent;
 use crate::show;
+use crate::spots::after;
 use crate::spots::get;
 use crate::spots::link_at;
 use crate::spots::row_at;
@@ -22,15 +23,6 @@ pub(crate) fn row(z: Lent, site: &[u64], c: u64) {
     show::text(b" |");
     show::words(site, at, wrapping_add_usize(head, count));
     show::text(b"\n");
-}
-
-// The place after p, round the link.
-fn after(p: usize, l: usize) -> usize {
-    let q = wrapping_add_usize(p, 1);
-    if q < l {
-        return q;
-    }
-    0
 }
 
 // The mails of the link from a to b.

@@ -22,13 +22,13 @@ pub(crate) fn answer_number(n: u32) {
     number(n as u64);
 }
 
-// An answer's number; a refusal with whether every lent word stayed.
+// An answer's number; a refusal and a discard with whether every word stayed that has to.
 pub(crate) fn answer(n: u32, kept: bool) {
     answer_number(n);
     if n == 0 {
         return;
     }
-    if 99 < n {
+    if n == 100 {
         return;
     }
     if kept {

@@ -65,3 +65,22 @@ pub(crate) fn link_at(n: u32, j: u32, l: u32, a: u64, b: u64) -> usize {
     let before = many(less_one(a), less_one(n as u64));
     many(wrapping_add_usize(before, own), width)
 }
+
+// The place after p, round the link.
+pub(crate) fn after(p: usize, l: usize) -> usize {
+    let q = wrapping_add_usize(p, 1);
+    if q < l {
+        return q;
+    }
+    0
+}
+
+// The head leaves the link whose row begins at `at`: the place after it is the first, and there is
+// one mail less.
+pub(crate) fn hand_over(links: &mut [u64], at: usize, l: u32) {
+    let first = after(get(links, at) as usize, l as usize);
+    let count = wrapping_add_usize(at, 1);
+    let left = less_one(get(links, count));
+    put(links, at, first as u64);
+    put(links, count, left as u64);
+}
