@@ -3,17 +3,10 @@
 
 use crate::image;
 use crate::rules::Fault;
-use crate::site::*;
 use crate::trace::unhex;
 
 /// The words that the program lends of the site and of the links.
 const ROOM: (usize, usize) = (160, 1000);
-
-/// The words that a site takes, by docs/ARCHITECTURE.md.
-fn words(sizes: Sizes) -> (usize, usize) {
-    let (n, j, l) = (sizes.n as usize, sizes.j as usize, sizes.l as usize);
-    (5 + n * (20 + j), n * (n - 1) * (2 + l * (5 + j)))
-}
 
 #[derive(Default)]
 struct Count {
@@ -24,7 +17,7 @@ struct Count {
 
 impl Count {
     fn read(&mut self, bytes: &[u8], room: (usize, usize)) {
-        match image::read(bytes).map(|site| words(site.sizes)) {
+        match image::read(bytes).map(|site| (site.sizes.site_words(), site.sizes.links_words())) {
             None => self.form += 1,
             Some((site, links)) if room.0 < site || room.1 < links => self.short += 1,
             Some(_) => self.done += 1,

@@ -3,6 +3,7 @@
 //!     peer replay            the replayer, standard input to standard output
 //!     peer apply             one step on an image, a line each
 //!     peer damage            images changed, cut and made longer, how often each answer comes
+//!     peer script            calls on lent words, and on those of a box by itself
 //!     peer compare-replay    random traces to this and to another program, command=SHELL
 //!     peer compare-apply     random image steps to both
 //!     peer walk              long random walks with demand 3 looked at, and broken rules noticed
@@ -17,10 +18,12 @@ mod damage;
 mod image;
 mod random;
 mod rules;
+mod script;
 mod shrink;
 mod site;
 mod trace;
 mod walk;
+mod words;
 
 use rules::{Fault, Shows, FAULTS};
 use std::io::{Read, Write};
@@ -77,6 +80,7 @@ fn main() -> ExitCode {
         (Some("replay"), _) => filter(trace::replay, fault),
         (Some("apply"), _) => filter(trace::apply, fault),
         (Some("damage"), _) => filter(damage::damage, fault),
+        (Some("script"), _) => filter(script::script, fault),
         (Some("watch"), _) => filter(walk::watch, fault),
         (Some("compare-replay"), Some(other)) => {
             status(compare::replays(other, seed, number("count", 300)))
@@ -91,7 +95,7 @@ fn main() -> ExitCode {
         (Some("walk"), _) => walks(seed, number("walks", 2000), number("steps", 500) as u32, fault),
         _ => {
             eprintln!(
-                "usage: peer replay|apply|damage|walk|watch|faults|compare-replay|compare-apply [NAME=VALUE ..]"
+                "usage: peer replay|apply|damage|script|walk|watch|faults|compare-replay|compare-apply [NAME=VALUE ..]"
             );
             ExitCode::FAILURE
         }

@@ -81,18 +81,19 @@ pub const FAULTS: [(Fault, &str, Shows); 9] = [
 
 /// What a box sees of its site.
 #[derive(Clone, Copy)]
-struct Around {
-    n: u32,
-    j: u32,
-    present: u32,
-    fault: Fault,
+pub struct Around {
+    pub n: u32,
+    pub j: u32,
+    pub epoch: u32,
+    pub present: u32,
+    pub fault: Fault,
 }
 
 /// A box's own part of a step: its next fields and the mails that it sends.
-struct Turn {
-    answer: Answer,
-    next: Camera,
-    out: Vec<(u32, Mail)>,
+pub struct Turn {
+    pub answer: Answer,
+    pub next: Camera,
+    pub out: Vec<(u32, Mail)>,
 }
 
 fn done(next: Camera, out: Vec<(u32, Mail)>) -> Result<Turn, Refusal> {
@@ -194,6 +195,14 @@ impl Call {
             Call::Lose(a, _) | Call::Repeat(a, _) | Call::Deliver(a, _) => a,
         }
     }
+
+    /// The link whose head the call is about.
+    pub fn along(self) -> Option<(u32, u32)> {
+        match self {
+            Call::Lose(a, b) | Call::Repeat(a, b) | Call::Deliver(a, b) => Some((a, b)),
+            _ => None,
+        }
+    }
 }
 
 impl Camera {
@@ -232,7 +241,12 @@ impl Camera {
         self.peers.fill(UNKNOWN);
     }
 
-    fn lead(self, c: u32, around: Around, call: Call) -> Result<Turn, Refusal> {
+    /// Box c's own part of a leader's call: refusals 10, 3, 6 and 7.
+    pub fn lead(self, c: u32, around: Around, call: Call) -> Result<Turn, Refusal> {
+        if matches!(call, Call::Offer(_, 0, _) | Call::Offer(_, _, 0)) {
+            return Err(10);
+        }
+        needs(around.epoch % 2 == 0)?;
         match call {
             Call::Recover(_) => self.recover(c, around),
             Call::Collect(_) => self.collect(c, around),
@@ -330,7 +344,9 @@ impl Camera {
         self.lease(c, around)
     }
 
-    fn receive(self, c: u32, around: Around, from: u32, mail: &Mail) -> Result<Turn, Refusal> {
+    /// Box c's own part of a mail that is handed to it: refusals 3 and 6.
+    pub fn receive(self, c: u32, around: Around, from: u32, mail: &Mail) -> Result<Turn, Refusal> {
+        needs(around.epoch % 2 == 0)?;
         let above = mail.kind == Kind::Begin && !self.leads && mail.pn > self.pn;
         if above && around.fault == Fault::AboveRefused {
             return Err(9);
@@ -465,7 +481,8 @@ pub fn step_with(site: &mut Site, call: Call, fault: Fault) -> Result<Answer, Re
     if !named {
         return Err(2);
     }
-    let around = Around { n, j: site.sizes.j, present: site.present, fault };
+    let Site { epoch, present, .. } = *site;
+    let around = Around { n, j: site.sizes.j, epoch, present, fault };
     match call {
         Call::Elect(c) => elect(site, c),
         Call::Stop(c) => presence(site, c, true, fault),
@@ -480,9 +497,7 @@ pub fn step_with(site: &mut Site, call: Call, fault: Fault) -> Result<Answer, Re
         }
         Call::Repeat(a, b) => repeat(site, a, b),
         Call::Deliver(a, b) => deliver(site, a, b, around),
-        Call::Offer(_, 0, _) | Call::Offer(_, _, 0) => Err(10),
         _ => {
-            needs(site.epoch % 2 == 0)?;
             let c = call.at();
             let turn = site.at(c).clone().lead(c, around, call)?;
             settle(site, c, turn)
@@ -560,7 +575,6 @@ fn repeat(site: &mut Site, a: u32, b: u32) -> Result<Answer, Refusal> {
 }
 
 fn deliver(site: &mut Site, a: u32, b: u32, around: Around) -> Result<Answer, Refusal> {
-    needs(site.epoch % 2 == 0)?;
     let mail = site.link(a, b).front().cloned().ok_or(3u32)?;
     let turn = site.at(b).clone().receive(b, around, a, &mail)?;
     let answer = settle(site, b, turn)?;

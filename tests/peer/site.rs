@@ -159,6 +159,43 @@ impl Camera {
     pub fn agreed(&self) -> &[Record] {
         &self.records[..self.last as usize]
     }
+
+    /// By form, of what concerns box c alone.
+    pub fn by_form(&self, sizes: Sizes, c: u32) -> bool {
+        let Sizes { n, j, .. } = sizes;
+        let held = self.records.len() as u32;
+        [self.pn, self.stored_pn, self.best.pn].iter().all(|pn| *pn <= HIGHEST_PN)
+            && [self.last, self.stored_number, self.best.number].iter().all(|number| *number <= j)
+            && [self.answered, self.accepts].iter().all(|set| *set <= everyone(n))
+            && [self.best.record, self.waiting, self.agreeing].iter().all(|r| *r == 0 || proper(*r))
+            && (1..=n).all(|k| {
+                let last = self.peers[k as usize - 1];
+                last == UNKNOWN || (k != c && last <= j)
+            })
+            && (held == self.last || held == self.last + 1)
+            && held <= j
+            && self.records.iter().all(|r| proper(*r))
+    }
+}
+
+impl Mail {
+    pub fn by_form(&self, j: u32) -> bool {
+        let count = self.records.len() as u32;
+        let told = self.kind == Kind::Last && count.checked_sub(1) == Some(self.last);
+        self.pn <= HIGHEST_PN
+            && self.last <= j
+            && self.unagreed_pn <= HIGHEST_PN
+            && (self.unagreed_pn == 0 || told)
+            && count <= j
+            && self.records.iter().all(|r| proper(*r))
+            && match self.kind {
+                Kind::Last => count == self.last || told,
+                Kind::Commit => count == self.last,
+                Kind::Begin => count == 1 && self.last < j,
+                Kind::Lease => count == 0 && self.pn == 0,
+                Kind::Collect | Kind::Accept => count == 0,
+            }
+    }
 }
 
 impl Site {
@@ -218,47 +255,11 @@ impl Site {
             && (1..=LAST_EPOCH).contains(&self.epoch)
             && self.present <= everyone(self.sizes.n)
             && self.boxes.iter().filter(|b| b.leads).count() <= 1
-            && self.numbers().all(|c| self.box_by_form(c))
+            && self.numbers().all(|c| self.at(c).by_form(self.sizes, c))
             && self.pairs().iter().all(|(a, b)| self.link_by_form(self.link(*a, *b)))
     }
 
-    fn box_by_form(&self, c: u32) -> bool {
-        let Sizes { n, j, .. } = self.sizes;
-        let b = self.at(c);
-        let held = b.records.len() as u32;
-        [b.pn, b.stored_pn, b.best.pn].iter().all(|pn| *pn <= HIGHEST_PN)
-            && [b.last, b.stored_number, b.best.number].iter().all(|number| *number <= j)
-            && [b.answered, b.accepts].iter().all(|set| *set <= everyone(n))
-            && [b.best.record, b.waiting, b.agreeing].iter().all(|r| *r == 0 || proper(*r))
-            && self.numbers().all(|k| {
-                let last = b.peers[k as usize - 1];
-                last == UNKNOWN || (k != c && last <= j)
-            })
-            && (held == b.last || held == b.last + 1)
-            && held <= j
-            && b.records.iter().all(|r| proper(*r))
-    }
-
     fn link_by_form(&self, link: &VecDeque<Mail>) -> bool {
-        link.len() <= self.sizes.l as usize && link.iter().all(|m| self.mail_by_form(m))
-    }
-
-    fn mail_by_form(&self, m: &Mail) -> bool {
-        let j = self.sizes.j;
-        let count = m.records.len() as u32;
-        let told = m.kind == Kind::Last && count == m.last + 1;
-        m.pn <= HIGHEST_PN
-            && m.last <= j
-            && m.unagreed_pn <= HIGHEST_PN
-            && (m.unagreed_pn == 0 || told)
-            && count <= j
-            && m.records.iter().all(|r| proper(*r))
-            && match m.kind {
-                Kind::Last => count == m.last || told,
-                Kind::Commit => count == m.last,
-                Kind::Begin => count == 1 && m.last < j,
-                Kind::Lease => count == 0 && m.pn == 0,
-                Kind::Collect | Kind::Accept => count == 0,
-            }
+        link.len() <= self.sizes.l as usize && link.iter().all(|m| m.by_form(self.sizes.j))
     }
 }

@@ -1,0 +1,277 @@
+//! A site in lent words, by include/journal.h and docs/ARCHITECTURE.md, and the entries on it.
+//!
+//! `site`: n, J, L, epoch, present set, and a row for each box, its fields in the image's order, with
+//! five peers and room for J records. `links`: for each pair of different boxes, by sender and then
+//! receiver, the place of its head, how many mails it holds, and L places round a ring, each a mail's
+//! fields in the image's order with room for J records. Other words are neither read nor written.
+
+use crate::rules::*;
+use crate::site::*;
+use std::collections::VecDeque;
+
+const GENERAL: usize = 5;
+const PEERS: std::ops::Range<usize> = 14..19;
+const COUNT: usize = 19;
+const RECORDS: usize = 20;
+const ENCLOSED: usize = 5;
+
+impl Sizes {
+    pub fn row_words(self) -> usize {
+        RECORDS + self.j as usize
+    }
+
+    pub fn place_words(self) -> usize {
+        ENCLOSED + self.j as usize
+    }
+
+    fn link_words(self) -> usize {
+        2 + self.l as usize * self.place_words()
+    }
+
+    pub fn site_words(self) -> usize {
+        GENERAL + self.n as usize * self.row_words()
+    }
+
+    pub fn links_words(self) -> usize {
+        (self.n * (self.n - 1)) as usize * self.link_words()
+    }
+
+    /// Where the row of a box begins.
+    pub fn row_at(self, c: u32) -> usize {
+        GENERAL + (c as usize - 1) * self.row_words()
+    }
+
+    /// Where the link from a to b begins.
+    pub fn link_at(self, a: u32, b: u32) -> usize {
+        let receiver = if b < a { b - 1 } else { b - 2 };
+        ((a - 1) * (self.n - 1) + receiver) as usize * self.link_words()
+    }
+
+    /// Where in a link the place begins that is i places on from the first, round the ring.
+    pub fn place_at(self, first: u64, i: u64) -> usize {
+        2 + ((first + i) % self.l as u64) as usize * self.place_words()
+    }
+}
+
+fn number(word: u64) -> Option<u32> {
+    u32::try_from(word).ok()
+}
+
+/// The box that a row holds; None where the words are too few or too large for it.
+fn read_row(words: &[u64], sizes: Sizes) -> Option<Camera> {
+    let words = words.get(..sizes.row_words())?;
+    let count = number(words[COUNT]).filter(|count| *count <= sizes.j)?;
+    let peers = &words[PEERS][..sizes.n as usize];
+    Some(Camera {
+        leads: number(words[0]).filter(|flag| *flag <= 1)? == 1,
+        state: *STATES.get(number(words[1])? as usize)?,
+        phase: *PHASES.get(number(words[2])? as usize)?,
+        pn: number(words[3])?,
+        last: number(words[4])?,
+        stored_pn: number(words[5])?,
+        stored_number: number(words[6])?,
+        best: Best { pn: number(words[7])?, number: number(words[8])?, record: words[11] },
+        answered: number(words[9])?,
+        accepts: number(words[10])?,
+        waiting: words[12],
+        agreeing: words[13],
+        peers: peers.iter().map(|last| number(*last)).collect::<Option<_>>()?,
+        records: words[RECORDS..][..count as usize].to_vec(),
+    })
+}
+
+fn put_row(words: &mut [u64], b: &Camera) {
+    let Best { pn, number, record } = b.best;
+    let numbers = [b.leads as u32, b.state as u32, b.phase as u32, b.pn, b.last, b.stored_pn]
+        .into_iter()
+        .chain([b.stored_number, pn, number, b.answered, b.accepts]);
+    let values = [record, b.waiting, b.agreeing];
+    let head = numbers.map(u64::from).chain(values).chain(b.peers.iter().map(|k| *k as u64));
+    words.iter_mut().zip(head).for_each(|(word, value)| *word = value);
+    words[COUNT] = b.records.len() as u64;
+    words[RECORDS..][..b.records.len()].copy_from_slice(&b.records);
+}
+
+/// The mail that a place holds; None where the words are too few or too large for it.
+fn read_mail(words: &[u64], sizes: Sizes) -> Option<Mail> {
+    let words = words.get(..sizes.place_words())?;
+    let count = number(words[4]).filter(|count| *count <= sizes.j)?;
+    Some(Mail {
+        kind: *KINDS.get(number(words[0])?.checked_sub(1)? as usize)?,
+        pn: number(words[1])?,
+        last: number(words[2])?,
+        unagreed_pn: number(words[3])?,
+        records: words[ENCLOSED..][..count as usize].to_vec(),
+    })
+}
+
+fn put_mail(words: &mut [u64], m: &Mail) {
+    let head = [m.kind as u32, m.pn, m.last, m.unagreed_pn, m.records.len() as u32];
+    let all = head.map(u64::from).into_iter().chain(m.records.iter().copied());
+    words.iter_mut().zip(all).for_each(|(word, value)| *word = value);
+}
+
+fn read_link(words: &[u64], sizes: Sizes) -> Option<VecDeque<Mail>> {
+    let (first, count) = (words[0], words[1]);
+    if first >= sizes.l as u64 || count > sizes.l as u64 {
+        return None;
+    }
+    (0..count).map(|i| read_mail(&words[sizes.place_at(first, i)..], sizes)).collect()
+}
+
+/// The mail goes into the place that is i places on from the first; there is one more.
+fn enclose(link: &mut [u64], sizes: Sizes, i: u64, m: &Mail) {
+    let at = sizes.place_at(link[0], i);
+    put_mail(&mut link[at..], m);
+    link[1] += 1;
+}
+
+/// The head leaves the link.
+fn hand_over(link: &mut [u64], sizes: Sizes) {
+    link[0] = (link[0] + 1) % sizes.l as u64;
+    link[1] -= 1;
+}
+
+/// The copy goes into the place before the head's.
+fn double(link: &mut [u64], sizes: Sizes, head: &Mail) {
+    link[0] = (link[0] + sizes.l as u64 - 1) % sizes.l as u64;
+    enclose(link, sizes, 0, head);
+}
+
+/// The site by form that the words hold.
+fn read(site: &[u64], links: &[u64]) -> Option<Site> {
+    let general = |at: usize| number(*site.get(at)?);
+    let sizes = Sizes { n: general(0)?, j: general(1)?, l: general(2)? };
+    if !sizes.in_range() || !enough(site, links, sizes) {
+        return None;
+    }
+    let mut held = Site::fresh(sizes);
+    held.epoch = general(3)?;
+    held.present = general(4)?;
+    for c in held.numbers() {
+        *held.at_mut(c) = read_row(&site[sizes.row_at(c)..], sizes)?;
+    }
+    for (a, b) in held.pairs() {
+        *held.link_mut(a, b) = read_link(&links[sizes.link_at(a, b)..], sizes)?;
+    }
+    held.by_form().then_some(held)
+}
+
+fn enough(site: &[u64], links: &[u64], sizes: Sizes) -> bool {
+    site.len() >= sizes.site_words() && links.len() >= sizes.links_words()
+}
+
+fn put_site(words: &mut [u64], site: &Site) {
+    let Sizes { n, j, l } = site.sizes;
+    let general = [n, j, l, site.epoch, site.present].map(u64::from);
+    words[..GENERAL].copy_from_slice(&general);
+    site.numbers().for_each(|c| put_row(&mut words[site.sizes.row_at(c)..], site.at(c)));
+}
+
+/// A fresh site, whatever the words held.
+pub fn fresh(site: &mut [u64], links: &mut [u64], sizes: Sizes) -> Result<Answer, Refusal> {
+    if !sizes.in_range() {
+        return Err(13);
+    }
+    if !enough(site, links, sizes) {
+        return Err(12);
+    }
+    let new = Site::fresh(sizes);
+    for c in new.numbers() {
+        site[sizes.row_at(c)..][PEERS].fill(UNKNOWN as u64);
+    }
+    put_site(site, &new);
+    for (a, b) in new.pairs() {
+        links[sizes.link_at(a, b)..][..2].fill(0);
+    }
+    Ok(Answer::Done)
+}
+
+pub fn step(
+    site: &mut [u64],
+    links: &mut [u64],
+    call: Call,
+    fault: Fault,
+) -> Result<Answer, Refusal> {
+    let mut held = read(site, links).ok_or(1u32)?;
+    let answer = step_with(&mut held, call, fault)?;
+    put_site(site, &held);
+    for (a, b) in held.pairs() {
+        let (link, mails) = (&mut links[held.sizes.link_at(a, b)..], held.link(a, b));
+        match call {
+            Call::Elect(_) => link[..2].fill(0),
+            Call::Lose(..) | Call::Deliver(..) if call.along() == Some((a, b)) => {
+                hand_over(link, held.sizes)
+            }
+            Call::Repeat(..) if call.along() == Some((a, b)) => double(link, held.sizes, &mails[0]),
+            _ => {}
+        }
+        mails.iter().skip(link[1] as usize).for_each(|m| enclose(link, held.sizes, link[1], m));
+    }
+    Ok(answer)
+}
+
+pub fn asked(
+    site: &[u64],
+    links: &[u64],
+    (c, k, left, right): (u32, u32, u32, u32),
+) -> Result<Answer, Refusal> {
+    holds(&read(site, links).ok_or(1u32)?, c, k, left, right)
+}
+
+/// What a box by itself is told of its site, and its own number.
+#[derive(Clone, Copy)]
+pub struct Told {
+    pub sizes: Sizes,
+    pub epoch: u32,
+    pub present: u32,
+    pub me: u32,
+}
+
+/// A call of a leader's, or the words of a letter and their sender.
+pub enum Event<'a> {
+    Lead(Call),
+    Mail(u32, &'a [u64]),
+}
+
+/// A box by itself: 13, 1 for what concerns it alone, 2, the rules' own, 12. The answer, and the set
+/// of boxes that the letter in `out` is for.
+pub fn alone(
+    row: &mut [u64],
+    out: &mut [u64],
+    told: Told,
+    event: Event,
+    fault: Fault,
+) -> Result<(Answer, u32), Refusal> {
+    let Told { sizes, epoch, present, me } = told;
+    if !sizes.in_range() {
+        return Err(13);
+    }
+    let told_by_form = (1..=LAST_EPOCH).contains(&epoch) && present <= everyone(sizes.n);
+    let own = read_row(row, sizes).filter(|b| told_by_form && b.by_form(sizes, me)).ok_or(1u32)?;
+    let around = Around { n: sizes.n, j: sizes.j, epoch, present, fault };
+    let is_box = |c: u32| (1..=sizes.n).contains(&c);
+    let turn = match event {
+        Event::Lead(_) if !is_box(me) => return Err(2),
+        Event::Lead(call) => own.lead(me, around, call)?,
+        Event::Mail(from, words) => {
+            let mail = read_mail(words, sizes).filter(|m| m.by_form(sizes.j)).ok_or(1u32)?;
+            if !is_box(me) || !is_box(from) || from == me {
+                return Err(2);
+            }
+            own.receive(me, around, from, &mail)?
+        }
+    };
+    if matches!(turn.answer, Answer::Discarded(_)) {
+        return Ok((turn.answer, 0));
+    }
+    if out.len() < sizes.place_words() {
+        return Err(12);
+    }
+    put_row(row, &turn.next);
+    // a turn's mails are all alike
+    if let Some((_, mail)) = turn.out.first() {
+        put_mail(out, mail);
+    }
+    Ok((turn.answer, turn.out.iter().fold(0, |set, (k, _)| set | only(*k))))
+}
