@@ -1,12 +1,14 @@
-/* `apply` in C: one step on an image, a line each. */
+/* `apply` in C: one step on an image, a line each; it ends with 1 where a line was refused. */
 #include "apply.h"
 
 static u8 image[LONGEST_AFTER];
+static int refused;
 
 static u32 refuse(u32 refusal) {
     u8 *to = put_number(put_text(out_room(32), "refused "), refusal);
     *to++ = '\n';
     out_end(to);
+    refused = 1;
     return 1;
 }
 
@@ -51,5 +53,5 @@ static u32 apply_line(const u8 *p, u64 length, u64 number) {
 int main(void) {
     each_line(apply_line);
     flush();
-    return 0;
+    return refused;
 }

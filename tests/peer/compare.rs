@@ -1,35 +1,15 @@
-//! The driver: the same random input to this program and to another, through a pipe; every byte
-//! must be the same. What differs is shown in its shortest form, with its seed.
+//! The driver: the same random input to this program and to another, through a pipe; every byte and
+//! the exit status must be the same. What differs, and where the other program dies, is shown in its
+//! shortest form, with its seed.
 
 use crate::image;
+use crate::other::{Other, Run, Verdict};
 use crate::random::*;
 use crate::rules::Fault;
 use crate::shrink::fewest;
 use crate::site::*;
-use crate::trace;
+use crate::trace::{self, Said};
 use std::collections::BTreeMap;
-use std::io::Write;
-use std::process::{Command, Stdio};
-
-/// What another program, given as a shell command, writes for an input handed over in pieces.
-fn other(command: &str, input: &[u8], piece: usize) -> Vec<u8> {
-    let mut child = Command::new("sh")
-        .args(["-c", &format!("exec {command}")])
-        .stdin(Stdio::piped())
-        .stdout(Stdio::piped())
-        .spawn()
-        .unwrap_or_else(|e| panic!("{command}: {e}"));
-    let mut pipe = child.stdin.take().unwrap();
-    let input = input.to_vec();
-    // the other program may end before it has read everything
-    let feed = std::thread::spawn(move || input.chunks(piece).try_for_each(|p| pipe.write_all(p)));
-    let mut output = child.wait_with_output().unwrap_or_else(|e| panic!("{command}: {e}"));
-    drop(feed.join());
-    if !output.status.success() {
-        output.stdout.extend(format!("({})\n", output.status).bytes());
-    }
-    output.stdout
-}
 
 fn text(bytes: &[u8]) -> String {
     let shown = String::from_utf8_lossy(bytes);
@@ -58,6 +38,10 @@ impl Met {
         *self.0.entry(answer).or_default() += 1;
     }
 
+    fn count_status(&mut self, said: &Said) {
+        *self.0.entry(format!("status {}", said.status())).or_default() += 1;
+    }
+
     /// Whether all of these were met: a driver that misses an answer has not tried it. Refusal 9
     /// must not have been.
     fn all(&self, refusals: &[u32], others: &[&str]) -> bool {
@@ -75,18 +59,22 @@ impl Met {
     }
 }
 
-/// The first line that differs, as an expected and a given text.
-fn show_difference(expected: &[u8], got: &[u8]) {
-    let (expected, got) = (String::from_utf8_lossy(expected), String::from_utf8_lossy(got));
-    let (mut left, mut right) = (expected.lines(), got.lines());
-    loop {
-        let (line, other) = (left.next(), right.next());
-        if line != other || line.is_none() {
-            println!("  expected: {}", line.unwrap_or("(nothing)"));
-            println!("  got:      {}", other.unwrap_or("(nothing)"));
-            return;
-        }
-    }
+/// Of two that differ the first line that does, or else the statuses; of a death how it ended. Then
+/// what the other program said last.
+fn show_difference(expected: &Said, run: &Run) {
+    let (ours, theirs) =
+        (String::from_utf8_lossy(&expected.text), String::from_utf8_lossy(&run.text));
+    let same = ours.lines().zip(theirs.lines()).take_while(|(a, b)| a == b).count();
+    let shown = |line: Option<&str>| line.unwrap_or("(nothing)").to_string();
+    let (wanted, got) = match run.against(expected) {
+        Verdict::Dies => ("an end with 0 or 1".into(), format!("{}, {same} lines out", run.end)),
+        _ if ours == theirs => (format!("exit status: {}", expected.status()), run.end.to_string()),
+        _ => (shown(ours.lines().nth(same)), shown(theirs.lines().nth(same))),
+    };
+    println!("  expected: {wanted}\n  got:      {got}");
+    let said = String::from_utf8_lossy(&run.said);
+    let last: Vec<_> = said.lines().rev().take(5).collect();
+    last.iter().rev().for_each(|line| println!("  it said:  {line}"));
 }
 
 /// A trace of a seed, as lines, and the pieces in which it is handed over.
@@ -96,9 +84,9 @@ fn seeded(seed: u64) -> (Vec<Vec<u8>>, usize) {
     (lines, r.pick(&[1, 63, 64, 65, 1000, 100_000]))
 }
 
-fn replay_differs(command: &str, lines: &[Vec<u8>], piece: usize) -> bool {
-    let input = lines.concat();
-    other(command, &input, piece) != trace::replay(&input, Fault::None)
+/// What is expected of a replay, and what the other program did.
+fn replay(other: &Other, input: &[u8], piece: usize) -> (Said, Run) {
+    (trace::replay(input, Fault::None), other.run(input, piece))
 }
 
 /// The lines without those, but the last, that are refused: a run that went on longer.
@@ -114,109 +102,184 @@ fn without_refused(lines: &[Vec<u8>]) -> Vec<Vec<u8>> {
     kept
 }
 
-/// Of this seed and the next hundred the shortest trace that differs, with what can be left out
-/// left out.
-fn show_replay(command: &str, seed: u64) {
+/// Of this seed and the next hundred the shortest trace that differs or that the other program dies
+/// of, with what can be left out left out. One that has no end is shown as it is.
+fn show_replay(other: &Other, seed: u64, expected: &Said, run: &Run) {
+    let (lines, piece) = seeded(seed);
+    let verdict = run.against(expected);
+    println!("replay {verdict}: seed {seed}, pieces of {piece}, {}", run.end);
+    if run.hangs() {
+        print!("{}", text(&lines.concat()));
+        return show_difference(expected, run);
+    }
+    let bad = |lines: &[Vec<u8>], piece| {
+        let (expected, run) = replay(other, &lines.concat(), piece);
+        run.against(&expected) != Verdict::Same
+    };
     let failing = |k: &u64| {
         let (lines, piece) = seeded(*k);
-        replay_differs(command, &lines, piece)
+        bad(&lines, piece)
     };
-    let best =
-        (seed..seed + 100).filter(failing).min_by_key(|k| seeded(*k).0.len()).unwrap_or(seed);
+    let failing = (seed..seed + 100).filter(failing);
+    let Some(best) = failing.min_by_key(|k| seeded(*k).0.len()) else {
+        println!("  once, and not again; the first time:");
+        return show_difference(expected, run);
+    };
     let (lines, piece) = seeded(best);
-    let goes_on = |lines: &[Vec<u8>]| replay_differs(command, &without_refused(lines), piece);
+    let goes_on = |lines: &[Vec<u8>]| bad(&without_refused(lines), piece);
     let short = if goes_on(&lines) { without_refused(&fewest(&lines, goes_on)) } else { lines };
-    let short = fewest(&short, |lines| replay_differs(command, lines, piece)).concat();
-    println!("replay differs: seed {best}, pieces of {piece}; the shortest input:");
+    let short = fewest(&short, |lines| bad(lines, piece)).concat();
+    println!("  the shortest, of seed {best}, in pieces of {piece}:");
     print!("{}", text(&short));
-    show_difference(&trace::replay(&short, Fault::None), &other(command, &short, piece));
+    let (expected, run) = replay(other, &short, piece);
+    show_difference(&expected, &run);
 }
 
 /// Traces, each in a run of its own; then one that reaches the last epoch.
-pub fn replays(command: &str, seed: u64, count: u64) -> bool {
+pub fn replays(other: &Other, seed: u64, count: u64) -> bool {
     let (mut met, mut printed) = (Met::default(), 0);
     for k in seed..seed + count {
         let (lines, piece) = seeded(k);
-        if replay_differs(command, &lines, piece) {
-            show_replay(command, k);
+        let (expected, run) = replay(other, &lines.concat(), piece);
+        if run.against(&expected) != Verdict::Same {
+            show_replay(other, k, &expected, &run);
             return false;
         }
-        let answers = trace::replay(&lines.concat(), Fault::None);
-        for (asked, answer) in lines.iter().zip(String::from_utf8_lossy(&answers).lines()) {
+        met.count_status(&expected);
+        for (asked, answer) in lines.iter().zip(String::from_utf8_lossy(&expected.text).lines()) {
             met.count(asked, answer);
             printed += 1;
         }
     }
-    if replay_differs(command, &[], 1) {
-        println!("replay differs: no input, no output");
-        return false;
-    }
     let long = ["site 1 1 1\n", &"elect 1\ntimeout 1\n".repeat(500_000)].concat().into_bytes();
-    let expected = trace::replay(&long, Fault::None);
-    let got = other(command, &long, 65_536);
-    if got != expected {
-        println!("replay differs on a million lines: elect 1, timeout 1, to the last epoch");
-        show_difference(&expected, &got);
-        return false;
+    for (name, input) in [("no input", vec![]), ("a million lines, to the last epoch", long)] {
+        let (expected, run) = replay(other, &input, 65_536);
+        let verdict = run.against(&expected);
+        if verdict != Verdict::Same {
+            println!("replay {verdict}: {name}");
+            show_difference(&expected, &run);
+            return false;
+        }
+        let answers = String::from_utf8_lossy(&expected.text);
+        if let Some(last) = answers.lines().last() {
+            met.count(b"timeout 1", last);
+        }
     }
-    let expected = String::from_utf8_lossy(&expected);
-    met.count(b"timeout 1", expected.lines().last().unwrap_or_default());
     println!("{count} traces from seed {seed}, {printed} lines, and one of a million: the same");
-    let others = [&["printed", "repeat printed"][..], &REPEATS].concat();
+    let statuses = ["printed", "repeat printed", "status 0", "status 1"];
+    let others = [&statuses[..], &REPEATS].concat();
     met.all(&[2, 3, 4, 5, 7, 8, 10, 11, 13, 14], &others)
 }
 
-/// The first line whose answers differ.
-fn first_difference(command: &str, lines: &[Vec<u8>]) -> Option<usize> {
-    let input: Vec<u8> = lines.iter().flat_map(|line| [line, &b"\n"[..]].concat()).collect();
-    let (ours, theirs) = (trace::apply(&input, Fault::None), other(command, &input, 65_536));
-    if ours == theirs {
-        return None;
-    }
-    let mut theirs = theirs.split(|b| *b == b'\n');
-    let same = ours.split(|b| *b == b'\n').take_while(|line| theirs.next() == Some(line)).count();
-    Some(same.min(lines.len().saturating_sub(1)))
+/// What is expected of image steps, and what the other program did.
+fn apply(other: &Other, input: &[u8]) -> (Said, Run) {
+    (trace::apply(input, Fault::None), other.run(input, 65_536))
 }
 
-/// Image steps, many to a run.
-pub fn applies(command: &str, seed: u64, count: u64) -> bool {
-    let mut met = Met::default();
-    for from in (seed..seed + count).step_by(500) {
-        let seeds = from..(from + 500).min(seed + count);
-        let lines: Vec<_> = seeds.map(|k| random_image_step(&mut Random::new(k))).collect();
-        if let Some(first) = first_difference(command, &lines) {
-            let mut line = lines[first].clone();
-            while let Some(simpler) = simplest(command, &line) {
-                line = simpler;
-            }
-            println!("apply differs: seed {}; the simplest line:", from + first as u64);
-            let input = [&line[..], b"\n"].concat();
-            print!("{}", text(&input));
-            show_difference(&trace::apply(&input, Fault::None), &other(command, &input, 65_536));
-            return false;
-        }
-        for line in &lines {
-            let answer = trace::apply(&[line, &b"\n"[..]].concat(), Fault::None);
-            let asked = line.splitn(2, |byte| *byte == b' ').nth(1).unwrap_or_default();
-            met.count(asked, &String::from_utf8_lossy(&answer));
+fn ended_lines(lines: &[Vec<u8>]) -> Vec<u8> {
+    lines.iter().flat_map(|line| [line, &b"\n"[..]].concat()).collect()
+}
+
+fn is_bad(other: &Other, lines: &[Vec<u8>]) -> bool {
+    let (expected, run) = apply(other, &ended_lines(lines));
+    run.against(&expected) != Verdict::Same
+}
+
+/// The first line that is answered otherwise or that the other program dies at: the last of the
+/// fewest, from the first on, that show it.
+fn first_bad(other: &Other, lines: &[Vec<u8>]) -> Option<usize> {
+    if lines.is_empty() || !is_bad(other, lines) {
+        return None;
+    }
+    let (mut good, mut bad) = (0, lines.len());
+    while good + 1 < bad {
+        let middle = (good + bad) / 2;
+        if is_bad(other, &lines[..middle]) {
+            bad = middle;
+        } else {
+            good = middle;
         }
     }
+    Some(bad - 1)
+}
+
+/// Whether the other program answers these lines as it has to. If not, the first that it does not
+/// is shown in its simplest form; as it stands where that has no end or is good by itself.
+fn steps_agree(other: &Other, seeds: &[u64], lines: &[Vec<u8>]) -> bool {
+    let (expected, run) = apply(other, &ended_lines(lines));
+    let verdict = run.against(&expected);
+    if verdict == Verdict::Same {
+        return true;
+    }
+    let (first, last) = (seeds[0], seeds[seeds.len() - 1]);
+    println!("apply {verdict}: among the lines of seeds {first} to {last}, {}", run.end);
+    let other = &other.quicker();
+    let Some(at) = first_bad(other, lines) else {
+        println!("  once, and not again; the first time:");
+        show_difference(&expected, &run);
+        return false;
+    };
+    let (mut line, mut which) = (lines[at].clone(), "as it stands".to_string());
+    let (mut expected, mut run) = apply(other, &ended_lines(&[line.clone()]));
+    if run.against(&expected) == Verdict::Same {
+        (expected, run) = apply(other, &ended_lines(&lines[..=at]));
+        which = format!("after the {at} before it, and not by itself");
+    } else if !run.hangs() {
+        while let Some(simpler) = simplest(other, &line) {
+            line = simpler;
+        }
+        (expected, run) = apply(other, &ended_lines(&[line.clone()]));
+        which = "in its simplest form".to_string();
+    }
+    println!("  the line of seed {}, {which}:", seeds[at]);
+    print!("{}", text(&line));
+    show_difference(&expected, &run);
+    false
+}
+
+/// Image steps, many to a run; then those of the first run that are not refused.
+pub fn applies(other: &Other, seed: u64, count: u64) -> bool {
+    let mut met = Met::default();
+    let mut done = vec![];
+    for from in (seed..seed + count).step_by(500) {
+        let seeds: Vec<u64> = (from..(from + 500).min(seed + count)).collect();
+        let lines: Vec<_> = seeds.iter().map(|k| random_image_step(&mut Random::new(*k))).collect();
+        if !steps_agree(other, &seeds, &lines) {
+            return false;
+        }
+        met.count_status(&trace::apply(&ended_lines(&lines), Fault::None));
+        for (k, line) in seeds.iter().zip(lines) {
+            let answer = trace::apply(&[&line[..], b"\n"].concat(), Fault::None);
+            let asked = line.splitn(2, |byte| *byte == b' ').nth(1).unwrap_or_default();
+            met.count(asked, &String::from_utf8_lossy(&answer.text));
+            if from == seed && !answer.refused {
+                done.push((*k, line));
+            }
+        }
+    }
+    let (seeds, lines): (Vec<u64>, Vec<_>) = done.into_iter().unzip();
+    if !lines.is_empty() && !steps_agree(other, &seeds, &lines) {
+        return false;
+    }
+    met.count_status(&trace::apply(&ended_lines(&lines), Fault::None));
     for input in [random_image_step(&mut Random::new(seed)), vec![]] {
-        let (ours, theirs) = (trace::apply(&input, Fault::None), other(command, &input, 65_536));
-        if ours != theirs {
-            println!("apply differs where the last line is unended, or where there is none:");
-            show_difference(&ours, &theirs);
+        let (expected, run) = apply(other, &input);
+        let verdict = run.against(&expected);
+        if verdict != Verdict::Same {
+            println!("apply {verdict} where the last line is unended, or where there is none:");
+            show_difference(&expected, &run);
             return false;
         }
     }
     println!("{count} image steps from seed {seed}: the same");
     let causes = ["discarded role", "discarded phase", "discarded number", "discarded place"];
-    let others = [&["done", "taken", "repeat done"][..], &causes, &REPEATS].concat();
+    let answers = ["done", "taken", "repeat done", "status 0", "status 1"];
+    let others = [&answers[..], &causes, &REPEATS].concat();
     met.all(&[1, 2, 3, 4, 5, 6, 7, 8, 10, 11, 14], &others)
 }
 
-/// A simpler line that differs too.
-fn simplest(command: &str, line: &[u8]) -> Option<Vec<u8>> {
+/// A simpler line that is bad too.
+fn simplest(other: &Other, line: &[u8]) -> Option<Vec<u8>> {
     let space = line.iter().position(|b| *b == b' ')?;
     let (bytes, words) = (trace::unhex(&line[..space])?, &line[space..]);
     let images = match image::read(&bytes) {
@@ -224,7 +287,7 @@ fn simplest(command: &str, line: &[u8]) -> Option<Vec<u8>> {
         None => shorter(&bytes),
     };
     let lines: Vec<_> = images.iter().map(|i| [trace::hex(i).as_bytes(), words].concat()).collect();
-    first_difference(command, &lines).map(|first| lines[first].clone())
+    first_bad(other, &lines).map(|first| lines[first].clone())
 }
 
 /// The bytes with a word left out or cleared.

@@ -2,7 +2,6 @@
 //! often each answer comes, for the program `damage` of crates/ to be held to.
 
 use crate::image;
-use crate::rules::Fault;
 use crate::trace::unhex;
 
 /// The words that the program lends of the site and of the links.
@@ -75,7 +74,7 @@ fn one_image(bytes: &[u8]) -> String {
 }
 
 /// What the program prints for this input: images in hex, one a line, and headings.
-pub fn damage(input: &[u8], _: Fault) -> Vec<u8> {
+pub fn damage(input: &[u8]) -> Vec<u8> {
     let text = std::str::from_utf8(input).expect("text");
     let mut out = String::new();
     for line in text.lines() {

@@ -11,11 +11,13 @@
 //!     peer faults            the names of the broken rules
 //!
 //! `fault=NAME` breaks a rule on purpose; a walk then shows the shortest trace. `seed=N`, and
-//! `count=N` or `walks=N steps=N`, say which random inputs and how many.
+//! `count=N` or `walks=N steps=N`, say which random inputs and how many; `limit=SECONDS` how long
+//! the other program may take for one. `replay` and `apply` end with 1 where a line was refused.
 
 mod compare;
 mod damage;
 mod image;
+mod other;
 mod random;
 mod rules;
 mod script;
@@ -25,21 +27,32 @@ mod trace;
 mod walk;
 mod words;
 
+use other::Other;
 use rules::{Fault, Shows, FAULTS};
 use std::io::{Read, Write};
 use std::process::ExitCode;
+use std::time::Duration;
+use trace::Said;
 
 fn fault_named(name: &str) -> Option<Fault> {
     FAULTS.iter().find(|(_, n, _)| *n == name).map(|(fault, ..)| *fault)
 }
 
-fn filter(work: fn(&[u8], Fault) -> Vec<u8>, fault: Fault) -> ExitCode {
+/// Standard input to standard output; the status is the manuals': 1 a line was refused, 3 input or
+/// output failed.
+fn filter(work: impl Fn(&[u8]) -> Said) -> ExitCode {
     let mut input = vec![];
-    std::io::stdin().read_to_end(&mut input).expect("standard input");
-    match std::io::stdout().write_all(&work(&input, fault)) {
-        Ok(()) => ExitCode::SUCCESS,
-        Err(_) => ExitCode::FAILURE,
+    let read = std::io::stdin().read_to_end(&mut input);
+    let said = work(&input);
+    match read.and_then(|_| std::io::stdout().write_all(&said.text)) {
+        Ok(()) => ExitCode::from(said.status() as u8),
+        Err(_) => ExitCode::from(3),
     }
+}
+
+/// A text in which nothing is refused.
+fn text(text: Vec<u8>) -> Said {
+    Said { text, refused: false }
 }
 
 fn status(good: bool) -> ExitCode {
@@ -75,18 +88,20 @@ fn main() -> ExitCode {
     let number = |name, usual| value(name).map_or(usual, |text| text.parse().expect("a number"));
     let fault =
         value("fault").map_or(Fault::None, |name| fault_named(name).expect("a fault's name"));
-    let (command, seed) = (value("command"), number("seed", 1));
-    match (words.first().map(String::as_str), command) {
-        (Some("replay"), _) => filter(trace::replay, fault),
-        (Some("apply"), _) => filter(trace::apply, fault),
-        (Some("damage"), _) => filter(damage::damage, fault),
-        (Some("script"), _) => filter(script::script, fault),
-        (Some("watch"), _) => filter(walk::watch, fault),
+    let seed = number("seed", 1);
+    let limit = Duration::from_secs(number("limit", 600));
+    let other = value("command").map(|command| Other { command: command.into(), limit });
+    match (words.first().map(String::as_str), other) {
+        (Some("replay"), _) => filter(|input| trace::replay(input, fault)),
+        (Some("apply"), _) => filter(|input| trace::apply(input, fault)),
+        (Some("damage"), _) => filter(|input| text(damage::damage(input))),
+        (Some("script"), _) => filter(|input| text(script::script(input, fault))),
+        (Some("watch"), _) => filter(|input| text(walk::watch(input, fault))),
         (Some("compare-replay"), Some(other)) => {
-            status(compare::replays(other, seed, number("count", 300)))
+            status(compare::replays(&other, seed, number("count", 300)))
         }
         (Some("compare-apply"), Some(other)) => {
-            status(compare::applies(other, seed, number("count", 6000)))
+            status(compare::applies(&other, seed, number("count", 6000)))
         }
         (Some("faults"), _) => {
             FAULTS.iter().for_each(|(_, name, _)| println!("{name}"));

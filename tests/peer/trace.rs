@@ -106,14 +106,28 @@ pub fn replay_line(
     Ok(())
 }
 
+/// What a run writes, and whether a line of it was refused.
+pub struct Said {
+    pub text: Vec<u8>,
+    pub refused: bool,
+}
+
+impl Said {
+    /// The exit status, by the manuals.
+    pub fn status(&self) -> i32 {
+        self.refused as i32
+    }
+}
+
 /// What a replay of this input prints.
-pub fn replay(input: &[u8], fault: Fault) -> Vec<u8> {
+pub fn replay(input: &[u8], fault: Fault) -> Said {
     let mut out = String::new();
-    let mut site = None;
+    let (mut site, mut refused) = (None, false);
     for (k, line) in (1u64..).zip(lines(input)) {
         let line = if k > u32::MAX as u64 { None } else { line };
         if let Err(refusal) = replay_line(&mut site, line, fault) {
             out += &format!("{k} refused {refusal}\n");
+            refused = true;
             break;
         }
         let site = site.as_ref().unwrap();
@@ -121,7 +135,7 @@ pub fn replay(input: &[u8], fault: Fault) -> Vec<u8> {
         site.numbers().for_each(|c| out += &format!(" {}", site.at(c).last));
         out += "\n";
     }
-    out.into_bytes()
+    Said { text: out.into_bytes(), refused }
 }
 
 pub fn hex(bytes: &[u8]) -> String {
@@ -172,14 +186,17 @@ fn apply_line(line: Option<&[u8]>, fault: Fault) -> Result<String, Refusal> {
 }
 
 /// What `apply` prints for this input: one line for each line.
-pub fn apply(input: &[u8], fault: Fault) -> Vec<u8> {
-    let mut out = String::new();
+pub fn apply(input: &[u8], fault: Fault) -> Said {
+    let (mut out, mut refused) = (String::new(), false);
     for line in lines(input) {
         match apply_line(line, fault) {
             Ok(text) => out += &text,
-            Err(refusal) => out += &format!("refused {refusal}"),
+            Err(refusal) => {
+                out += &format!("refused {refusal}");
+                refused = true;
+            }
         }
         out += "\n";
     }
-    out.into_bytes()
+    Said { text: out.into_bytes(), refused }
 }
