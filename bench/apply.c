@@ -14,6 +14,7 @@ static u32 refuse(u32 refusal) {
 
 static int digit(u8 d) {
     if (d >= '0' && d <= '9') return d - '0';
+    if (d >= 'A' && d <= 'F') return d - 'A' + 10;
     return d >= 'a' && d <= 'f' ? d - 'a' + 10 : -1;
 }
 

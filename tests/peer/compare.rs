@@ -237,13 +237,16 @@ fn steps_agree(other: &Other, seeds: &[u64], lines: &[Vec<u8>]) -> bool {
     false
 }
 
-/// Image steps, many to a run; then those of the first run that are not refused.
-pub fn applies(other: &Other, seed: u64, count: u64) -> bool {
-    let mut met = Met::default();
+/// Image steps, many to a run; then those of the first run that are not refused. An image has at
+/// most `longest` bytes.
+pub fn applies(other: &Other, seed: u64, count: u64, longest: usize) -> bool {
+    let (mut met, mut tried) = (Met::default(), 0);
     let mut done = vec![];
     for from in (seed..seed + count).step_by(500) {
-        let seeds: Vec<u64> = (from..(from + 500).min(seed + count)).collect();
-        let lines: Vec<_> = seeds.iter().map(|k| random_image_step(&mut Random::new(*k))).collect();
+        let (seeds, lines): (Vec<u64>, Vec<_>) = (from..(from + 500).min(seed + count))
+            .map(|k| (k, random_image_step(&mut Random::new(k))))
+            .filter(|(_, line)| line.len() <= 2 * longest + 65)
+            .unzip();
         if !steps_agree(other, &seeds, &lines) {
             return false;
         }
@@ -252,6 +255,10 @@ pub fn applies(other: &Other, seed: u64, count: u64) -> bool {
             let answer = trace::apply(&[&line[..], b"\n"].concat(), Fault::None);
             let asked = line.splitn(2, |byte| *byte == b' ').nth(1).unwrap_or_default();
             met.count(asked, &String::from_utf8_lossy(&answer.text));
+            if line.len() > 2 * SHORT_IMAGE + 65 && !answer.refused {
+                *met.0.entry("long image".into()).or_default() += 1;
+            }
+            tried += 1;
             if from == seed && !answer.refused {
                 done.push((*k, line));
             }
@@ -271,10 +278,11 @@ pub fn applies(other: &Other, seed: u64, count: u64) -> bool {
             return false;
         }
     }
-    println!("{count} image steps from seed {seed}: the same");
+    println!("{tried} image steps from seed {seed}: the same");
     let causes = ["discarded role", "discarded phase", "discarded number", "discarded place"];
     let answers = ["done", "taken", "repeat done", "status 0", "status 1"];
-    let others = [&answers[..], &causes, &REPEATS].concat();
+    let long: &[&str] = if longest > SHORT_IMAGE { &["long image"] } else { &[] };
+    let others = [&answers[..], &causes, &REPEATS, long].concat();
     met.all(&[1, 2, 3, 4, 5, 6, 7, 8, 10, 11, 14], &others)
 }
 

@@ -12,7 +12,8 @@
 //!
 //! `fault=NAME` breaks a rule on purpose; a walk then shows the shortest trace. `seed=N`, and
 //! `count=N` or `walks=N steps=N`, say which random inputs and how many; `limit=SECONDS` how long
-//! the other program may take for one. `replay` and `apply` end with 1 where a line was refused.
+//! the other program may take for one, `longest=BYTES` how long an image may be. `replay` and `apply`
+//! end with 1 where a line was refused.
 
 mod compare;
 mod damage;
@@ -101,7 +102,8 @@ fn main() -> ExitCode {
             status(compare::replays(&other, seed, number("count", 300)))
         }
         (Some("compare-apply"), Some(other)) => {
-            status(compare::applies(&other, seed, number("count", 6000)))
+            let longest = number("longest", trace::LONGEST_IMAGE as u64) as usize;
+            status(compare::applies(&other, seed, number("count", 6000), longest))
         }
         (Some("faults"), _) => {
             FAULTS.iter().for_each(|(_, name, _)| println!("{name}"));

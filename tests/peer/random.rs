@@ -373,7 +373,7 @@ fn some_mail(r: &mut Random, j: u32, near: &Camera) -> Mail {
 
 fn some_box(r: &mut Random, sizes: Sizes, c: u32) -> Camera {
     let Sizes { n, j, .. } = sizes;
-    // a long book seldom, since `apply` takes no more than 64 KiB of image
+    // a long book seldom: most images shall be short
     let last = if j > 4 && n > 1 && r.percent(90) { r.from(0, 9) } else { r.from(0, j) };
     let held = if last < j && r.percent(60) { last + 1 } else { last };
     let number = |r: &mut Random| if r.percent(60) { j.min(last + 1) } else { r.from(0, j) };
@@ -514,6 +514,9 @@ fn some_call(site: &Site, r: &mut Random) -> Call {
     any_call(site.sizes.n, r)
 }
 
+/// Most random images are no longer.
+pub const SHORT_IMAGE: usize = 65_536;
+
 /// A line for `apply`, without its newline.
 pub fn random_image_step(r: &mut Random) -> Vec<u8> {
     let sizes = some_sizes(r);
@@ -526,8 +529,8 @@ pub fn random_image_step(r: &mut Random) -> Vec<u8> {
             let truly = r.percent(50);
             words = holds_text(&site, r, truly).unwrap_or(words);
         }
-        // the largest image that `apply` reads; a few are longer
-        if image.len() <= 65_536 || r.percent(5) {
+        // most images shall be short
+        if image.len() <= SHORT_IMAGE || r.percent(60) {
             break;
         }
     }
@@ -536,8 +539,9 @@ pub fn random_image_step(r: &mut Random) -> Vec<u8> {
     }
     let mut line = [hex(&image).as_bytes(), b" ", words.as_bytes()].concat();
     if r.percent(2) {
-        line = match r.below(6) {
+        line = match r.below(7) {
             0 => line.to_ascii_uppercase(),
+            6 => [hex(&image).to_uppercase().as_bytes(), b" ", words.as_bytes()].concat(),
             1 => [b"0", &line[..]].concat(),
             2 => [b"- ", words.as_bytes()].concat(),
             3 => [b" ", words.as_bytes()].concat(),

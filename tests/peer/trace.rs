@@ -11,7 +11,13 @@ pub enum Line {
 }
 
 const LONGEST_LINE: usize = 64;
-const LONGEST_IMAGE: usize = 65_536;
+
+/// The longest image that a site has: table and general body, five full boxes, twenty links full of
+/// mails with all 4,096 records.
+pub const LONGEST_IMAGE: usize = {
+    let (n, j, l) = (5, 4096, 16);
+    4 + 8 * (n + 2) + 20 + n * (72 + 4 * n + 8 * j) + n * (n - 1) * (4 + l * (20 + 8 * j))
+};
 
 fn decimal(word: &[u8]) -> Option<u32> {
     let plain =
@@ -152,6 +158,7 @@ pub fn unhex(text: &[u8]) -> Option<Vec<u8>> {
     let digit = |d: u8| match d {
         b'0'..=b'9' => Some(d - b'0'),
         b'a'..=b'f' => Some(d - b'a' + 10),
+        b'A'..=b'F' => Some(d - b'A' + 10),
         _ => None,
     };
     if text.is_empty() || text.len() % 2 == 1 || text.len() > 2 * LONGEST_IMAGE {
