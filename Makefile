@@ -1,7 +1,8 @@
 # make: proves and builds the programs and the C library. make test: the tests beside the proofs.
-# make install PREFIX=..: programs, library, header and man pages.
+# make install PREFIX=.. [DESTDIR=..]: commands, library, header and man pages; make uninstall: away with them.
 PREFIX = /usr/local
 DESTDIR =
+goal = "$(DESTDIR)$(PREFIX)"
 
 all: programs lib
 
@@ -15,6 +16,10 @@ test: programs
 	tests/run
 
 install: all
-	lib/install "$(DESTDIR)$(PREFIX)"
+	lib/install $(goal)
 
-.PHONY: all programs lib test install
+uninstall:
+	cd $(goal) && rm -rf lib/szomrelik && rm -f bin/replay bin/apply lib/libjournal.a \
+		include/journal.h share/man/man1/replay.1 share/man/man1/apply.1
+
+.PHONY: all programs lib test install uninstall
