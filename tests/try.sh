@@ -35,9 +35,10 @@ try() { # STATUS SAID COMMAND..
     wanted=/dev/null
 }
 lines() { printf '%s\n' "$@"; }
-# The last line, and the status.
+# The last line, and the status: 77 where a check could not be made.
 finish() { # WHAT
     [ "$failed" -eq 0 ] || { echo "$failed of $checks checks failed" && exit 1; }
-    echo "$checks checks of $1 agree$([ "$skipped" -eq 0 ] || echo ", $skipped skipped")"
+    [ "$skipped" -eq 0 ] || { echo "$checks checks of $1 agree, $skipped skipped" && exit 77; }
+    echo "$checks checks of $1 agree"
     exit 0
 }
