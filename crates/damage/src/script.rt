@@ -29,6 +29,7 @@ fn line(s: &[u8], image: &mut [u8], site: &mut [u64], links: &mut [u64], back: &
     }
     match hex::read_hex(s, image) {
         Hexed::Length(n) => damage(image, n, site, links, back),
+        Hexed::Long => show::text(b"too long\n"),
         Hexed::Bad => show::text(b"unreadable\n"),
     }
 }

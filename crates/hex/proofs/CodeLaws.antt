@@ -16,9 +16,12 @@ use Rattle.hex.specs.Hex.{
   digit,
   digitsOf,
   hexOf,
+  small,
+  smalls,
   Bytes,
   HexIs,
   read,
+  long,
   bad,
   valueOf,
   Tells,
@@ -28,8 +31,13 @@ use Rattle.hex.specs.Hex.{
 }
 use Rattle.hex.proofs.HexLaws.{
   digit-value,
+  small-below,
+  small-at,
+  small-keeps,
+  smalls-length,
   digits-append,
   digits-length,
+  digits-back,
   bytes-digits,
   digits-bytes,
   no-bytes,
@@ -81,6 +89,11 @@ hex-some (b ∷ src) e w = at-most (omega arith) w
 
 -- ---- reading
 
+-- what is read of a byte is the value of the digit at its place
+pub digit-read : (text : List ℕ) (k x : ℕ) → x ≡ valueOf (small (getD text k 0))
+    → x ≡ valueOf (getD (smalls text) k 0)
+digit-read text k x e = e ∙ ap valueOf (sym (small-at text k))
+
 pub got-none : (text out : List ℕ) → digitsOf (take 0 out) ≡ take (2 * 0) text
 unfolding digitsOf
 got-none text out = refl
@@ -131,54 +144,75 @@ tells-yes {P} t e h = subst (λ (u : Bool). Tells u P) e h
 pub tells-no : {P : Type 0} (t : Bool) → t ≡ false → Tells t P → P → ⊥
 tells-no {P} t e h = subst (λ (u : Bool). Tells u P) e h
 
-pub is-dash : (text : List ℕ) → length text ≡ 1 → Tells (eqb (getD text 0 0) 45) (NoBytes text)
+pub is-dash : (text : List ℕ) → length text ≡ 1
+    → Tells (eqb (getD text 0 0) 45) (NoBytes (smalls text))
 is-dash [] e = absurd (omega arith)
 is-dash (a ∷ b ∷ l) e = absurd (omega arith)
 is-dash (a ∷ []) e = go (eqb a 45) refl
   where
-    go : (t : Bool) → eqb a 45 ≡ t → Tells t (NoBytes (a ∷ []))
-    go true f = record { dash = ap (λ (x : ℕ). x ∷ []) (eqb-true a 45 f) }
-    go false f = λ n. eqb-false a 45 f (ap (λ (l : List ℕ). getD l 0 0) (n .dash))
+    go : (t : Bool) → eqb a 45 ≡ t → Tells t (NoBytes (small a ∷ []))
+    go true f =
+        let k = eqb-true a 45 f in
+        record { dash = ap (λ (x : ℕ). x ∷ []) (small-below a (omega arith) ∙ k) }
+    go false f =
+        λ n. eqb-false a 45 f
+        (small-keeps a 45 (omega arith) (ap (λ (l : List ℕ). getD l 0 0) (n .dash)))
+
+pub pairs-some : (text : List ℕ) → Paired (smalls text) → length text ≡ 0 → ⊥
+pairs-some text p e = omega (arith, p .some, smalls-length text)
+
+pub pairs-even : (text : List ℕ) → Paired (smalls text) → length text % 2 ≡ 0
+pairs-even text p = omega (arith, p .even, smalls-length text)
 
 pub paired-when : (text : List ℕ) (t : Bool) → (length text ≡ 0 → ⊥) → length text % 2 ≡ 0
-    → Tells t (Digits text) → Tells t (Paired text)
-paired-when text true h e d = record { some = omega arith; even = e; digits = d }
+    → Tells t (Digits (smalls text)) → Tells t (Paired (smalls text))
+paired-when text true h e d =
+    let n = smalls-length text in record { some = omega arith; even = omega arith; digits = d }
 paired-when text false h e d = λ p. d (p .digits)
 
-pub read-none : (text o : List ℕ) → NoBytes text → HexIs text o (Hexed.Length 0) o
+pub read-none : (text o : List ℕ) → NoBytes (smalls text) → HexIs text o (Hexed.Length 0) o
 read-none text o h = read [] no-bytes (omega arith) (sym (h .dash))
 
-pub pairs-fill : (text o : List ℕ) (k : ℕ) → Paired text → k ≡ length text / 2
+pub pairs-fill : (text o : List ℕ) (k : ℕ) → Paired (smalls text) → k ≡ length text / 2
     → k ≤ length o → length text ≡ 2 * length (take k o)
-pairs-fill text o k p m h = omega (arith, p .even, length-take-le k o h)
+pairs-fill text o k p m h =
+    omega (arith, p .even, smalls-length text, length-take-le k o h)
 
--- a text that is neither `-` nor pairs of digits, and one that is too long
+-- a text that is neither `-` nor pairs of digits
 some-paired : (b : ℕ) (bs : List ℕ) → Bytes (b ∷ bs) → Paired (digitsOf (b ∷ bs))
 some-paired b bs h =
     let n = digits-length (b ∷ bs) in
     record { some = omega arith; even = omega arith; digits = bytes-digits (b ∷ bs) h }
 
-pub read-bad : (text o : List ℕ) → (NoBytes text → ⊥) → (Paired text → ⊥)
+pub read-bad : (text o : List ℕ) → (NoBytes (smalls text) → ⊥) → (Paired (smalls text) → ⊥)
     → HexIs text o Hexed.Bad o
 read-bad text o h k = bad go
   where
-    go : (bs : List ℕ) → Bytes bs → length bs ≤ length o → hexOf bs ≡ text → ⊥
-    go [] w r e = h (record { dash = sym e })
-    go (b ∷ bs) w r e = k (subst Paired e (some-paired b bs w))
+    go : (bs : List ℕ) → Bytes bs → hexOf bs ≡ smalls text → ⊥
+    go [] w e = h (record { dash = sym e })
+    go (b ∷ bs) w e = k (subst Paired e (some-paired b bs w))
 
-pub read-long : (text o : List ℕ) (n : ℕ) → (NoBytes text → ⊥) → n ≡ length text / 2
-    → length o < n → HexIs text o Hexed.Bad o
-read-long text o n h m l = bad go
-  where
-    go : (bs : List ℕ) → Bytes bs → length bs ≤ length o → hexOf bs ≡ text → ⊥
-    go [] w r e = h (record { dash = sym e })
-    go (b ∷ bs) w r e = omega (arith, ap length e, digits-length (b ∷ bs))
+-- pairs of digits for more bytes than there is room for
+long-bytes : (text o bs : List ℕ) → Paired (smalls text) → length o < length text / 2
+    → digitsOf bs ≡ smalls text → HexIs text o Hexed.Long o
+long-bytes text o [] p l e =
+    absurd (omega (arith, p .some, ap length e, digits-length []))
+long-bytes text o (b ∷ bs) p l e =
+    long (b ∷ bs) (digits-bytes (b ∷ bs) (subst Digits (sym e) (p .digits)))
+    (omega (arith, ap length e, digits-length (b ∷ bs), smalls-length text)) e
 
-pub read-all : (text o bs : List ℕ) (n k : ℕ) → Paired text → n ≡ length text / 2 → k ≡ n
-    → n ≤ length o → digitsOf bs ≡ text → HexIs text o (Hexed.Length n) (bs ++ drop k o)
+pub read-long : (text o : List ℕ) (n : ℕ) → Paired (smalls text) → n ≡ length text / 2
+    → length o < n → HexIs text o Hexed.Long o
+read-long text o n p m l =
+    long-bytes text o _ p (omega arith) (digits-back (smalls text) (p .digits) (p .even))
+
+pub read-all : (text o bs : List ℕ) (n k : ℕ) → Paired (smalls text) → n ≡ length text / 2
+    → k ≡ n → n ≤ length o → digitsOf bs ≡ smalls text
+    → HexIs text o (Hexed.Length n) (bs ++ drop k o)
 read-all text o [] n k p m f l e = absurd (omega (arith, p .some, ap length e, digits-length []))
 read-all text o (b ∷ bs) n k p m f l e =
-    let g : n ≡ length (b ∷ bs) = omega (arith, ap length e, digits-length (b ∷ bs), p .even) in
+    let g : n ≡ length (b ∷ bs) =
+    omega (arith, ap length e, digits-length (b ∷ bs), smalls-length text, p .even) in
     subst (λ (x : ℕ). HexIs text o (Hexed.Length n) ((b ∷ bs) ++ drop x o)) (sym f)
     (subst (λ (x : ℕ). HexIs text o (Hexed.Length x) ((b ∷ bs) ++ drop x o)) (sym g)
     (read (b ∷ bs) (digits-bytes (b ∷ bs) (subst Digits (sym e) (p .digits)))

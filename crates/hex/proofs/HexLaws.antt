@@ -1,14 +1,13 @@
--- Laws of hex: a digit and its value, the digits of bytes one after another, and that a text is the
--- hex of at most one list of bytes.
+-- Laws of hex: a digit and its value, capitals, the digits of bytes one after another and back.
 use Prim.Native.Nat.{ℕ, zero, suc, _+_, _-_, _*_, _/_, _%_, _≤_, _<_}
-use mathlib.Core.Path.{_≡_, refl, ap, _∙_}
+use mathlib.Core.Path.{_≡_, refl, ap, sym, _∙_}
 use mathlib.Core.Bool.{Bool, true, false}
 use mathlib.Core.List.{List, [], _∷_, _++_}
 use native.Mathlib.Omega.{arith}
 use lib.Dec.{ltb}
-use lib.ListN.{length, getD}
+use lib.ListN.{length, getD, length-map, List·getD-map}
 use borrow.Author.Tests.{lt-ltb, le-ltb, ltb-true, ltb-false}
-use Rattle.hex.specs.Hex.{digit, digitsOf, Bytes, valueOf, Digits}
+use Rattle.hex.specs.Hex.{digit, digitsOf, small, smalls, Bytes, valueOf, Digits}
 
 -- ---- a digit and its value
 
@@ -88,6 +87,40 @@ digit-value b h = one (ltb b 48) (ltb b 58) (ltb b 97) (ltb b 103) refl refl ref
         ap digit (value-high b l u) ∙ high-digit (b - 87) (omega arith) ∙ omega arith
     one false false false false p= q= r= s= = absurd (omega (arith, rw (p=, q=, r=, s=) at h))
 
+-- ---- capitals
+
+pub small-below : (b : ℕ) → b < 65 → small b ≡ b
+unfolding small
+small-below b h = rw (lt-ltb b 65 h)
+
+pub small-capital : (b : ℕ) → 65 ≤ b → b < 71 → small b ≡ b + 32
+unfolding small
+small-capital b h k = rw (le-ltb b 65 h, lt-ltb b 71 k)
+
+pub small-above : (b : ℕ) → 71 ≤ b → small b ≡ b
+unfolding small
+small-above b h = rw (le-ltb b 65 (omega arith), le-ltb b 71 h)
+
+pub small-at : (text : List ℕ) (k : ℕ) → getD (smalls text) k 0 ≡ small (getD text k 0)
+unfolding small
+small-at text k = List·getD-map small text k 0
+
+pub smalls-length : (text : List ℕ) → length (smalls text) ≡ length text
+smalls-length text = length-map text small
+
+-- no capital becomes a byte below the letters
+pub small-keeps : (b x : ℕ) → x < 65 → small b ≡ x → b ≡ x
+small-keeps b x h e = go (ltb b 65) refl
+  where
+    above : (t : Bool) → 65 ≤ b → ltb b 71 ≡ t → b ≡ x
+    above true l f =
+        absurd (omega (arith, small-capital b l (ltb-true b 71 f)))
+    above false l f = sym (small-above b (ltb-false b 71 f)) ∙ e
+
+    go : (t : Bool) → ltb b 65 ≡ t → b ≡ x
+    go true f = sym (small-below b (ltb-true b 65 f)) ∙ e
+    go false f = above (ltb b 71) (ltb-false b 65 f) refl
+
 -- ---- bytes one after another
 
 pub digits-append : (a b : List ℕ) → digitsOf (a ++ b) ≡ digitsOf a ++ digitsOf b
@@ -142,3 +175,26 @@ digits-bytes [] h = no-bytes
 digits-bytes (b ∷ bs) h =
     let l = small-digit (b / 16) (h .each 0 (omega arith)) in
     bytes-cons (omega arith) (digits-bytes bs (digits-tail h))
+
+-- ---- and back
+
+pub bytesOf : List ℕ → List ℕ
+bytesOf [] = []
+bytesOf (x ∷ []) = []
+bytesOf (x ∷ y ∷ l) = (valueOf x * 16 + valueOf y) ∷ bytesOf l
+
+-- pairs of digits are the digits of bytes
+pub digits-back : (text : List ℕ) → Digits text → length text % 2 ≡ 0
+    → digitsOf (bytesOf text) ≡ text
+unfolding digitsOf bytesOf
+digits-back [] d e = refl
+digits-back (x ∷ []) d e = absurd (omega arith)
+digits-back (x ∷ y ∷ l) d e =
+    let p = d .each 0 (omega arith) in
+    let q = d .each 1 (omega arith) in
+    let high : (valueOf x * 16 + valueOf y) / 16 ≡ valueOf x = omega arith in
+    let low : (valueOf x * 16 + valueOf y) % 16 ≡ valueOf y = omega arith in
+    let u = ap digit high ∙ digit-value x p in
+    let v = ap digit low ∙ digit-value y q in
+    let rest = digits-back l (digits-tail d) (omega arith) in
+    λ i. u i ∷ v i ∷ rest i

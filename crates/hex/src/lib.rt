@@ -1,4 +1,4 @@
-// Bytes as text in lower-case hex, written at a place of a lent buffer and read again.
+// Bytes as text in hex: written in small letters at a place of a lent buffer, read in either case.
 ghost use mathlib.Core.List.{_∷_, []};
 ghost use mathlib.Core.Path.{_≡_};
 ghost use Prim.Native.Nat.{_+_, _*_, _≤_, _<_};
@@ -8,6 +8,8 @@ ghost use Rattle.hex.specs.Hex.{
   digit as digitOf,
   digitsOf,
   hexOf,
+  small as smallOf,
+  smalls,
   valueOf,
   Digits,
   Paired,
@@ -16,9 +18,11 @@ ghost use Rattle.hex.specs.Hex.{
   HexIs,
 };
 
-// How many bytes a text stands for, or that it is the hex of none that the buffer has room for.
+// How many bytes a text stands for; or that they are more than the buffer has room for; or that the
+// text is the hex of none.
 pub enum Hexed {
     Length(usize),
+    Long,
     Bad,
 }
 
@@ -69,8 +73,21 @@ pub fn put_hex(out: &mut [u8], at: usize, src: &[u8]) -> usize
 
 // ---- reading
 
+// A capital digit as its small letter.
+fn small(b: u8) -> u8
+    ensures { λ r. ⌜ r ≡ smallOf b ⌝ }
+{
+    if b < 65 {
+        return b;
+    }
+    if b < 71 {
+        return b + 32;
+    }
+    b
+}
+
 // What a digit stands for, or 16 where a byte is no digit.
-fn value(b: u8) -> u8
+fn small_value(b: u8) -> u8
     ensures { λ r. ⌜ (r ≡ valueOf b) × (r ≤ 16) ⌝ }
 {
     if b < 48 {
@@ -88,8 +105,15 @@ fn value(b: u8) -> u8
     16
 }
 
+// The same in either case.
+fn value(b: u8) -> u8
+    ensures { λ r. ⌜ (r ≡ valueOf (smallOf b)) × (r ≤ 16) ⌝ }
+{
+    small_value(small(b))
+}
+
 fn all_digits(text: &[u8]) -> bool
-    ensures { λ r. ⌜ Tells r (Digits (now (text .entry))) ⌝ }
+    ensures { λ r. ⌜ Tells r (Digits (smalls (now (text .entry)))) ⌝ }
 {
     let mut i = 0;
     while i < text.len() {
@@ -103,7 +127,7 @@ fn all_digits(text: &[u8]) -> bool
 
 // Two digits for each byte, and one byte at least.
 fn is_paired(text: &[u8]) -> bool
-    ensures { λ r. ⌜ Tells r (Paired (now (text .entry))) ⌝ }
+    ensures { λ r. ⌜ Tells r (Paired (smalls (now (text .entry)))) ⌝ }
 {
     let n = text.len();
     if n == 0 {
@@ -116,7 +140,7 @@ fn is_paired(text: &[u8]) -> bool
 }
 
 fn is_no_bytes(text: &[u8]) -> bool
-    ensures { λ r. ⌜ Tells r (NoBytes (now (text .entry))) ⌝ }
+    ensures { λ r. ⌜ Tells r (NoBytes (smalls (now (text .entry)))) ⌝ }
 {
     if text.len() != 1 {
         return false;
@@ -125,9 +149,9 @@ fn is_no_bytes(text: &[u8]) -> bool
 }
 
 fn get_digits(text: &[u8], out: &mut [u8])
-    requires { ⌜ Digits (now text) ⌝ }
+    requires { ⌜ Digits (smalls (now text)) ⌝ }
     requires { ⌜ length (now text) ≡ 2 * length (now out) ⌝ }
-    ensures { λ r. ⌜ digitsOf (now (out .exit)) ≡ now (text .entry) ⌝ }
+    ensures { λ r. ⌜ digitsOf (now (out .exit)) ≡ smalls (now (text .entry)) ⌝ }
 {
     let mut i = 0;
     while i < out.len() {
@@ -150,7 +174,7 @@ pub fn read_hex(text: &[u8], out: &mut [u8]) -> Hexed
     }
     let n = text.len() / 2;
     if out.len() < n {
-        return Hexed::Bad;
+        return Hexed::Long;
     }
     get_digits(text, &mut out[0..n]);
     Hexed::Length(n)

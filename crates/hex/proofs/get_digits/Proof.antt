@@ -3,15 +3,17 @@ use Prim.Native.Nat.{_≤_, _-_, _+_, _*_}
 use mathlib.Core.Path.{_≡_, refl, _∙_}
 use native.Mathlib.Omega.{arith}
 use lib.ListN.{length, take, length-set}
-use Rattle.hex.specs.Hex.{digitsOf}
-use Rattle.hex.proofs.CodeLaws.{got-none, got-more, got-all}
+use Rattle.hex.specs.Hex.{digitsOf, smalls}
+use Rattle.hex.proofs.HexLaws.{smalls-length}
+use Rattle.hex.proofs.CodeLaws.{digit-read, got-none, got-more, got-all}
 use borrow.Author.Needs.{needs}
 use Rattle.hex.proofs.get_digits.Statement.{statement}
 use Rattle.hex.proofs.get_digits.Tie as tie
 
 abbrev Inv-loop : tie.InvT-loop
 Inv-loop text out₀ i₀ out i =
-    (i ≤ length out₀) × (length out ≡ length out₀) × (digitsOf (take i out) ≡ take (2 * i) text)
+    (i ≤ length out₀) × (length out ≡ length out₀)
+    × (digitsOf (take i out) ≡ take (2 * i) (smalls text))
 
 abbrev μ-loop : tie.MeasureT-loop
 μ-loop text out₀ i₀ out i = length out₀ - i
@@ -19,17 +21,19 @@ abbrev μ-loop : tie.MeasureT-loop
 loop-holds : tie.Need-loop-holds Inv-loop μ-loop
 loop-holds c =
     let start = c .before .before in
-    (omega arith, refl, got-none (start .args .text .now) (start .args .out .now))
+    (omega arith, refl, got-none (smalls (start .args .text .now)) (start .args .out .now))
 
 mul-out : tie.Need-mul-out Inv-loop μ-loop
 mul-out c =
     let at-value = c .before .before in
     let at-loop = at-value .before .before .before in
     let start = at-loop .before .before .before in
+    let text = start .args .text .now in
+    let i = at-loop .loop .i in
     omega (
       arith,
-      start .pre .0 .each (2 * at-loop .loop .i) (omega arith),
-      at-value .value .ensures,
+      start .pre .0 .each (2 * i) (omega (arith, smalls-length text)),
+      digit-read text (2 * i) _ (at-value .value .ensures .0),
     )
 
 add-out : tie.Need-add-out Inv-loop μ-loop
@@ -37,29 +41,36 @@ add-out c =
     let at-value = c .before .before in
     let at-loop = at-value .before .before .before in
     let start = at-loop .before .before .before in
+    let text = start .args .text .now in
+    let i = at-loop .loop .i in
     omega (
       arith,
-      start .pre .0 .each (2 * at-loop .loop .i) (omega arith),
-      start .pre .0 .each (2 * at-loop .loop .i + 1) (omega arith),
-      at-value .value .ensures,
-      c .value2 .ensures,
+      start .pre .0 .each (2 * i) (omega (arith, smalls-length text)),
+      start .pre .0 .each (2 * i + 1) (omega (arith, smalls-length text)),
+      digit-read text (2 * i) _ (at-value .value .ensures .0),
+      digit-read text (2 * i + 1) _ (c .value2 .ensures .0),
     )
 
 loop-again : tie.Need-loop-again Inv-loop μ-loop
 loop-again c =
     let at-value = c .before .before in
     let at-loop = at-value .before .before .before in
-    let start = at-loop .before .before .before in (
+    let start = at-loop .before .before .before in
+    let text = start .args .text .now in
+    let i = at-loop .loop .i in (
       omega arith,
-      length-set (at-loop .loop .out) (at-loop .loop .i) _ ∙ at-loop .loop .inv .1,
-      got-more (start .args .text .now) (at-loop .loop .out) (at-loop .loop .i)
-          (at-value .value .result) (c .value2 .result) (omega arith) (start .pre .0) (omega arith)
-          (at-value .value .ensures .0) (c .value2 .ensures .0) (at-loop .loop .inv .2),
+      length-set (at-loop .loop .out) i _ ∙ at-loop .loop .inv .1,
+      got-more (smalls text) (at-loop .loop .out) i (at-value .value .result)
+          (c .value2 .result) (omega (arith, smalls-length text)) (start .pre .0) (omega arith)
+          (digit-read text (2 * i) _ (at-value .value .ensures .0))
+          (digit-read text (2 * i + 1) _ (c .value2 .ensures .0)) (at-loop .loop .inv .2),
     )
 
 returns : tie.Need-returns Inv-loop μ-loop
-returns c = got-all ((c .before .before .before .before) .args .text .now) (c .before .loop .out)
-    (c .before .loop .i) (omega arith) (omega arith) (c .before .loop .inv .2)
+returns c =
+    let text = c .before .before .before .before .args .text .now in
+    got-all (smalls text) (c .before .loop .out) (c .before .loop .i)
+    (omega (arith, smalls-length text)) (omega arith) (c .before .loop .inv .2)
 
 pub get-digits-spec : {M : Type 1} → statement M
 get-digits-spec =

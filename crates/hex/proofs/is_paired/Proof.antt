@@ -1,8 +1,14 @@
 -- `hex::is_paired` meets its contract.
-use Rattle.hex.proofs.CodeLaws.{paired-when}
+use Rattle.hex.proofs.CodeLaws.{paired-when, pairs-some, pairs-even}
 use borrow.Author.Needs.{needs}
 use Rattle.hex.proofs.is_paired.Statement.{statement}
 use Rattle.hex.proofs.is_paired.Tie as tie
+
+returns : tie.Need-returns
+returns c = λ p. pairs-some (c .before .before .args .text .now) p (c .if1 .taken)
+
+returns-2 : tie.Need-returns-2
+returns-2 c = λ p. c .if2 .taken (pairs-even (c .before .before .before .args .text .now) p)
 
 returns-3 : tie.Need-returns-3
 returns-3 c =
@@ -13,7 +19,7 @@ pub is-paired-spec : {M : Type 1} → statement M
 is-paired-spec =
     tie.close
     (tie.spec
-    (λ c. search needs)
-    (λ c. search needs)
+    returns
+    returns-2
     (λ c κs. search needs)
     returns-3)

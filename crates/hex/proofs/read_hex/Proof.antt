@@ -2,7 +2,7 @@
 use Prim.Native.Nat.{_-_, _/_}
 use lib.ListN.{length}
 use borrow.Author.Tests.{not-true, not-false}
-use Rattle.hex.specs.Hex.{Paired}
+use Rattle.hex.specs.Hex.{Paired, smalls}
 use Rattle.hex.proofs.CodeLaws.{tells-yes, tells-no, read-none, read-bad, read-long}
 use Rattle.hex.proofs.CodeLaws.{read-all, pairs-fill}
 use native.Mathlib.Omega.{arith}
@@ -24,10 +24,12 @@ returns-2 c =
 
 returns-3 : tie.Need-returns-3
 returns-3 c =
-    let at-if1 = c .before .before .before in
-    let at-is-no-bytes = at-if1 .before in
-    read-long _ _ _ (tells-no _ (at-if1 .if1 .left) (at-is-no-bytes .is-no-bytes .ensures)) refl
-    (c .if3 .taken)
+    let at-if2 = c .before in
+    let at-is-paired = at-if2 .before in
+    read-long _ _ _
+    (tells-yes (at-is-paired .is-paired .result)
+    (not-false (at-is-paired .is-paired .result) (at-if2 .if2 .left))
+    (at-is-paired .is-paired .ensures)) refl (c .if3 .taken)
 
 get-digits-requires : tie.Need-get-digits-requires
 get-digits-requires c κs =
@@ -35,7 +37,7 @@ get-digits-requires c κs =
     let at-is-paired = at-if2 .before in
     let start = at-is-paired .before .before .before .before .before in
     let text = start .args .text .now in
-    let p : Paired text = tells-yes (at-is-paired .is-paired .result)
+    let p : Paired (smalls text) = tells-yes (at-is-paired .is-paired .result)
     (not-false (at-is-paired .is-paired .result) (at-if2 .if2 .left))
     (at-is-paired .is-paired .ensures) in (
       p .digits,
