@@ -2,22 +2,21 @@
 use Prim.Native.Nat.{ℕ, suc, _+_, _≤_, _<_}
 use mathlib.Core.Path.{_≡_, refl, ap, sym, _∙_, subst}
 use mathlib.Core.Bool.{Bool, true, false}
-use mathlib.Core.List.{List, [], _∷_, _++_, append-assoc}
+use mathlib.Core.List.{List, [], _∷_, _++_}
 use native.Mathlib.Omega.{arith}
 use lib.Dec.{eqb}
-use lib.ListN.{length, take, drop, getD, length-append, length-drop, take-append-drop}
-use lib.Seq.{take-length, take-all, take-append-seam, drop-append-add, split-at, length-take-le}
-use lib.Seq.{drop-append-le}
+use lib.ListN.{length, take, drop, getD, length-append, length-drop}
+use lib.Seq.{take-length, take-all, take-append-seam, drop-append-add, split-at}
 use borrow.Author.Tests.{eqb-true, eq-eqb, ne-eqb}
 use Rattle.bytes.specs.Bytes.{slice, indexAfter, indexOf}
 use Rattle.laws.proofs.Logic.{both-no}
-use Rattle.hex.specs.Hex.{hexOf, HexIs, read, bad}
+use Rattle.hex.specs.Hex.{hexOf, smalls, Bytes, HexIs, read, long, bad}
 use Rattle.hex.specs.declared.Hexed.{Hexed}
 use Rattle.hex.proofs.Once.{no-space}
 use Rattle.lines.specs.Read.{readLine}
 use Rattle.lines.specs.declared.Line.{Line}
 use Rattle.answer.specs.declared.ask.Asked.{Asked}
-use Rattle.answer.specs.Asks.{mostImage, served, Asks, askedOf, AskIs, asks, asks-nothing}
+use Rattle.answer.specs.Asks.{served, Asks, askedOf, AskIs, asks, asks-long, asks-nothing}
 
 -- ---- the first place of a byte
 
@@ -52,33 +51,34 @@ found-is line e h =
 -- ---- a line that asks is parted there
 
 -- where its image's hex ends
-pub record Parted (line im rest : List ℕ) (e : ℕ) : Type 0 where
-  pub place : e ≡ length (hexOf im)
+pub record Parted (line hex rest : List ℕ) (e : ℕ) : Type 0 where
+  pub place : e ≡ length hex
   pub below : e < length line
-  pub image : take e line ≡ hexOf im
+  pub image : take e line ≡ hex
   pub call : drop (e + 1) line ≡ rest
 
 pub parted : (line : List ℕ) (e : ℕ) {im : List ℕ} {l : Line} → e ≡ indexOf 32 line
-    → (a : Asks line im l) → Parted line im (a .call) e
+    → (a : Asks line im l) → Parted line (a .hex) (a .call) e
 parted line e {im} h a =
-    let p : e ≡ length (hexOf im) =
-    h ∙ ap (indexOf 32) (a .text) ∙ index-at 32 (hexOf im) (a .call) (no-space im (a .bytes)) in
+    let p : e ≡ length (a .hex) =
+    h ∙ ap (indexOf 32) (a .text)
+    ∙ index-at 32 (a .hex) (a .call) (no-space im (a .hex) (a .bytes) (a .spells)) in
     record {
       place = p;
       below =
           omega (
             arith,
             ap length (a .text),
-            length-append (hexOf im) (32 ∷ (a .call)),
+            length-append (a .hex) (32 ∷ (a .call)),
           );
       image =
           ap (take e) (a .text)
-          ∙ ap (λ (k : ℕ). take k (hexOf im ++ (32 ∷ (a .call)))) p
-          ∙ take-append-seam (hexOf im) (32 ∷ (a .call));
+          ∙ ap (λ (k : ℕ). take k (a .hex ++ (32 ∷ (a .call)))) p
+          ∙ take-append-seam (a .hex) (32 ∷ (a .call));
       call =
           ap (drop (e + 1)) (a .text)
-          ∙ ap (λ (k : ℕ). drop (k + 1) (hexOf im ++ (32 ∷ (a .call)))) p
-          ∙ drop-append-add (hexOf im) (32 ∷ (a .call)) 1;
+          ∙ ap (λ (k : ℕ). drop (k + 1) (a .hex ++ (32 ∷ (a .call)))) p
+          ∙ drop-append-add (a .hex) (32 ∷ (a .call)) 1;
     }
 
 pub no-space-asks-nothing : (line o : List ℕ) (e : ℕ) → e ≡ indexOf 32 line → e ≡ length line
@@ -101,58 +101,45 @@ pub rest-all : (line : List ℕ) (e m : ℕ) → length line ≤ m + (e + 1)
 rest-all line e m h =
     take-all m (drop (e + 1) line) (omega (arith, length-drop (e + 1) line))
 
-rest-kept : (bs o : List ℕ) (k : ℕ) → length bs ≤ length (take k o)
-    → (bs ++ drop (length bs) (take k o)) ++ drop k o ≡ bs ++ drop (length bs) o
-rest-kept bs o k h =
-    append-assoc bs (drop (length bs) (take k o)) (drop k o)
-    ∙ ap (λ (l : List ℕ). bs ++ l)
-    (sym (drop-append-le (length bs) (take k o) (drop k o) h)
-    ∙ ap (drop (length bs)) (take-append-drop k o))
+module _ (line part rest : List ℕ) (e : ℕ) (l : Line) (at : e ≡ indexOf 32 line)
+    (inside : e < length line) (hx : part ≡ take e line) (r : rest ≡ drop (e + 1) line)
+    (s : l ≡ readLine rest) (f : served l ≡ true) where
+  cut : line ≡ part ++ (32 ∷ rest)
+  cut =
+      let one : suc e ≡ e + 1 = omega arith in
+      let space : getD line e 0 ≡ 32 =
+      ap (λ (k : ℕ). getD line k 0) at
+      ∙ index-found 32 line (subst (λ (k : ℕ). k < length line) at inside) in
+      split-at line e 0 inside
+      ∙ ap (λ (a : List ℕ). a ++ (getD line e 0 ∷ drop (suc e) line)) (sym hx)
+      ∙ ap (λ (x : ℕ). part ++ (x ∷ drop (suc e) line)) space
+      ∙ ap (λ (k : ℕ). part ++ (32 ∷ drop k line)) one
+      ∙ ap (λ (c : List ℕ). part ++ (32 ∷ c)) (sym r)
 
-asked-is : (line o part p rest : List ℕ) (e : ℕ) (l : Line) (h : Hexed)
-    → e ≡ indexOf 32 line → e < length line → part ≡ take e line → rest ≡ drop (e + 1) line
-    → l ≡ readLine rest → served l ≡ true → mostImage ≤ length o
-    → HexIs part (take mostImage o) h p
-    → AskIs line o (askedOf h l) (p ++ drop mostImage o)
-asked-is line o part p rest e l h at inside hx r s f room (read bs w fits t) =
-    let n = length-take-le mostImage o room in
-    subst (λ (b : List ℕ). AskIs line o (Asked.Step (length bs) l) b)
-    (sym (rest-kept bs o mostImage fits))
-    (asks
-    (record {
-      bytes = w;
-      few = omega arith;
-      call = rest;
-      text = cut;
-      says = sym s;
-      served = f;
-    }))
-  where
-    cut : line ≡ hexOf bs ++ (32 ∷ rest)
-    cut =
-        let one : suc e ≡ e + 1 = omega arith in
-        let space : getD line e 0 ≡ 32 =
-        ap (λ (k : ℕ). getD line k 0) at
-        ∙ index-found 32 line (subst (λ (k : ℕ). k < length line) at inside) in
-        split-at line e 0 inside
-        ∙ ap (λ (a : List ℕ). a ++ (getD line e 0 ∷ drop (suc e) line)) (sym hx ∙ sym t)
-        ∙ ap (λ (x : ℕ). hexOf bs ++ (x ∷ drop (suc e) line)) space
-        ∙ ap (λ (k : ℕ). hexOf bs ++ (32 ∷ drop k line)) one
-        ∙ ap (λ (c : List ℕ). hexOf bs ++ (32 ∷ c)) (sym r)
-asked-is line o part p rest e l h at inside hx r s f room (bad n) =
-    subst (λ (b : List ℕ). AskIs line o Asked.Unreadable b)
-    (sym (take-append-drop mostImage o))
-    (asks-nothing (λ im k a.
-    n im (a .bytes) (omega (arith, length-take-le mostImage o room, a .few))
-    (sym (parted line e at a .image) ∙ sym hx)))
+  asked : (bs : List ℕ) → Bytes bs → hexOf bs ≡ smalls part → Asks line bs l
+  asked bs w t = record {
+    bytes = w;
+    hex = part;
+    call = rest;
+    text = cut;
+    spells = t;
+    says = sym s;
+    served = f;
+  }
+
+  asked-is : {o p : List ℕ} {h : Hexed} → HexIs part o h p → AskIs line o (askedOf h l) p
+  asked-is (read bs w fits t) = asks (asked bs w t) fits
+  asked-is (long bs w over t) = asks-long (asked bs w t) over
+  asked-is (bad n) =
+      asks-nothing (λ im k a.
+      n im (a .bytes) (a .spells ∙ ap smalls (sym (parted line e at a .image) ∙ sym hx)))
 
 -- the same, of the answer as it is computed; a part of the line comes as its own bytes
-pub asked-so : (line o p : List ℕ) (e k m : ℕ) {l : Line} {h : Hexed} {r : Asked}
+pub asked-so : (line : List ℕ) (e k m : ℕ) {o p : List ℕ} {l : Line} {h : Hexed} {r : Asked}
     → e ≡ indexOf 32 line → e < length line → k ≡ e → length line ≤ m + (e + 1)
-    → l ≡ readLine (take m (drop (e + 1) line)) → served l ≡ true → mostImage ≤ length o
-    → HexIs (take k line) (take mostImage o) h p → r ≡ askedOf h l
-    → AskIs line o r (p ++ drop mostImage o)
-asked-so line o p e k m {l} {h} at inside ke all s f room w q =
-    subst (λ (x : Asked). AskIs line o x (p ++ drop mostImage o)) (sym q)
-    (asked-is line o (take k line) p (take m (drop (e + 1) line)) e l h at inside
-    (ap (λ (n : ℕ). take n line) ke) (rest-all line e m all) s f room w)
+    → l ≡ readLine (take m (drop (e + 1) line)) → served l ≡ true
+    → HexIs (take k line) o h p → r ≡ askedOf h l → AskIs line o r p
+asked-so line e k m {o} {p} {l} at inside ke all s f w q =
+    subst (λ (x : Asked). AskIs line o x p) (sym q)
+    (asked-is line (take k line) (take m (drop (e + 1) line)) e l at inside
+    (ap (λ (n : ℕ). take n line) ke) (rest-all line e m all) s f w)

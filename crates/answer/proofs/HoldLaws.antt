@@ -1,6 +1,6 @@
--- What is kept of a line that comes in pieces; of one that is too long to be read it asks nothing
--- either.
-use Prim.Native.Nat.{ℕ, _+_, _-_, _<_, _≤_, min}
+-- What is kept of a line that comes in pieces; one that is not kept whole asks nothing of an image
+-- that there is room for.
+use Prim.Native.Nat.{ℕ, _+_, _-_, _*_, _<_, _≤_, min}
 use mathlib.Core.Path.{_≡_, refl, ap, sym, _∙_}
 use mathlib.Core.Bool.{Bool, true, false}
 use mathlib.Core.List.{List, [], _∷_, _++_}
@@ -14,11 +14,11 @@ use borrow.Author.Tests.{ltb-true, ltb-false, lt-ltb}
 use Rattle.rules.specs.Pick.{pick-true}
 use Rattle.laws.proofs.Logic.{both-no}
 use Rattle.hex.specs.Hex.{hexOf}
-use Rattle.hex.proofs.HexLaws.{digits-length}
+use Rattle.hex.proofs.HexLaws.{digits-length, smalls-length}
 use Rattle.lines.specs.Read.{readLine}
 use Rattle.lines.specs.declared.Line.{Line}
-use Rattle.answer.specs.Asks.{mostImage, served, Asks, AsksNothing}
-use Rattle.answer.specs.Hold.{mostHeld, kept, KeepIs}
+use Rattle.answer.specs.Asks.{served, Asks}
+use Rattle.answer.specs.Hold.{heldFor, kept, KeepIs}
 
 -- as many as there are, or k
 front-least : (xs : List ℕ) (k m : ℕ) → m ≡ min (length xs) k → take k xs ≡ take m xs
@@ -79,32 +79,39 @@ kept-is o piece p len n m j en em lo hi e =
 
 -- ---- a line that is longer than any that can be read
 
-hex-exact : (im : List ℕ) → length im ≤ mostImage → length (hexOf im) ≤ 131072
-hex-exact [] h = omega arith
-hex-exact (b ∷ im) h = omega (arith, digits-length (b ∷ im))
+hex-most : (m : ℕ) (im : List ℕ) → 1 ≤ m → length im ≤ m → length (hexOf im) ≤ 2 * m
+hex-most m [] k h = omega arith
+hex-most m (b ∷ im) k h = omega (arith, digits-length (b ∷ im))
 
 long-call : (s : List ℕ) → 64 < length s → readLine s ≡ Line.Unreadable
 unfolding readLine
 long-call s h = pick-true _ _ _ (lt-ltb 64 (length s) h)
 
--- a line that asks has fewer bytes than are held at most
-pub asks-short : {line im : List ℕ} {l : Line} → Asks line im l → length line < mostHeld
-asks-short {line} {im} a = go (ltb 64 (length (a .call))) refl
+-- a line that asks of an image of at most m bytes has fewer bytes than are kept
+pub asks-short : (m : ℕ) {line im : List ℕ} {l : Line} → 1 ≤ m → Asks line im l → length im ≤ m
+    → length line < heldFor m
+asks-short m {line} {im} k a h = go (ltb 64 (length (a .call))) refl
   where
-    sum : length line ≡ length (hexOf im) + length (32 ∷ (a .call))
-    sum = ap length (a .text) ∙ length-append (hexOf im) (32 ∷ (a .call))
+    sum : length line ≡ length (a .hex) + length (32 ∷ (a .call))
+    sum = ap length (a .text) ∙ length-append (a .hex) (32 ∷ (a .call))
 
-    go : (t : Bool) → ltb 64 (length (a .call)) ≡ t → length line < mostHeld
+    hex : length (hexOf im) ≡ length (a .hex)
+    hex = ap length (a .spells) ∙ smalls-length (a .hex)
+
+    go : (t : Bool) → ltb 64 (length (a .call)) ≡ t → length line < heldFor m
     go true e =
         absurd (both-no (a .served)
         (ap served (sym (a .says) ∙ long-call (a .call) (ltb-true 64 (length (a .call)) e))))
     go false e =
         let c = ltb-false 64 (length (a .call)) e in
-        omega (arith, sum, hex-exact im (a .few))
+        omega (arith, sum, hex, hex-most m im k h)
 
--- so the bytes that are held of a longer line ask nothing, as the line itself
-pub held-asks-nothing : (line : List ℕ) → mostHeld ≤ length line
-    → AsksNothing line × AsksNothing (take mostHeld line)
-held-asks-nothing line h =
-    let n = length-take-le mostHeld line h in
-    (λ im l a. let s = asks-short a in omega arith, λ im l a. let s = asks-short a in omega arith)
+-- so a line that fills what is kept, or is longer, asks nothing or of an image of more than m bytes
+pub kept-asks-more : (m : ℕ) {line im : List ℕ} {l : Line} → 1 ≤ m → heldFor m ≤ length line
+    → Asks line im l → m < length im
+kept-asks-more m {im = im} k h a = go (ltb m (length im)) refl
+  where
+    go : (t : Bool) → ltb m (length im) ≡ t → m < length im
+    go true e = ltb-true m (length im) e
+    go false e =
+        absurd (let s = asks-short m k a (ltb-false m (length im) e) in omega arith)

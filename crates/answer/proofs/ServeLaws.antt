@@ -12,7 +12,7 @@ use Rattle.memory.specs.Memory.{siteOf, memoryForm}
 use Rattle.site.specs.Entries.{FormedStep}
 use Rattle.lines.specs.declared.Line.{Line}
 use Rattle.answer.specs.Asks.{served}
-use Rattle.answer.specs.Says.{outcomeOf, Serves}
+use Rattle.answer.specs.Calls.{outcomeOf, Serves}
 
 module _ {xs ls : List ℕ} {a : Answer} {l : Line} where
   pub stepped : {xs' ls' : List ℕ} {d : Call} → l ≡ Line.Call d → FormedStep d xs ls xs' ls' a

@@ -1,30 +1,24 @@
--- The text of an answer, and what is told of words by form.
-use Prim.Native.Nat.{ℕ, _+_, _*_, _≤_, _<_}
-use mathlib.Core.Path.{_≡_, refl, ap, sym, _∙_, subst}
-use mathlib.Core.Bool.{Bool, true, false, _||_, cond}
+-- The text of an answer, and what is told of what came.
+use Prim.Native.Nat.{ℕ, _+_, _*_, _≤_}
+use mathlib.Core.Path.{_≡_, ap, sym, _∙_, subst}
+use mathlib.Core.Bool.{Bool, true, false, cond}
 use mathlib.Core.List.{List, [], _∷_, _++_}
 use native.Mathlib.Omega.{arith}
-use lib.Dec.{leb}
-use lib.ListN.{length, take, drop, length-append, length-drop}
-use lib.Seq.{sets-eq, take-append-seam, length-take-le}
-use borrow.Author.Tests.{le-leb, lt-leb}
+use lib.ListN.{length, take, drop}
+use lib.Seq.{sets-eq, length-take-le}
 use Rattle.rules.specs.Numbers.{answerNumber}
 use Rattle.rules.specs.declared.model.Answer.{Answer}
 use Rattle.rules.specs.declared.model.Cause.{Cause}
-use Rattle.rules.specs.declared.model.Refusal.{Refusal}
-use Rattle.laws.proofs.Logic.{both-no}
-use Rattle.memory.specs.Memory.{siteOf, memoryForm}
 use Rattle.rules.specs.Answers.{isRefusal}
 use Rattle.print.specs.Decimal.{decimal}
 use Rattle.print.specs.Text.{Wrote}
 use Rattle.print.proofs.WriteLaws.{spelled, at-most}
 use Rattle.hex.specs.Hex.{hexOf}
-use Rattle.image.specs.Image.{imageOf}
-use Rattle.writer.specs.declared.Written.{Written}
-use Rattle.writer.specs.Writer.{WriteIs, not-by-form, too-short, written}
+use Rattle.answer.specs.declared.call.Came.{Came}
 use Rattle.answer.specs.declared.tell.Told.{Told}
+use Rattle.answer.specs.Calls.{within, imageIn}
 use Rattle.answer.specs.Text.{causeWord, wordOf, answerText}
-use Rattle.answer.specs.Says.{textRoom, fits, TellIs, told, short}
+use Rattle.answer.specs.Says.{textRoom, TellIs, told, short}
 
 -- ---- words
 
@@ -45,6 +39,11 @@ refusal-text a im e =
     ap (λ (t : Bool). wordOf a ++ (cond t (decimal (answerNumber a)) (hexOf im) ++ (10 ∷ [])))
     (sym e)
 
+-- a refusal shows no image
+pub refusal-alone : (a : Answer) (im : List ℕ) → isRefusal a ≡ true
+    → answerText a im ≡ answerText a []
+refusal-alone a im e = sym (refusal-text a im e) ∙ refusal-text a [] e
+
 pub image-text : (a : Answer) (im : List ℕ) → isRefusal a ≡ false
     → wordOf a ++ (hexOf im ++ (10 ∷ [])) ≡ answerText a im
 unfolding answerText
@@ -54,7 +53,7 @@ image-text a im e =
 
 -- ---- what is told
 
-pub front : {m r : ℕ} {o p t : List ℕ} → m ≤ length o → Wrote m o p 0 r t
+front : {m r : ℕ} {o p t : List ℕ} → m ≤ length o → Wrote m o p 0 r t
     → (r ≡ length t) × (p ≡ t ++ drop (length t) o)
 front {r = r} {o = o} {t = t} h w =
     let n : r ≡ length t = w .end ∙ omega arith in
@@ -65,77 +64,52 @@ front {r = r} {o = o} {t = t} h w =
     )
 
 -- a text that was written at the front is told
-pub told-text : {room : Bool} {k r : ℕ} {t o p : List ℕ} → room ≡ true → k ≤ length o
-    → Wrote k o p 0 r t → TellIs room t o (Told.Length r) p
-told-text {room} {r = r} {t} {o} e h w =
+told-text : {a : Answer} {k r n : ℕ} {im o p : List ℕ} → k ≤ length o
+    → Wrote k o p 0 r (answerText a im) → TellIs im o (Came.Answered a n) (Told.Length r) p
+told-text {a} {r = r} {n} {im} {o} h w =
+    let t = answerText a im in
     let s = front h w in
-    subst (λ (q : List ℕ). TellIs room t o (Told.Length r) q) (sym (s .1))
-    (subst (λ (n : ℕ). TellIs room t o (Told.Length n) (t ++ drop (length t) o)) (sym (s .0))
-    (told e))
+    subst (λ (q : List ℕ). TellIs im o (Came.Answered a n) (Told.Length r) q) (sym (s .1))
+    (subst (λ (m : ℕ). TellIs im o (Came.Answered a n) (Told.Length m) (t ++ drop (length t) o))
+    (sym (s .0)) told)
 
-pub told-refusal : (a : Answer) (im : List ℕ) (m : ℕ) {r : ℕ} {o p : List ℕ}
-    → isRefusal a ≡ true → 38 ≤ length o → Wrote 38 o p 0 r (answerText a [])
-    → TellIs (fits m a im) (answerText a im) o (Told.Length r) p
-told-refusal a im m e h w =
-    told-text (ap (λ (t : Bool). t || leb (length im) m) e) h
-    (spelled (sym (refusal-text a [] e) ∙ refusal-text a im e) w)
+pub refused-told : {a : Answer} {r : ℕ} {o p : List ℕ} → 38 ≤ length o
+    → Wrote 38 o p 0 r (answerText a []) → TellIs [] o (Came.Answered a 0) (Told.Length r) p
+refused-told h w = told-text h w
 
--- words by form were written: the first n bytes of the buffer p are the image
-pub record Stored (xs ls o p : List ℕ) (n : ℕ) : Type 0 where
-  pub count : n ≡ length (imageOf (siteOf xs ls))
-  pub inside : n ≤ length o
-  pub front : take n p ≡ imageOf (siteOf xs ls)
-  pub room : length p ≡ length o
+-- ---- the line of any answer
 
-stored-all : {xs ls o : List ℕ} → length (imageOf (siteOf xs ls)) ≤ length o
-    → Stored xs ls o (imageOf (siteOf xs ls) ++ drop (length (imageOf (siteOf xs ls))) o)
-    (length (imageOf (siteOf xs ls)))
-stored-all {xs} {ls} {o} h =
-    let im = imageOf (siteOf xs ls) in
-    record {
-      count = refl;
-      inside = h;
-      front = take-append-seam im (drop (length im) o);
-      room =
-          length-append im (drop (length im) o) ∙ omega (arith, length-drop (length im) o);
-    }
+pub refusal-wrote : (a : Answer) (im : List ℕ) {m r : ℕ} {o p : List ℕ} → isRefusal a ≡ true
+    → 38 ≤ m → Wrote 38 o p 0 r (answerText a []) → Wrote m o p 0 r (answerText a im)
+refusal-wrote a im e h w =
+    at-most h (spelled (sym (refusal-alone a im e)) w)
 
-pub stored : {xs ls o p : List ℕ} {w : Written} {n : ℕ} → WriteIs xs ls o w p
-    → w ≡ Written.Length n → Stored xs ls o p n
-stored (not-by-form f) e = absurd (let z : _≡_ {A = ℕ} 0 1 = cc in omega arith)
-stored (too-short f h) e = absurd (let z : _≡_ {A = ℕ} 0 1 = cc in omega arith)
-stored {xs} {ls} {o} {n = n} (written f h) e =
-    let im = imageOf (siteOf xs ls) in
-    let k : length im ≡ n = cc in
-    subst (λ (m : ℕ). Stored xs ls o (im ++ drop (length im) o) m) k (stored-all h)
+pub image-wrote : (a : Answer) (im : List ℕ) {r : ℕ} {o p : List ℕ}
+    → Wrote (2 * length im + 19) o p 0 r (answerText a im)
+    → Wrote (textRoom (length im)) o p 0 r (answerText a im)
+image-wrote a im w = at-most (omega arith) w
 
-pub not-stored : {xs ls o p : List ℕ} {w : Written} {f : Refusal} → WriteIs xs ls o w p
-    → memoryForm xs ls ≡ true → w ≡ Written.Refused f
-    → length o < length (imageOf (siteOf xs ls))
-not-stored (not-by-form g) h e = absurd (both-no h g)
-not-stored (too-short g l) h e = l
-not-stored (written g l) h e = absurd (let z : _≡_ {A = ℕ} 0 1 = cc in omega arith)
+-- ---- what came
 
-pub front-length : {xs ls o p : List ℕ} {n : ℕ} (k : ℕ) → Stored xs ls o p n → k ≡ n
-    → length (take k p) ≡ n
-front-length {p = p} k s e = length-take-le k p (omega (arith, s .inside, s .room)) ∙ e
+-- the part of the buffer that an answer leaves its image in
+pub part-length : (image : List ℕ) (n k : ℕ) → k ≡ n → n ≤ length image
+    → length (take k image) ≡ n
+part-length image n k e h = length-take-le k image (omega arith) ∙ e
 
-pub told-image : (a : Answer) {xs ls im p o q : List ℕ} {n r : ℕ} (k : ℕ) → isRefusal a ≡ false
-    → Stored xs ls im p n → k ≡ n → textRoom (length im) ≤ length o
-    → Wrote (2 * length (take k p) + 19) o q 0 r (answerText a (take k p))
-    → TellIs (fits (length im) a (imageOf (siteOf xs ls))) (answerText a (imageOf (siteOf xs ls)))
-    o (Told.Length r) q
-told-image a {xs} {ls} {im} {p} {o} k f s e h w =
-    told-text
-    (ap (λ (t : Bool). t || leb (length (imageOf (siteOf xs ls))) (length im)) f
-    ∙ le-leb (length (imageOf (siteOf xs ls))) (length im) (omega (arith, s .count, s .inside)))
-    (omega (arith, front-length k s e, s .inside))
-    (spelled (ap (λ (m : ℕ). answerText a (take m p)) e ∙ ap (answerText a) (s .front)) w)
+pub told-came : (image : List ℕ) (k : ℕ) {a : Answer} {c : Came} {n r : ℕ} {o q : List ℕ}
+    → c ≡ Came.Answered a n → k ≡ n → n ≤ length image
+    → textRoom (length image) ≤ length o
+    → Wrote (textRoom (length (take k image))) o q 0 r (answerText a (take k image))
+    → TellIs (imageIn c image) o c (Told.Length r) q
+told-came image k {a} {c} {n} {r} {o} {q} e f h g w =
+    subst (λ (d : Came). TellIs (imageIn d image) o d (Told.Length r) q) (sym e)
+    (told-text (omega (arith, part-length image n k f h))
+    (spelled (ap (λ (i : ℕ). answerText a (take i image)) f) w))
 
-pub told-short : (a : Answer) (xs ls im : List ℕ) {t o : List ℕ} → isRefusal a ≡ false
-    → length im < length (imageOf (siteOf xs ls))
-    → TellIs (fits (length im) a (imageOf (siteOf xs ls))) t o Told.Short o
-told-short a xs ls im f h =
-    short
-    (ap (λ (t : Bool). t || leb (length (imageOf (siteOf xs ls))) (length im)) f
-    ∙ lt-leb (length (imageOf (siteOf xs ls))) (length im) h)
+pub told-none : (image : List ℕ) {c : Came} {o : List ℕ} → c ≡ Came.Short
+    → TellIs (imageIn c image) o c Told.Short o
+told-none image {c} {o} e =
+    subst (λ (d : Came). TellIs (imageIn d image) o d Told.Short o) (sym e) short
+
+pub came-within : {c : Came} {a : Answer} {m n : ℕ} → within m c → c ≡ Came.Answered a n → n ≤ m
+came-within {m = m} h e = subst (λ (d : Came). within m d) e h

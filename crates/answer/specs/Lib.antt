@@ -1,5 +1,6 @@
 -- What the contracts of `answer` cite.
 pub mod Asks
+pub mod Calls
 pub mod Text
 pub mod Says
 pub mod Hold

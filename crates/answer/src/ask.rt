@@ -1,18 +1,18 @@
 // What a line asks: an image in hex, one space, and a call or a holds line.
 ghost use mathlib.Core.Path.{_≡_};
-ghost use Prim.Native.Nat.{_≤_};
-ghost use lib.ListN.{length};
-ghost use Rattle.answer.specs.Asks.{mostImage, served, askedOf, AskIs};
+ghost use Rattle.answer.specs.Asks.{served, askedOf, AskIs};
 use hex::Hexed;
 use lines::Line;
 
-// The image's length and what is to be done with it.
+// The image's length and what is to be done with it; or that there is no room for the image; or
+// that the line asks nothing.
 pub enum Asked {
     Step(usize, Line),
+    Long,
     Unreadable,
 }
 
-fn serves(l: Line) -> bool
+pub(crate) fn serves(l: Line) -> bool
     ensures { λ r. ⌜ r ≡ served l ⌝ }
 {
     match l {
@@ -28,13 +28,13 @@ fn found(h: Hexed, l: Line) -> Asked
 {
     match h {
         Hexed::Length(k) => Asked::Step(k, l),
+        Hexed::Long => Asked::Long,
         Hexed::Bad => Asked::Unreadable,
     }
 }
 
 // The image that the line names goes to the front of the buffer.
 pub(crate) fn ask(line: &[u8], image: &mut [u8]) -> Asked
-    requires { ⌜ mostImage ≤ length (now image) ⌝ }
     ensures { λ r.
         ⌜ AskIs (now (line .entry)) (now (image .entry)) r (now (image .exit)) ⌝ }
 {
@@ -47,5 +47,5 @@ pub(crate) fn ask(line: &[u8], image: &mut [u8]) -> Asked
     if !serves(l) {
         return Asked::Unreadable;
     }
-    found(hex::read_hex(&line[0..e], &mut image[0..65536]), l)
+    found(hex::read_hex(&line[0..e], image), l)
 }

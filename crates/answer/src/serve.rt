@@ -2,7 +2,7 @@
 ghost use mathlib.Core.Path.{_≡_};
 ghost use mathlib.Core.Bool.{true};
 ghost use Rattle.memory.specs.Memory.{memoryForm};
-ghost use Rattle.answer.specs.Says.{Serves};
+ghost use Rattle.answer.specs.Calls.{Serves};
 use lines::Line;
 use rules::model::Answer;
 use rules::model::Refusal;

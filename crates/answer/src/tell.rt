@@ -4,17 +4,16 @@ ghost use mathlib.Core.Bool.{true, false};
 ghost use mathlib.Core.List.{[]};
 ghost use Prim.Native.Nat.{_+_, _*_, _≤_};
 ghost use lib.ListN.{length};
-ghost use Rattle.memory.specs.Memory.{memoryForm};
 ghost use Rattle.rules.specs.Answers.{isRefusal};
-ghost use Rattle.writer.specs.Writer.{image as imageIn};
 ghost use Rattle.print.specs.Text.{Wrote};
 ghost use Rattle.rules.specs.declared.model.Answer.{Answer};
 ghost use Rattle.answer.specs.Text.{causeWord, wordOf, answerText};
-ghost use Rattle.answer.specs.Says.{textRoom, fits, TellIs};
+ghost use Rattle.answer.specs.Calls.{within, imageIn};
+ghost use Rattle.answer.specs.Says.{textRoom, TellIs};
+use crate::call::Came;
 use rules::answers;
 use rules::model::Answer;
 use rules::model::Cause;
-use writer::Written;
 
 // How many bytes the answer has, or that what was lent is too short for it.
 pub enum Told {
@@ -80,22 +79,28 @@ fn put_image(out: &mut [u8], a: Answer, image: &[u8]) -> usize
     print::put_byte(out, p, 10)
 }
 
-// The answer a, with the words after it; the image after it goes to the front of image.
-pub(crate) fn tell(a: Answer, site: &[u64], links: &[u64], image: &mut [u8], out: &mut [u8]) -> Told
-    requires { ⌜ memoryForm (now site) (now links) ≡ true ⌝ }
+// The line of any answer, with the image after it.
+fn put_answer(out: &mut [u8], a: Answer, image: &[u8]) -> usize
     requires { ⌜ textRoom (length (now image)) ≤ length (now out) ⌝ }
     ensures { λ r.
-        ⌜ TellIs
-        (fits (length (now (image .entry))) a (imageIn (now (site .entry)) (now (links .entry))))
-        (answerText a (imageIn (now (site .entry)) (now (links .entry))))
-        (now (out .entry)) r (now (out .exit)) ⌝ }
+        ⌜ Wrote (textRoom (length (now (image .entry))))
+        (now (out .entry)) (now (out .exit)) 0 r (answerText a (now (image .entry))) ⌝ }
 {
     if answers::is_refusal(a) {
-        return Told::Length(put_refusal(out, a));
+        return put_refusal(out, a);
     }
-    let w = writer::write_formed(site, links, image);
-    match w {
-        Written::Length(n) => Told::Length(put_image(out, a, &image[0..n])),
-        Written::Refused(_) => Told::Short,
+    put_image(out, a, image)
+}
+
+// The line of what came, with the image that it left at the front of image.
+pub(crate) fn tell(c: Came, image: &[u8], out: &mut [u8]) -> Told
+    requires { ⌜ within (length (now image)) c ⌝ }
+    requires { ⌜ textRoom (length (now image)) ≤ length (now out) ⌝ }
+    ensures { λ r.
+        ⌜ TellIs (imageIn c (now (image .entry))) (now (out .entry)) c r (now (out .exit)) ⌝ }
+{
+    match c {
+        Came::Answered(a, n) => Told::Length(put_answer(out, a, &image[0..n])),
+        Came::Short => Told::Short,
     }
 }

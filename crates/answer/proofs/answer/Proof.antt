@@ -4,7 +4,7 @@ use mathlib.Core.Path.{sym, _∙_, refl}
 use native.Mathlib.Omega.{arith}
 use borrow.Author.Tests.{not-true, not-false}
 use Rattle.answer.specs.Says.{too-short}
-use Rattle.answer.proofs.AnswerLaws.{lent-image, lent-text, found, found-none, answer-image}
+use Rattle.answer.proofs.AnswerLaws.{lent-text, found, found-none, answer-call, answer-long}
 use Rattle.answer.proofs.AnswerLaws.{answer-nothing}
 use borrow.Author.Needs.{needs}
 use Rattle.answer.proofs.answer.Statement.{statement}
@@ -15,25 +15,18 @@ returns c =
     too-short
     (sym (c .before .lends .ensures) ∙ not-true (c .before .lends .result) (c .if1 .taken))
 
-ask-requires : tie.Need-ask-requires
-ask-requires c κs =
-    let at-lends = c .before .before in
-    let start = at-lends .before .before .before .before .before .before .before .before in
-    lent-image (length (start .args .image .now)) (length (start .args .out .now))
-    (sym (at-lends .lends .ensures) ∙ not-false (at-lends .lends .result) (c .before .if1 .left))
-
-answer-image-requires : tie.Need-answer-image-requires
-answer-image-requires c κs =
+answer-call-requires : tie.Need-answer-call-requires
+answer-call-requires c κs =
     let at-a = c .before .before .before .before .before in
     let at-ask = at-a .before .before .before .before in
     let at-if1 = at-ask .before .before in
     let at-lends = at-if1 .before in
     let start = at-lends .before .before .before .before .before .before .before .before in
-    let m = length (start .args .image .now) in
-    let k = length (start .args .out .now) in
     let l = sym (at-lends .lends .ensures)
     ∙ not-false (at-lends .lends .result) (at-if1 .if1 .left) in
-    let f = found (at-ask .ask .ensures) (at-a .a .given .1) (lent-image m k l) in
+    let m = length (start .args .image .now) in
+    let k = length (start .args .out .now) in
+    let f = found (at-ask .ask .ensures) (at-a .a .given .1) in
     (f .inside, omega (arith, lent-text m k l, f .room))
 
 put-refusal-requires : tie.Need-put-refusal-requires
@@ -41,37 +34,42 @@ put-refusal-requires c κs =
     let at-if1 = c .before .before .before .before .before .before .before in
     let at-lends = at-if1 .before in
     let start = at-lends .before .before .before .before .before .before .before .before in
-    let m = length (start .args .image .now) in
-    let k = length (start .args .out .now) in
     let l = sym (at-lends .lends .ensures)
     ∙ not-false (at-lends .lends .result) (at-if1 .if1 .left) in
+    let m = length (start .args .image .now) in
+    let k = length (start .args .out .now) in
     (omega (arith, lent-text m k l), refl)
 
 returns-2 : tie.Need-returns-2
 returns-2 c =
-    let at-answer-image = c .before .before .before .before .before .before .before .before in
-    let at-a = at-answer-image .before .before .before .before .before .before in
+    let at-answer-call = c .before .before .before .before .before .before .before .before in
+    let at-a = at-answer-call .before .before .before .before .before .before in
     let at-ask = at-a .before .before .before .before in
     let at-if1 = at-ask .before .before in
     let at-lends = at-if1 .before in
-    let start = at-lends .before .before .before .before .before .before .before .before in
-    let m = length (start .args .image .now) in
-    let k = length (start .args .out .now) in
-    let l = sym (at-lends .lends .ensures)
-    ∙ not-false (at-lends .lends .result) (at-if1 .if1 .left) in
-    answer-image l (found (at-ask .ask .ensures) (at-a .a .given .1) (lent-image m k l))
-    (at-answer-image .answer-image .ensures)
+    answer-call
+    (sym (at-lends .lends .ensures) ∙ not-false (at-lends .lends .result) (at-if1 .if1 .left))
+    (found (at-ask .ask .ensures) (at-a .a .given .1)) (at-answer-call .answer-call .ensures)
 
 returns-3 : tie.Need-returns-3
 returns-3 c =
-    let at-put-refusal = c .before .before in
-    let at-enum-told = at-put-refusal .before .before in
-    let at-ask = at-enum-told .before .before .before .before in
+    let at-ask = c .before .before .before .before in
     let at-if1 = at-ask .before .before in
     let at-lends = at-if1 .before in
-    let l = sym (at-lends .lends .ensures)
-    ∙ not-false (at-lends .lends .result) (at-if1 .if1 .left) in
-    answer-nothing l (found-none (at-ask .ask .ensures) (at-enum-told .enum-told .given .1))
+    answer-long
+    (sym (at-lends .lends .ensures) ∙ not-false (at-lends .lends .result) (at-if1 .if1 .left))
+    (at-ask .ask .ensures) (c .enum-told .given .1)
+
+returns-4 : tie.Need-returns-4
+returns-4 c =
+    let at-put-refusal = c .before .before in
+    let at-enum-told2 = at-put-refusal .before .before in
+    let at-ask = at-enum-told2 .before .before .before .before in
+    let at-if1 = at-ask .before .before in
+    let at-lends = at-if1 .before in
+    answer-nothing
+    (sym (at-lends .lends .ensures) ∙ not-false (at-lends .lends .result) (at-if1 .if1 .left))
+    (found-none (at-ask .ask .ensures) (at-enum-told2 .enum-told2 .given .1))
     (at-put-refusal .put-refusal .ensures)
 
 pub answer-spec : {M : Type 1} → statement M
@@ -82,9 +80,10 @@ answer-spec =
     (λ c. search needs)
     (λ c. search needs)
     returns
-    ask-requires
+    (λ c κs. search needs)
     (λ c. search needs)
-    answer-image-requires
+    answer-call-requires
+    (λ c. search needs)
     (λ c. search needs)
     put-refusal-requires
     (λ c. search needs)
@@ -94,4 +93,7 @@ answer-spec =
     returns-2
     (λ c. search needs)
     (λ c. search needs)
-    returns-3)
+    returns-3
+    (λ c. search needs)
+    (λ c. search needs)
+    returns-4)

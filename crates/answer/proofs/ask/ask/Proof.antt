@@ -35,12 +35,11 @@ returns-3 c =
     let start = at-find .before .before .before in
     let line = start .args .line .now in
     let e = at-find .find .result in
-    asked-so line (start .args .image .now) _ e (e - 0) (length line - (e + 1))
-    (found-is _ _ (at-find .find .ensures .0))
+    asked-so line e (e - 0) (length line - (e + 1)) (found-is _ _ (at-find .find .ensures .0))
     (omega (arith, at-find .find .ensures .1, at-if1 .if1 .left)) (omega arith) (omega arith)
     (at-read-line .read-line .ensures)
     (sym (at-serves .serves .ensures) ∙ not-false (at-serves .serves .result) (at-if2 .if2 .left))
-    (start .pre) (at-read-hex .read-hex .ensures) (c .found .ensures)
+    (at-read-hex .read-hex .ensures) (c .found .ensures)
 
 pub ask-spec : {M : Type 1} → statement M
 ask-spec =
@@ -55,9 +54,6 @@ ask-spec =
     (λ c κs. search needs)
     (λ c κs. search needs)
     returns-2
-    (λ c. search needs)
-    (λ c. search needs)
-    (λ c. search needs)
     (λ c. search needs)
     (λ c. search needs)
     (λ c. search needs)
