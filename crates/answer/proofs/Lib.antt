@@ -6,3 +6,4 @@ pub mod CallLaws
 pub mod AnswerLaws
 pub mod HoldLaws
 pub mod Once
+pub mod Enough

@@ -4,3 +4,4 @@ pub mod Calls
 pub mod Text
 pub mod Says
 pub mod Hold
+pub mod Ample
