@@ -1,2 +1,3 @@
--- Laws of the lines that are held.
+-- Laws of what is held, and of what the buffers have room for.
 pub mod HeldLaws
+pub mod RoomLaws

@@ -1,0 +1,108 @@
+-- What the buffers have room for, and where the larger ones are asked for.
+use Prim.Native.Nat.{ℕ, _≤_, _<_}
+use mathlib.Core.Path.{_≡_, refl, sym, subst}
+use mathlib.Core.Bool.{Bool, true, false}
+use mathlib.Core.List.{List}
+use native.Mathlib.Omega.{arith}
+use lib.ListN.{length}
+use Rattle.rules.specs.Every.{each}
+use Rattle.laws.proofs.Logic.{true≠false}
+use Rattle.answer.specs.declared.call.Came.{Came}
+use Rattle.answer.specs.declared.tell.Told.{Told}
+use Rattle.answer.specs.Calls.{CallIs, FreshIs}
+use Rattle.answer.specs.Says.{AnswerIs}
+use Rattle.answer.specs.Ample.{Ample, TooLong}
+use Rattle.answer.proofs.Enough.{short-only, call-ample, fresh-ample}
+use Rattle.lines.specs.declared.Line.{Line}
+use Rattle.lines.specs.Read.{readLine}
+use Rattle.lines.specs.Printed.{inRange}
+use Rattle.lines.proofs.Exact.{exact}
+use Rattle.streams.specs.Got.{GotFrom}
+use Rattle.streams.specs.declared.Got.{Got}
+use Rattle.apply.specs.declared.buffers.Job.{Job}
+use Rattle.apply.specs.declared.raw.Done.{Done}
+use Rattle.apply.specs.declared.raw.Filled.{Filled}
+use Rattle.apply.specs.Room.{Room, LineRoom, JobFits, FilledIn, OnLarger}
+
+-- ---- buffers of the same lengths have the same room
+
+pub room-as : {last : Bool} {m x y k m' x' y' k' : ℕ} → m' ≡ m → x' ≡ x → y' ≡ y → k' ≡ k
+    → Room last m x y k → Room last m' x' y' k'
+room-as {last} {m} {x} {y} {k} {m'} {x'} {y'} e f g h r =
+    subst (λ (i : ℕ). Room last m' x' y' i) (sym h)
+    (subst (λ (i : ℕ). Room last m' x' i k) (sym g)
+    (subst (λ (i : ℕ). Room last m' i y k) (sym f)
+    (subst (λ (i : ℕ). Room last i x y k) (sym e) r)))
+
+pub line-as : {last : Bool} {h h' : ℕ} → h' ≡ h → LineRoom last h → LineRoom last h'
+line-as {last} e r = subst (λ (i : ℕ). LineRoom last i) (sym e) r
+
+-- the smaller set need not have it
+pub small-room : {m x y k : ℕ} → Room false m x y k
+small-room = record {
+  site = λ e. absurd (true≠false (sym e));
+  text = λ e. absurd (true≠false (sym e));
+}
+
+pub small-line : {h : ℕ} → LineRoom false h
+small-line = record { held = λ e. absurd (true≠false (sym e)) }
+
+-- ---- a line that has no room
+
+pub too-long : {line xs ls o p : List ℕ} {last : Bool} {t : Told} {m : ℕ}
+    → Room last m (length xs) (length ls) (length o) → last ≡ true → AnswerIs line m xs ls o t p
+    → t ≡ Told.Short → TooLong line
+too-long {line} {xs} {ls} {o} {p} {m = m} r e w q =
+    short-only (r .site e) (r .text e) (subst (λ (t : Told). AnswerIs line m xs ls o t p) q w)
+
+-- ---- what was read
+
+pub got-some : (xs : List ℕ) {g : Got} {m : ℕ} → GotFrom g xs → g ≡ Got.Bytes m
+    → (0 < m) × (m ≤ length xs)
+got-some xs w e = let h = subst (λ (k : Got). GotFrom k xs) e w in (h .0, h .1 .0)
+
+pub whole-within : (m : ℕ) {f : Filled} {k : ℕ} → FilledIn m f → f ≡ Filled.Whole k → k ≤ m
+whole-within m h e = subst (λ (g : Filled). FilledIn m g) e h
+
+-- ---- where larger buffers are asked for
+
+pub on-larger : (P Q : ℕ → Type 0) (d : Done) → ((k : ℕ) → P k → Q k) → OnLarger P d → OnLarger Q d
+on-larger P Q (Done.Larger n) f h = f n h
+on-larger P Q (Done.Status s) f h = tt
+
+pub on-status : (P : ℕ → Type 0) {d : Done} {s : ℕ} → d ≡ Done.Status s → OnLarger P d
+on-status P e = subst (λ (d : Done). OnLarger P d) (sym e) tt
+
+pub larger-is : (P : ℕ → Type 0) {d : Done} {k : ℕ} → OnLarger P d → d ≡ Done.Larger k → P k
+larger-is P h e = subst (λ (d : Done). OnLarger P d) e h
+
+-- not where there is room for every site and the image is whole
+pub call-fits : {l : Line} {n k m : ℕ} {xs ls o p : List ℕ} {c : Came} → inRange l ≡ true
+    → length o ≡ m → n ≤ length o → CallIs l n xs ls o c p → c ≡ Came.Short
+    → Ample m (length xs) (length ls) → k ≡ m
+call-fits {l} {n} {xs = xs} {ls} {o} {p} r e h w s a =
+    let long = call-ample r (subst (λ (i : ℕ). Ample i (length xs) (length ls)) (sym e) a)
+    (subst (λ (d : Came). CallIs l n xs ls o d p) s w) in
+    absurd (omega arith)
+
+pub fresh-fits : {n J L k : ℕ} {xs ls o p : List ℕ} {c : Came} → FreshIs n J L xs ls o c p
+    → c ≡ Came.Short → Ample (length o) (length xs) (length ls) → k ≡ length o
+fresh-fits {n} {J} {L} {xs = xs} {ls} {o} {p} w s a =
+    absurd (fresh-ample a (subst (λ (d : Came). FreshIs n J L xs ls o d p) s w))
+
+pub job-call : {j : Job} {l : Line} → JobFits j → j ≡ Job.Call l → inRange l ≡ true
+job-call h e = subst (λ (j : Job). JobFits j) e h
+
+-- a line that was read has numbers in range
+none-out : inRange Line.Unreadable ≡ true
+unfolding each
+none-out = refl
+
+pub read-range : (s : List ℕ) {l : Line} → l ≡ readLine s → inRange l ≡ true
+read-range s {l} e = go l (sym e)
+  where
+    go : (k : Line) → readLine s ≡ k → inRange k ≡ true
+    go (Line.Site n J L) q = exact s (Line.Site n J L) refl .0 q .1
+    go (Line.Call d) q = exact s (Line.Call d) refl .0 q .1
+    go (Line.Holds c k left right) q = exact s (Line.Holds c k left right) refl .0 q .1
+    go Line.Unreadable q = none-out

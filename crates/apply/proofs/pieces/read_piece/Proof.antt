@@ -1,0 +1,42 @@
+-- `apply::pieces::read_piece` meets its contract.
+use Rattle.apply.proofs.RoomLaws.{got-some}
+use borrow.Author.Needs.{needs}
+use Rattle.apply.proofs.pieces.read_piece.Statement.{statement}
+use Rattle.apply.proofs.pieces.read_piece.Tie as tie
+
+part-take-piece-end : tie.Need-part-take-piece-end
+part-take-piece-end c =
+    got-some _ (c .before .before .before .before .before .before .receive .ensures)
+    (c .before .before .n .given .1) .1
+
+take-piece-requires : tie.Need-take-piece-requires
+take-piece-requires c κs =
+    c .before .before .before .before .before .before .before .before .before .before .before
+    .before .before .before .before .before .before .before .before .before .pre
+
+pub read-piece-spec : {M : Type 1} → statement M
+read-piece-spec =
+    tie.close
+    (tie.spec
+    (λ c κs. search needs)
+    (λ c. search needs)
+    (λ c. search needs)
+    (λ c. search needs)
+    part-take-piece-end
+    take-piece-requires
+    (λ c. search needs)
+    (λ c κs. search needs)
+    (λ c. search needs)
+    (λ c κs. search needs)
+    (λ c. search needs)
+    (λ c. search needs)
+    (λ c. search needs)
+    (λ c. search needs)
+    (λ c. search needs)
+    (λ c. search needs)
+    (λ c. search needs)
+    (λ c. search needs)
+    (λ c. search needs)
+    (λ c. search needs)
+    (λ c. search needs)
+    (λ c. search needs))

@@ -1,0 +1,2 @@
+-- What the contracts of `apply` cite.
+pub mod Room
