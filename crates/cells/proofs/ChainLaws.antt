@@ -98,6 +98,13 @@ module _ {ℓ κ} {A : Type ℓ} {B : Type κ} (enc : A → List B) where
       rw (s, getD-append-add (enc x) (chain enc l) (i * m + j) d)
       (chain-at m i j d c l (λ k b. w (suc k) (omega arith)) (omega arith) g)
 
+-- Things whose bytes are the same, one by one.
+pub chain-same {ℓ} : {A : Type ℓ} (f g : A → List ℕ) (l : List A)
+    → Each (λ i x. f x ≡ g x) l → chain f l ≡ chain g l
+unfolding chain Each
+chain-same f g [] h = refl
+chain-same f g (x ∷ l) h = λ i. (h .0) i ++ chain-same f g l (h .1) i
+
 pub length-cells : (k : ℕ) (l : List ℕ) → length (cells k l) ≡ length l * k
 unfolding chain
 length-cells k [] = sym (zero-mul k)

@@ -4,3 +4,4 @@ pub mod WriteLaws
 pub mod StandLaws
 pub mod CodeLaws
 pub mod WalkLaws
+pub mod GroupLaws

@@ -1,2 +1,3 @@
 -- What the contracts of `cells` cite, and those of every crate that writes or reads an image.
 pub mod Cells
+pub mod Groups

@@ -111,6 +111,23 @@ module _ {ℓ} {A : Type ℓ} where
       let s : b ≡ a + k + m = omega arith in
       rw (s, ← drop-drop m (a + k), behind, drop-drop m (a + k) xs)
 
+  -- A part that lies before it stays ..
+  pub part-below : (a k b m : ℕ) (xs ys : List A) → b + m ≤ a → a ≤ length xs
+      → part (splice xs a k ys) b m ≡ part xs b m
+  part-below a k b m xs ys h l =
+      let rest = ys ++ drop k (drop a xs) in
+      let front = take a xs in
+      let n : length front ≡ a = length-take-le a xs l in
+      let m' : m ≤ length (drop b front) = omega (arith, length-drop b front) in
+      ap (take m) (drop-append-le b front rest (omega arith))
+      ∙ take-append-le m (drop b front) rest m'
+      ∙ part-part 0 a b m xs h ∙ ap (λ (i : ℕ). part xs i m) (zero-add b)
+
+  -- .. and so does one that lies behind it.
+  pub part-above : (a k b m : ℕ) (xs ys : List A) → a + k ≤ b → a + k ≤ length xs
+      → length ys ≡ k → part (splice xs a k ys) b m ≡ part xs b m
+  part-above a k b m xs ys h l e = ap (take m) (drop-past a k b xs ys h l e)
+
   -- An element behind the part stays.
   pub getD-past : (a k i : ℕ) (d : A) (xs ys : List A) → a + k ≤ i → a + k ≤ length xs
       → length ys ≡ k → getD (splice xs a k ys) i d ≡ getD xs i d
