@@ -17,7 +17,7 @@ use Rattle.rules.specs.Box.{Letter}
 use Rattle.rules.specs.Form.{formKind, formLetter}
 use Rattle.laws.proofs.Types.{Kind}
 use Rattle.laws.proofs.Logic.{passed, pass, and-yes, all-each}
-use Rattle.place.specs.Place.{kindOf, mailAt, wordsOfMail}
+use Rattle.letter.specs.Place.{kindOf, mailAt, wordsOfMail}
 use Rattle.cells.specs.declared.Walk.{Walk}
 use Rattle.cells.specs.Cells.{chain, cells, All, Stands, Read, Found, NoneAt, WalkIs, Many}
 use Rattle.cells.proofs.StandLaws.{stands-le, stands-seq, stands-as}

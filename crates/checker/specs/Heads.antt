@@ -6,7 +6,7 @@ use lib.Dec.{leb}
 use Rattle.rules.specs.Every.{all}
 use Rattle.rules.specs.Sizes.{mostPn, within}
 use Rattle.rules.specs.Form.{formKind}
-use Rattle.place.specs.Place.{kindOf}
+use Rattle.letter.specs.Place.{kindOf}
 
 unfoldable pub letterHead : ℕ → ℕ → ℕ → ℕ → ℕ → ℕ → Bool
 letterHead J kind pn last unagreed count =

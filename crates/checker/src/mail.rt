@@ -19,7 +19,7 @@ pub fn check_record(src: &[u8], at: usize) -> Walk
         return Walk::Bad;
     }
     let x = le::get_at(src, at, 8);
-    if place::is_proper(x) {
+    if values::is_proper(x) {
         return Walk::Next(at + 8);
     }
     Walk::Bad

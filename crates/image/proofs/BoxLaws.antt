@@ -18,7 +18,7 @@ use Rattle.laws.proofs.Types.{Phase, State}
 use Rattle.laws.proofs.Logic.{left, right, In}
 use Rattle.laws.proofs.FormLaws.{FormedBox, Peer, box-says}
 use Rattle.row.specs.Row.{flagOf, flagNumber, stateOf, phaseOf, headOf, wordsOf}
-use Rattle.row.proofs.SetLaws.{set-fits}
+use Rattle.values.proofs.SetLaws.{set-fits}
 use Rattle.cells.specs.Cells.{cells, Each, All, Below}
 use Rattle.cells.proofs.ChainLaws.{each-one, each-take, each-made}
 use Rattle.cells.proofs.CodeLaws.{Code, Parts, cells-code, cancel-same, told-code}

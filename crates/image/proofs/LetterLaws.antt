@@ -14,7 +14,7 @@ use Rattle.laws.proofs.Types.{Kind, Mail}
 use Rattle.laws.proofs.Logic.{Or, left, right, and-yes}
 use Rattle.laws.proofs.Logic as logic
 use Rattle.laws.proofs.FormLaws.{Proper, FormedLetter, FormedKind, letter-says}
-use Rattle.place.specs.Place.{kindOf, mailAt, wordsOfMail}
+use Rattle.letter.specs.Place.{kindOf, mailAt, wordsOfMail}
 use Rattle.cells.specs.Cells.{chain, cells, Each, All, Below}
 use Rattle.cells.proofs.ChainLaws.{each-one, each-map}
 use Rattle.cells.proofs.CodeLaws.{Code, Parts, cells-code, chain-code, told-code}

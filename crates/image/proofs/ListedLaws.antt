@@ -18,7 +18,7 @@ use Rattle.laws.proofs.FormLaws.{sizes-says, sizes-made, FormedLink}
 use Rattle.laws.proofs.FormLaws.{letter-says, letter-made, FormedBox, box-says, box-made}
 use Rattle.laws.proofs.FormLaws.{Formed, form-says, form-made}
 use Rattle.laws.proofs.Logic as logic
-use Rattle.row.proofs.SetLaws.{set-fits}
+use Rattle.values.proofs.SetLaws.{set-fits}
 use Rattle.memory.specs.Memory.{linkIndex}
 use Rattle.cells.specs.Cells.{chain, cells, Each, All}
 use Rattle.cells.proofs.ChainLaws.{each-made, each-at, each-map}

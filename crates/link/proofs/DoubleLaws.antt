@@ -14,8 +14,8 @@ use Rattle.words.proofs.RowLaws.{row-end}
 use Rattle.words.proofs.RingLaws.{slot-zero, previous-lt}
 use Rattle.rules.specs.Box.{Letter}
 use Rattle.rules.specs.Site.{twice}
-use Rattle.place.specs.Place.{letterAt, placeFits}
-use Rattle.place.proofs.CopyLaws.{copied-letter, copied-fits}
+use Rattle.letter.specs.Place.{letterAt, placeFits}
+use Rattle.letter.proofs.CopyLaws.{copied-letter, copied-fits}
 use Rattle.link.specs.Link.{placeWidth, places, linkOf, linkFits}
 use Rattle.link.specs.Holds.{placeStart, ReadableLink, Holds, HeadAt}
 use Rattle.link.proofs.TestLaws.{passed, and-both, each-cons}

@@ -15,8 +15,8 @@ use Rattle.words.proofs.RingLaws.{slot-zero, slot-lt, next-lt}
 use Rattle.rules.specs.Every.{each}
 use Rattle.rules.specs.Box.{Letter, letterOf}
 use Rattle.rules.specs.declared.model.Mail.{Mail}
-use Rattle.place.specs.Place.{letterAt, placeFits, placeForm}
-use Rattle.place.specs.Lent.{Enclosed}
+use Rattle.letter.specs.Place.{letterAt, placeFits, placeForm}
+use Rattle.letter.specs.Lent.{Enclosed}
 use Rattle.link.specs.Link.{placeWidth, linkWidth, places, linkOf, linkFits, linkForm}
 use Rattle.link.specs.Holds.{placeStart, LinkSizes, LinkWords, ReadableLink, Holds, HeadAt}
 use Rattle.link.proofs.TestLaws.{and-yes, each-cons, each-snoc}

@@ -15,7 +15,7 @@ use Rattle.words.proofs.RingLaws.{slot-lt, previous-lt, length-ring, ring-at, r
 use Rattle.words.proofs.RingLaws.{ring-front}
 use Rattle.rules.specs.Every.{each}
 use Rattle.rules.specs.Form.{formLetter}
-use Rattle.place.specs.Place.{letterAt, placeFits, placeForm}
+use Rattle.letter.specs.Place.{letterAt, placeFits, placeForm}
 use Rattle.link.specs.Link.{placeWidth, linkWidth, places, linkOf, linkFits, linkForm}
 use Rattle.link.specs.Holds.{placeStart, placeIn}
 use Rattle.link.proofs.TestLaws.{same-test, passed, _&_, none, made}

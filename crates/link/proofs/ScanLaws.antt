@@ -6,8 +6,8 @@ use mathlib.Core.List.{List, []}
 use native.Mathlib.Omega.{arith}
 use lib.ListN.{length, drop, getD}
 use Rattle.rules.specs.Every.{each}
-use Rattle.place.specs.Place.{placeForm}
-use Rattle.place.proofs.AllLaws.{each-go, each-stop, each-end}
+use Rattle.letter.specs.Place.{placeForm}
+use Rattle.values.proofs.AllLaws.{each-go, each-stop, each-end}
 use Rattle.link.specs.Link.{places, linkForm}
 use Rattle.link.specs.Holds.{placeIn}
 use Rattle.link.proofs.TestLaws.{passed, not-yes}

@@ -9,8 +9,8 @@ use Rattle.words.specs.Ring.{slot}
 use Rattle.rules.specs.Sizes.{mostLoads, mostMails}
 use Rattle.rules.specs.Box.{Letter}
 use Rattle.rules.specs.declared.model.Mail.{Mail}
-use Rattle.place.specs.Place.{letterAt, placeFits, placeForm}
-use Rattle.place.specs.Lent.{enclosedFrom, enclosedCount}
+use Rattle.letter.specs.Place.{letterAt, placeFits, placeForm}
+use Rattle.letter.specs.Lent.{enclosedFrom, enclosedCount}
 use Rattle.link.specs.Link.{placeWidth, linkWidth, linkOf, linkFits, linkForm}
 
 -- where the place begins that is i places on from place s, and its words

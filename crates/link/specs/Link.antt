@@ -9,7 +9,7 @@ use Rattle.words.specs.Ring.{ring}
 use Rattle.rules.specs.Every.{all, each}
 use Rattle.rules.specs.Box.{Letter}
 use Rattle.rules.specs.Form.{formLetter}
-use Rattle.place.specs.Place.{letterAt, placeFits}
+use Rattle.letter.specs.Place.{letterAt, placeFits}
 
 -- five words of a mail and its records' room; the whole link
 abbrev pub placeWidth : ℕ → ℕ

@@ -6,7 +6,7 @@ ghost use Prim.Native.Nat.{_+_, _≤_, _<_};
 ghost use lib.ListN.{length};
 ghost use Rattle.rules.specs.Box.{letterOf};
 ghost use Rattle.rules.specs.Site.{twice};
-ghost use Rattle.place.specs.Place.{placeForm};
+ghost use Rattle.letter.specs.Place.{placeForm};
 ghost use Rattle.link.specs.Link.{placeWidth, linkWidth, linkOf, linkForm};
 ghost use Rattle.link.specs.Holds.{
   placeStart,
@@ -64,7 +64,7 @@ pub fn push(link: &mut [u64], j: u32, l: u32, m: Mail, records: &[u64])
     let start = place_at(j, l, first, count);
     let width = 5 + j as usize;
     let end = start + width;
-    place::enclose(&mut link[start..end], m, records);
+    letter::enclose(&mut link[start..end], m, records);
     link[1] = words::word(count + 1);
 }
 
@@ -115,7 +115,7 @@ fn is_place_by_form(link: &[u64], j: u32, l: u32, first: usize, i: usize) -> boo
     let start = place_at(j, l, first, i);
     let width = 5 + j as usize;
     let end = start + width;
-    place::is_by_form(&link[start..end], j)
+    letter::is_by_form(&link[start..end], j)
 }
 
 // The places that hold no mail are not looked at.

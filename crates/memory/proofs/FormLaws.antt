@@ -20,7 +20,7 @@ use Rattle.laws.proofs.Logic.{or-right, passed, _&_, none, made, every-at, ever
 use Rattle.laws.proofs.Counts.{tally-ext}
 use Rattle.laws.proofs.FormLaws.{sizes-says, is-box, box-is, is-link}
 use Rattle.row.specs.Row.{rowFits, rowForm}
-use Rattle.row.proofs.SetLaws.{set-fits}
+use Rattle.values.proofs.SetLaws.{set-fits}
 use Rattle.link.specs.Link.{linkForm}
 use Rattle.link.proofs.TestLaws.{same-test, not-yes, or-else}
 use Rattle.link.proofs.LinkLaws.{fits-says, length-link}

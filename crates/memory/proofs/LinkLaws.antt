@@ -16,7 +16,7 @@ use Rattle.rules.specs.Site.{isLink}
 use Rattle.rules.specs.declared.model.Setting.{Setting}
 use Rattle.laws.proofs.Logic.{eqb-yes, and-yes, _&_, none, made}
 use Rattle.laws.proofs.FormLaws.{sizes-says}
-use Rattle.place.specs.Place.{letterAt, placeForm}
+use Rattle.letter.specs.Place.{letterAt, placeForm}
 use Rattle.link.specs.Link.{placeWidth, linkWidth, linkOf, linkFits}
 use Rattle.link.specs.Holds.{LinkWords, ReadableLink, Holds, HeadAt}
 use Rattle.memory.specs.Memory.{linksWords, linkIndex, linkStart}

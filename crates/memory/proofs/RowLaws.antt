@@ -20,7 +20,7 @@ use Rattle.rules.specs.declared.model.Setting.{Setting}
 use Rattle.rules.specs.declared.model.Turn.{Turn}
 use Rattle.laws.proofs.Logic.{left, right, passed, _&_, none, made}
 use Rattle.laws.proofs.FormLaws.{Peer, sizes-says, box-says}
-use Rattle.place.specs.Place.{letterAt}
+use Rattle.letter.specs.Place.{letterAt}
 use Rattle.row.specs.Row.{headOf, boxOf, rowFits, rowForm, wordsOf}
 use Rattle.row.specs.Lent.{RowSized, RowByForm, Plays, Played}
 use Rattle.row.proofs.PeerLaws.{peers-at, peer-above}
@@ -164,7 +164,7 @@ unfolding elected
 elect-law s c r ok head next held q eh en ec eq =
     let f = row-formed s r ok in
     row-stored (s .n) (s .j) (elected (headOf (s .n) r) s c) (getD r 19 0) r (ok .size .words)
-    (f .ranged .count) refl
+    (f .says .count) refl
     (λ k a m. peers-at (s .n) r k (omega arith) m ∙ peer-above (s .n) r k a) q
     (eq ∙ (λ i. wordsOf ((en ∙ ap (λ (h : BoxState). elected h s c) eh) i) (ec i) ++ drop 20 r))
 

@@ -19,7 +19,7 @@ use Rattle.rules.specs.declared.model.Setting.{Setting}
 use Rattle.laws.proofs.Logic.{both-no, eqb-yes, eqb-no, and-both, All, All-head, every-at}
 use Rattle.laws.proofs.SetLaws.{set-in}
 use Rattle.laws.proofs.FormLaws.{Proper, FormedKind, letter-says, proper-some}
-use Rattle.place.specs.Lent.{enclosedFrom, enclosedCount}
+use Rattle.letter.specs.Lent.{enclosedFrom, enclosedCount}
 use Rattle.link.specs.Holds.{Sendable}
 use Rattle.memory.specs.After.{linksOf, LinksLent, LinksPut, roomFor, sent}
 use Rattle.memory.proofs.LinkLaws.{not-sent}

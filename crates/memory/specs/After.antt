@@ -16,7 +16,7 @@ use Rattle.rules.specs.Form.{formBox, formLetter}
 use Rattle.rules.specs.declared.model.Mail.{Mail}
 use Rattle.rules.specs.declared.model.Setting.{Setting}
 use Rattle.rules.specs.declared.model.Turn.{Turn}
-use Rattle.place.specs.Place.{letterAt, placeForm}
+use Rattle.letter.specs.Place.{letterAt, placeForm}
 use Rattle.row.specs.Row.{boxOf, rowFits}
 use Rattle.link.specs.Link.{placeWidth, linkWidth, linkOf, linkFits}
 use Rattle.memory.specs.Memory.{siteWords, linksWords, pastSite, pastLinks, rowAt, linkAt}

@@ -7,7 +7,7 @@ ghost use Rattle.rules.specs.Sizes.{sizesForm};
 ghost use Rattle.rules.specs.Box.{own, mail, turnOf, turned};
 ghost use Rattle.rules.specs.Site.{freshHead, freshBox, isBox, upd};
 ghost use Rattle.words.specs.Rows.{part};
-ghost use Rattle.place.specs.Place.{letterAt, placeForm};
+ghost use Rattle.letter.specs.Place.{letterAt, placeForm};
 ghost use Rattle.row.specs.Row.{boxOf, rowForm};
 ghost use Rattle.row.specs.Lent.{RowByForm};
 ghost use Rattle.link.specs.Link.{placeWidth};
@@ -91,7 +91,7 @@ fn elect_box(row: &mut [u64], s: Setting, c: u32)
         ⌜ RowHolds (s .n) (s .j) (electedBox s c (boxOf (s .n) (now (row .entry))))
         (now (row .entry)) (now (row .exit)) ⌝ }
 {
-    let held = place::number(row[19]);
+    let held = values::number(row[19]);
     let head = row::load(row, s.n);
     let next = head.elected(s, c);
     row::store(row, next, held);

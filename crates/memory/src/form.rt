@@ -29,7 +29,7 @@ pub fn is_general(site: &[u64]) -> bool
     if !ranges::are_sizes(site[0], site[1], site[2]) {
         return false;
     }
-    let present = row::is_set(place::number(site[0]), site[4]);
+    let present = values::is_set(values::number(site[0]), site[4]);
     let epoch = site[3];
     (1 <= epoch) & (epoch <= 1000000) & present
 }

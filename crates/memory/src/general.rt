@@ -22,11 +22,11 @@ pub fn setting_of(site: &[u64], c: u32) -> Setting
     ensures { λ r. ⌜ r ≡ settingAt (now (site .entry)) c ⌝ }
 {
     Setting {
-        n: place::number(site[0]),
-        j: place::number(site[1]),
-        l: place::number(site[2]),
-        epoch: place::number(site[3]),
-        present: place::number(site[4]),
+        n: values::number(site[0]),
+        j: values::number(site[1]),
+        l: values::number(site[2]),
+        epoch: values::number(site[3]),
+        present: values::number(site[4]),
         me: c,
     }
 }

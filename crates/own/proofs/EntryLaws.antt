@@ -14,7 +14,7 @@ use Rattle.laws.proofs.Logic.{In, and-yes}
 use Rattle.laws.proofs.FormLaws.{sizes-says, is-box, box-is, is-link}
 use Rattle.laws.specs.Frames.{ActFits}
 use Rattle.laws.proofs.TurnForm.{EventFits}
-use Rattle.place.specs.Place.{letterAt}
+use Rattle.letter.specs.Place.{letterAt}
 use Rattle.row.specs.Row.{boxOf}
 use Rattle.row.specs.Lent.{RowByForm, PlaceByForm}
 use Rattle.own.specs.Entry.{ownBox, ownLetter, rowReads, placeReads}

@@ -16,8 +16,8 @@ use Rattle.rules.specs.Own.{formOwn}
 use Rattle.laws.proofs.Types.{Act, Setting}
 use Rattle.laws.proofs.Logic.{and-yes, passed, _&_, none, made}
 use Rattle.laws.proofs.FormLaws.{FormedBox, FormedLetter, sizes-says, box-says, letter-says}
-use Rattle.place.specs.Place.{placeForm}
-use Rattle.place.specs.Lent.{PlaceSized}
+use Rattle.letter.specs.Place.{placeForm}
+use Rattle.letter.specs.Lent.{PlaceSized}
 use Rattle.row.specs.Row.{rowFits, rowForm}
 use Rattle.row.specs.Lent.{RowSized, RowByForm, PlaceByForm}
 use Rattle.own.specs.Entry.{rowOf, placeOf, ownBox, ownLetter, rowReads, placeReads}

@@ -13,7 +13,7 @@ use Rattle.rules.specs.Own.{OwnOutcome, unmoved, receivers, lettersOf, ownTurn}
 use Rattle.laws.proofs.Types.{Answer, Refusal, Setting, Turn}
 use Rattle.laws.proofs.Logic.{both-no, and-both}
 use Rattle.laws.proofs.StepLaws.{accepted-kept}
-use Rattle.place.specs.Place.{letterAt}
+use Rattle.letter.specs.Place.{letterAt}
 use Rattle.own.specs.Entry.{rowOf, placeOf, ownBox, rowReads, placeReads}
 use Rattle.rules.specs.Answers.{isAccepted}
 use Rattle.own.specs.Entry.{buffered, Owned}

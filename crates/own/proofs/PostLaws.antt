@@ -9,7 +9,7 @@ use Rattle.rules.specs.Pick.{pick}
 use Rattle.rules.specs.Box.{Box, Letter}
 use Rattle.laws.proofs.Types.{Mail, Out, Turn}
 use Rattle.laws.proofs.Logic.{passed}
-use Rattle.place.specs.Lent.{Enclosed}
+use Rattle.letter.specs.Lent.{Enclosed}
 use Rattle.row.specs.Row.{rowFits}
 use Rattle.row.specs.Lent.{recordsOf, Plays, Played}
 use Rattle.own.specs.Lent.{Posted, Carried, recordsAfter}

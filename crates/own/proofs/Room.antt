@@ -10,7 +10,7 @@ use borrow.Author.Tests.{leb-true, leb-false, le-leb, lt-leb, lt-ltb, le-ltb}
 use Rattle.rules.specs.Sizes.{unknown}
 use Rattle.rules.specs.Box.{own, mail}
 use Rattle.laws.proofs.Types.{Act, Setting}
-use Rattle.place.specs.Place.{kindOf, letterAt, placeFits}
+use Rattle.letter.specs.Place.{kindOf, letterAt, placeFits}
 use Rattle.row.specs.Row.{stateOf, phaseOf, flagOf, peerOf, boxOf, rowFits}
 use Rattle.row.specs.Lent.{recordsOf}
 use Rattle.own.specs.Entry.{rowOf, placeOf, ownBox, ownLetter, rowReads, placeReads}

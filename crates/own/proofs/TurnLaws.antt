@@ -17,8 +17,8 @@ use Rattle.laws.proofs.Logic.{Or, left, right, In, All, All-head, decide}
 use Rattle.laws.proofs.FormLaws.{Proper, proper-some, Peer, FormedBox, FormedKind}
 use Rattle.laws.proofs.FormLaws.{sizes-says}
 use Rattle.laws.proofs.TurnForm.{OutFits, Fits, EventFits, turn-fits}
-use Rattle.place.specs.Place.{letterAt}
-use Rattle.place.specs.Lent.{enclosedFrom, enclosedCount}
+use Rattle.letter.specs.Place.{letterAt}
+use Rattle.letter.specs.Lent.{enclosedFrom, enclosedCount}
 use Rattle.own.specs.Entry.{ownBox}
 use Rattle.own.specs.Lent.{Posts, Concludes}
 use Rattle.own.proofs.FormLaws.{OwnRow}

@@ -10,8 +10,8 @@ use Rattle.rules.specs.Own.{OwnOutcome, receivers, lettersOf, ownTurn}
 use Rattle.rules.specs.declared.model.Out.{Out}
 use Rattle.rules.specs.declared.model.Setting.{Setting}
 use Rattle.rules.specs.declared.model.Turn.{Turn}
-use Rattle.place.specs.Place.{letterAt, placeFits}
-use Rattle.place.specs.Lent.{Encloses}
+use Rattle.letter.specs.Place.{letterAt, placeFits}
+use Rattle.letter.specs.Lent.{Encloses}
 use Rattle.row.specs.Row.{boxOf}
 use Rattle.row.specs.Lent.{Plays, Played}
 use Rattle.own.specs.Entry.{rowOf, ownBox, rowReads, placeReads, buffered}

@@ -60,7 +60,7 @@ fn are_sizes(s: Setting) -> bool
 fn is_setting(s: Setting) -> bool
     ensures { λ r. ⌜ r ≡ (within 1 mostEpoch (s .epoch) && setForm (s .n) (s .present)) ⌝ }
 {
-    let present = row::is_set(s.n, place::wide(s.present));
+    let present = values::is_set(s.n, values::wide(s.present));
     (1 <= s.epoch) & (s.epoch <= 1000000) & present
 }
 
@@ -89,7 +89,7 @@ fn is_letter(letter: &[u64], s: Setting) -> bool
     if letter.len() < end {
         return false;
     }
-    place::is_by_form(&letter[0..end], s.j)
+    letter::is_by_form(&letter[0..end], s.j)
 }
 
 // 12 where the turn goes on and the place for its letter has too few words.
@@ -112,7 +112,7 @@ fn post(out: &mut [u64], set: u32, m: Mail, records: &[u64]) -> u32
         ⌜ Posted (now (out .entry)) (Out.To set m) (now (records .entry)) (now (out .exit)) r ⌝ }
 {
     if set != 0 {
-        place::enclose(out, m, records);
+        letter::enclose(out, m, records);
     }
     set
 }

@@ -13,7 +13,7 @@ use Rattle.words.proofs.PartLaws.{take-splice-end}
 use Rattle.rules.specs.Box.{written}
 use Rattle.rules.specs.declared.model.Book.{Book}
 use Rattle.rules.specs.declared.model.Turn.{Turn}
-use Rattle.place.specs.Place.{letterAt}
+use Rattle.letter.specs.Place.{letterAt}
 use Rattle.row.specs.Row.{wordsOf}
 use Rattle.row.specs.Lent.{countAfter, Writes, Wrote, Plays, Played}
 use Rattle.row.proofs.StoreLaws.{box-stored, fits-stored}

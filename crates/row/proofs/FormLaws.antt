@@ -1,104 +1,143 @@
--- What the form of a row says, and in which order the code looks at it: the ranges first.
-use mathlib.Core.Path.{_≡_, refl, sym, _∙_}
-use mathlib.Core.Bool.{Bool, true, false, _&&_, and-true, and-assoc}
-use mathlib.Core.List.{List, [], _∷_, _++_}
+-- What the form of a box's words says, and of a row: the words first, then the records.
+use mathlib.Core.Path.{_≡_, refl, sym, ap, _∙_}
+use mathlib.Core.Bool.{Bool, true, false, _&&_, and-true}
+use mathlib.Core.List.{List, [], _∷_}
 use Prim.Native.Nat.{ℕ, _≤_}
 use native.Mathlib.Omega.{arith}
-use borrow.Author.Tests.{leb-true}
+use borrow.Author.Tests.{leb-true, le-leb}
 use lib.ListN.{length, getD}
 use Rattle.words.proofs.PartLaws.{length-part}
 use Rattle.rules.specs.Every.{all, each, every}
 use Rattle.rules.specs.Sizes.{mostBoxes, mostPn, proper, recordForm}
 use Rattle.rules.specs.Sets.{setForm}
 use Rattle.rules.specs.Form.{countForm, peerForm, formBox}
-use Rattle.rules.proofs.BoundLaws.{first-of, second-of}
-use Rattle.place.proofs.AllLaws.{all-at, all-take, all-append, two-last}
-use Rattle.place.proofs.FormLaws.{count-last}
-use Rattle.row.specs.Row.{headOf, boxOf, rowFits, rowForm}
-use Rattle.row.specs.Lent.{RowSized, RowReadable, numbersFit, valuesFit, recordsOf}
-use Rattle.row.proofs.SetLaws.{set-fits}
-use Rattle.row.proofs.PeerLaws.{every-says, peer-fits}
+use Rattle.values.specs.Faults.{isWhole}
+use Rattle.values.specs.declared.Fault.{Fault}
+use Rattle.values.proofs.AllLaws.{all-at}
+use Rattle.values.proofs.FaultLaws.{then-passed, passed-then}
+use Rattle.values.proofs.RecordLaws.{count-last, count-room}
+use Rattle.values.proofs.SetLaws.{set-fits}
+use Rattle.row.specs.Row.{headOf, boxOf, rowFits, rowForm, headWords, mostState, mostPhase}
+use Rattle.row.specs.Row.{flagAt, stateAt, phaseAt, pnAt, lastAt, storedPnAt, storedNumberAt}
+use Rattle.row.specs.Row.{bestPnAt, bestNumberAt, answeredAt, acceptsAt, bestAt, waitingAt}
+use Rattle.row.specs.Row.{agreeingAt, countAt}
+use Rattle.row.specs.Lent.{RowSized, RowReadable, recordsOf}
+use Rattle.row.specs.Faults.{numberTests, valueTests, peerTests, countTest, headFault}
+use Rattle.row.proofs.PeerLaws.{every-says, every-five, peer-fits}
 
--- every peer of the row of box b is by form
+-- every peer of the words of box b is by form
 abbrev pub peersFit : ℕ → ℕ → ℕ → List ℕ → Bool
-peersFit n J b r = every mostBoxes (peerForm n J b (headOf n r .peers))
+peersFit n J b w = every mostBoxes (peerForm n J b (headOf n w .peers))
 
--- what is looked at before the records are
-abbrev pub rowRanges : ℕ → ℕ → ℕ → List ℕ → Bool
-rowRanges n J b r = numbersFit J r && valuesFit n r && peersFit n J b r
+-- what the words say where no field is amiss
+pub record HeadSays (n J b : ℕ) (w : List ℕ) : Type 0 where
+  pub flag : getD w flagAt 0 ≤ 1
+  pub state : getD w stateAt 0 ≤ mostState
+  pub phase : getD w phaseAt 0 ≤ mostPhase
+  pub pn : getD w pnAt 0 ≤ mostPn
+  pub last : getD w lastAt 0 ≤ J
+  pub stored-pn : getD w storedPnAt 0 ≤ mostPn
+  pub stored-number : getD w storedNumberAt 0 ≤ J
+  pub best-pn : getD w bestPnAt 0 ≤ mostPn
+  pub best-number : getD w bestNumberAt 0 ≤ J
+  pub answered : setForm n (getD w answeredAt 0) ≡ true
+  pub accepts : setForm n (getD w acceptsAt 0) ≡ true
+  pub best : recordForm (getD w bestAt 0) ≡ true
+  pub waiting : recordForm (getD w waitingAt 0) ≡ true
+  pub agreeing : recordForm (getD w agreeingAt 0) ≡ true
+  pub peers : peersFit n J b w ≡ true
+  pub counted : countForm J (getD w lastAt 0) (getD w countAt 0) ≡ true
+  pub count : getD w countAt 0 ≤ J
 
--- how many records there are
-abbrev pub countFits : ℕ → List ℕ → Bool
-countFits J r = countForm J (getD r 4 0) (length (recordsOf r))
+module _ (n J b : ℕ) (w : List ℕ) where
+  pub head-says : headFault n J b w ≡ Fault.None → HeadSays n J b w
+  unfolding headFault
+  head-says e =
+      let one = then-passed (numberTests J w) _ e in
+      let two = then-passed (valueTests n w) _ (one .1) in
+      let three = then-passed (peerTests n J b w) _ (two .1) in
+      let four = then-passed (countTest J w) _ (three .1) in
+      let counted = all-at 0 _ (four .0) in
+      record {
+        flag = leb-true _ _ (all-at 0 _ (one .0));
+        state = leb-true _ _ (all-at 1 _ (one .0));
+        phase = leb-true _ _ (all-at 2 _ (one .0));
+        pn = leb-true _ _ (all-at 3 _ (one .0));
+        last = leb-true _ _ (all-at 4 _ (one .0));
+        stored-pn = leb-true _ _ (all-at 5 _ (one .0));
+        stored-number = leb-true _ _ (all-at 6 _ (one .0));
+        best-pn = leb-true _ _ (all-at 7 _ (one .0));
+        best-number = leb-true _ _ (all-at 8 _ (one .0));
+        answered = all-at 0 _ (two .0);
+        accepts = all-at 1 _ (two .0);
+        best = all-at 2 _ (two .0);
+        waiting = all-at 3 _ (two .0);
+        agreeing = all-at 4 _ (two .0);
+        peers = sym (every-five (peerForm n J b (headOf n w .peers))) ∙ five (three .0);
+        counted = counted;
+        count = count-room J (getD w lastAt 0) (getD w countAt 0) counted;
+      }
+    where
+      five : all (peerForm n J b (headOf n w .peers) 1
+          ∷ peerForm n J b (headOf n w .peers) 2
+          ∷ peerForm n J b (headOf n w .peers) 3
+          ∷ peerForm n J b (headOf n w .peers) 4
+          ∷ peerForm n J b (headOf n w .peers) 5
+          ∷ []) ≡ true
+          → (peerForm n J b (headOf n w .peers) 5 && peerForm n J b (headOf n w .peers) 4
+          && peerForm n J b (headOf n w .peers) 3 && peerForm n J b (headOf n w .peers) 2
+          && peerForm n J b (headOf n w .peers) 1) ≡ true
+      five t = rw (all-at 0 _ t, all-at 1 _ t, all-at 2 _ t, all-at 3 _ t, all-at 4 _ t)
 
--- The tests of form, regrouped as the code makes them.
-regrouped : (fits numbers values : List Bool) (peers count records : Bool)
-    → all (all fits ∷ all (count ∷ records ∷ numbers ++ (values ++ (true ∷ peers ∷ []))) ∷ [])
-    ≡ ((all (fits ++ numbers) && all values && peers) && (count && records))
-unfolding all
-regrouped fits numbers values peers count records =
-    two-last fits (numbers ++ (values ++ (true ∷ peers ∷ []))) count records
-    ∙ simp (all-append, and-assoc, and-true)
+  pub head-whole : HeadSays n J b w → headFault n J b w ≡ Fault.None
+  unfolding headFault all
+  head-whole h =
+      passed-then (numberTests J w)
+      (rw (
+        le-leb _ _ (h .flag),
+        le-leb _ _ (h .state),
+        le-leb _ _ (h .phase),
+        le-leb _ _ (h .pn),
+        le-leb _ _ (h .last),
+        le-leb _ _ (h .stored-pn),
+        le-leb _ _ (h .stored-number),
+        le-leb _ _ (h .best-pn),
+        le-leb _ _ (h .best-number),
+      ))
+      (passed-then (valueTests n w)
+      (rw (h .answered, h .accepts, h .best, h .waiting, h .agreeing))
+      (passed-then (peerTests n J b w)
+      (rw (
+        peer 1 (omega arith) (omega arith),
+        peer 2 (omega arith) (omega arith),
+        peer 3 (omega arith) (omega arith),
+        peer 4 (omega arith) (omega arith),
+        peer 5 (omega arith) (omega arith),
+      ))
+      (passed-then (countTest J w) (rw (h .counted)) refl)))
+    where
+      peer : (k : ℕ) → 1 ≤ k → k ≤ mostBoxes → peerForm n J b (headOf n w .peers) k ≡ true
+      peer k low top = every-says mostBoxes _ k (h .peers) low top
 
--- The ranges first, and then the count and the records.
-pub ranges-first : (n J b : ℕ) (r : List ℕ)
-    → rowForm n J b r ≡ (rowRanges n J b r && (countFits J r && each proper (recordsOf r)))
-unfolding rowForm rowFits formBox numbersFit valuesFit
-ranges-first n J b r = regrouped _ _ _ _ _ _
+-- ---- a row
 
--- What the ranges say of the words.
-pub record RowRanged (n J b : ℕ) (r : List ℕ) : Type 0 where
-  pub fits : rowFits J r ≡ true
-  pub count : getD r 19 0 ≤ J
-  pub pn : getD r 3 0 ≤ mostPn
-  pub stored-pn : getD r 5 0 ≤ mostPn
-  pub stored-number : getD r 6 0 ≤ J
-  pub best-pn : getD r 7 0 ≤ mostPn
-  pub best-number : getD r 8 0 ≤ J
-  pub answered : setForm n (getD r 9 0) ≡ true
-  pub accepts : setForm n (getD r 10 0) ≡ true
-  pub peers : peersFit n J b r ≡ true
+-- How many records a row holds whose count has room.
+pub count-held : (n J : ℕ) (r : List ℕ) → RowSized n J r → getD r countAt 0 ≤ J
+    → length (recordsOf r) ≡ getD r countAt 0
+count-held n J r z h = length-part headWords (getD r countAt 0) r (omega (arith, z .words))
 
--- They say it where a test t of them passed.
-pub ranged : (n J b : ℕ) (r : List ℕ) (t : Bool) → t ≡ rowRanges n J b r → t ≡ true
-    → RowRanged n J b r
-unfolding numbersFit valuesFit rowFits
-ranged n J b r t e g =
-    let passed = sym e ∙ g in
-    let both = first-of (numbersFit J r && valuesFit n r) (peersFit n J b r) passed in
-    let numbers = first-of (numbersFit J r) (valuesFit n r) both in
-    let values = second-of (numbersFit J r) (valuesFit n r) both in
-    record {
-      fits = all-take 4 _ numbers;
-      count = leb-true (getD r 19 0) J (all-at 3 _ numbers);
-      pn = leb-true (getD r 3 0) mostPn (all-at 4 _ numbers);
-      stored-pn = leb-true (getD r 5 0) mostPn (all-at 5 _ numbers);
-      stored-number = leb-true (getD r 6 0) J (all-at 6 _ numbers);
-      best-pn = leb-true (getD r 7 0) mostPn (all-at 7 _ numbers);
-      best-number = leb-true (getD r 8 0) J (all-at 8 _ numbers);
-      answered = all-at 1 _ values;
-      accepts = all-at 2 _ values;
-      peers = second-of (numbersFit J r && valuesFit n r) (peersFit n J b r) passed;
-    }
-
--- How many records a row holds, inside the ranges.
-pub count-held : (n J b : ℕ) (r : List ℕ) → RowSized n J r → RowRanged n J b r
-    → length (recordsOf r) ≡ getD r 19 0
-count-held n J b r z g = length-part 20 (getD r 19 0) r (omega (arith, z .words, g .count))
-
--- Inside the ranges, and with a count by form, the row can be read.
-pub readable : (n J b : ℕ) (r : List ℕ) → RowSized n J r → RowRanged n J b r → getD r 4 0 ≤ J
-    → RowReadable n r
-readable n J b r z g h = record {
+-- A row whose words say so can be read.
+pub readable : (n J b : ℕ) (r : List ℕ) → RowSized n J r → HeadSays n J b r → RowReadable n r
+readable n J b r z g = record {
   room = omega (arith, z .words, g .count);
   pn = omega (arith, g .pn);
-  last = omega (arith, z .loads);
+  last = omega (arith, z .loads, g .last);
   stored-pn = omega (arith, g .stored-pn);
   stored-number = omega (arith, z .loads, g .stored-number);
   best-pn = omega (arith, g .best-pn);
   best-number = omega (arith, z .loads, g .best-number);
-  answered = set-fits n (getD r 9 0) (z .boxes) (g .answered);
-  accepts = set-fits n (getD r 10 0) (z .boxes) (g .accepts);
+  answered = set-fits n (getD r answeredAt 0) (z .boxes) (g .answered);
+  accepts = set-fits n (getD r acceptsAt 0) (z .boxes) (g .accepts);
   peers = λ k a i.
       let m : k ≤ mostBoxes = omega (arith, z .boxes) in
       peer-fits n J b r k a m (z .loads) i (every-says mostBoxes _ k (g .peers) a m);
@@ -108,53 +147,77 @@ readable n J b r z g h = record {
 pub record RowFormed (n J b : ℕ) (r : List ℕ) : Type 0 where
   pub fits : rowFits J r ≡ true
   pub box : formBox n J b (boxOf n r) ≡ true
-  pub counted : countForm J (getD r 4 0) (getD r 19 0) ≡ true
-  pub last : getD r 4 0 ≤ J
   pub proper : each proper (recordsOf r) ≡ true
-  pub ranged : RowRanged n J b r
+  pub whole : headFault n J b r ≡ Fault.None
+  pub says : HeadSays n J b r
   pub readable : RowReadable n r
 
-pub formed : (n J b : ℕ) (r : List ℕ) → RowSized n J r → rowForm n J b r ≡ true → RowFormed n J b r
-unfolding rowForm
-formed n J b r z e =
-    let split = sym (ranges-first n J b r) ∙ e in
-    let g = ranged n J b r (rowRanges n J b r) refl (first-of (rowRanges n J b r) _ split) in
-    let rest = second-of (rowRanges n J b r) _ split in
-    let counted = rw (count-held n J b r z g) at (first-of (countFits J r) _ rest) in
-    let last = count-last J (getD r 4 0) (getD r 19 0) counted in
-    record {
-      fits = all-at 0 _ e;
-      box = all-at 1 _ e;
-      counted = counted;
-      last = last;
-      proper = second-of (countFits J r) _ rest;
-      ranged = g;
-      readable = readable n J b r z g last;
-    }
+module _ (n J b : ℕ) (r : List ℕ) (z : RowSized n J r) where
+  pub formed : rowForm n J b r ≡ true → RowFormed n J b r
+  unfolding rowForm rowFits formBox
+  formed e =
+      let fits = all-at 0 _ e in
+      let box = all-at 1 _ e in
+      let count = leb-true (getD r countAt 0) J (all-at 3 _ fits) in
+      let counted = rw (count-held n J r z count) at (all-at 0 _ box) in
+      let says : HeadSays n J b r = record {
+        flag = leb-true _ _ (all-at 0 _ fits);
+        state = leb-true _ _ (all-at 1 _ fits);
+        phase = leb-true _ _ (all-at 2 _ fits);
+        pn = leb-true _ _ (all-at 2 _ box);
+        last = count-last J (getD r lastAt 0) (getD r countAt 0) counted;
+        stored-pn = leb-true _ _ (all-at 3 _ box);
+        stored-number = leb-true _ _ (all-at 4 _ box);
+        best-pn = leb-true _ _ (all-at 5 _ box);
+        best-number = leb-true _ _ (all-at 6 _ box);
+        answered = all-at 8 _ box;
+        accepts = all-at 9 _ box;
+        best = all-at 7 _ box;
+        waiting = all-at 10 _ box;
+        agreeing = all-at 11 _ box;
+        peers = all-at 13 _ box;
+        counted = counted;
+        count = count;
+      } in
+      record {
+        fits = fits;
+        box = box;
+        proper = all-at 1 _ box;
+        whole = head-whole n J b r says;
+        says = says;
+        readable = readable n J b r z says;
+      }
 
--- ---- what the code has computed is the form
+  -- What the code of `is_by_form` has: no word is amiss ..
+  pub form-go : headFault n J b r ≡ Fault.None → each proper (recordsOf r) ≡ rowForm n J b r
+  unfolding rowForm rowFits formBox all
+  form-go e =
+      let h = head-says n J b r e in
+      let counted = rw (← count-held n J r z (h .count)) at (h .counted) in
+      rw (
+        le-leb _ _ (h .flag),
+        le-leb _ _ (h .state),
+        le-leb _ _ (h .phase),
+        le-leb _ _ (h .count),
+        counted,
+        le-leb _ _ (h .pn),
+        le-leb _ _ (h .stored-pn),
+        le-leb _ _ (h .stored-number),
+        le-leb _ _ (h .best-pn),
+        le-leb _ _ (h .best-number),
+        h .answered,
+        h .accepts,
+        h .best,
+        h .waiting,
+        h .agreeing,
+        h .peers,
+      )
+      (simp and-true)
 
--- What `values_fit` has made of its calls.
-pub values-law : (n : ℕ) (r : List ℕ) (best answered accepts waiting agreeing : Bool)
-    → best ≡ recordForm (getD r 11 0) → answered ≡ setForm n (getD r 9 0)
-    → accepts ≡ setForm n (getD r 10 0)
-    → waiting ≡ recordForm (getD r 12 0) → agreeing ≡ recordForm (getD r 13 0)
-    → (best && answered && accepts && waiting && agreeing) ≡ valuesFit n r
-unfolding valuesFit all
-values-law n r best answered accepts waiting agreeing eb en ea ew eg =
-    rw (eb, en, ea, ew, eg) (simp (and-assoc, and-true))
-
--- What `is_by_form` has, inside the ranges ..
-pub form-go : (n J b : ℕ) (r : List ℕ) → RowSized n J r
-    → (ranges k a : Bool) (rs : List ℕ)
-    → ranges ≡ rowRanges n J b r → ranges ≡ true → rs ≡ recordsOf r
-    → k ≡ countForm J (getD r 4 0) (getD r 19 0) → a ≡ each proper rs
-    → (k && a) ≡ rowForm n J b r
-form-go n J b r z ranges k a rs er et ers ek ea =
-    let held = count-held n J b r z (ranged n J b r ranges er et) in
-    rw (ranges-first n J b r, ← er, et, held, ek, ea, ers)
-
--- .. and outside them.
-pub form-stop : (n J b : ℕ) (r : List ℕ) (ranges : Bool)
-    → ranges ≡ rowRanges n J b r → ranges ≡ false → false ≡ rowForm n J b r
-form-stop n J b r ranges er ef = rw (ranges-first n J b r, ← er, ef)
+  -- .. or one is.
+  pub form-stop : isWhole (headFault n J b r) ≡ false → false ≡ rowForm n J b r
+  form-stop e = go (rowForm n J b r) refl
+    where
+      go : (t : Bool) → rowForm n J b r ≡ t → false ≡ rowForm n J b r
+      go true f = sym e ∙ ap isWhole (formed f .whole) ∙ sym f
+      go false f = sym f

@@ -1,6 +1,5 @@
 -- The laws of `specs/`, for the proofs of this crate and of the crates above it.
 pub mod NumberLaws
-pub mod SetLaws
 pub mod PeerLaws
 pub mod FormLaws
 pub mod StoreLaws

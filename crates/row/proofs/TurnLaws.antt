@@ -18,8 +18,8 @@ use Rattle.rules.specs.declared.model.Mail.{Mail}
 use Rattle.rules.specs.declared.model.Setting.{Setting}
 use Rattle.rules.specs.declared.model.Turn.{Turn}
 use Rattle.rules.proofs.BoundLaws.{guard-go}
-use Rattle.place.specs.Place.{mailAt, letterAt}
-use Rattle.place.proofs.FormLaws as places
+use Rattle.letter.specs.Place.{mailAt, letterAt}
+use Rattle.letter.proofs.FormLaws as places
 use Rattle.row.specs.Row.{headOf, boxOf}
 use Rattle.row.specs.Lent.{RowByForm, PlaceByForm, recordsOf}
 use Rattle.row.proofs.FormLaws.{RowFormed, formed}
@@ -47,8 +47,8 @@ module _ (s : Setting) (r : List ℕ) (ok : RowByForm s r) where
   bounded =
       let f = row-formed in
       rw (
-        le-leb (getD r 3 0) mostPn (f .ranged .pn),
-        le-leb (getD r 4 0) mostLoads (omega (arith, f .last, ok .size .loads)),
+        le-leb (getD r 3 0) mostPn (f .says .pn),
+        le-leb (getD r 4 0) mostLoads (omega (arith, f .says .last, ok .size .loads)),
         le-leb (s .me) mostBoxes (ok .me),
       )
 
@@ -67,7 +67,7 @@ module _ (s : Setting) (r : List ℕ) (ok : RowByForm s r) where
     bounded-mail : boundedMail (mailAt p) ≡ true
     unfolding boundedMail
     bounded-mail =
-        let g = place-formed .ranged in
+        let g = place-formed .says .kind in
         rw (
           le-leb (getD p 1 0) mostPn (g .pn),
           le-leb (getD p 2 0) mostLoads (omega (arith, g .last, ok .size .loads)),

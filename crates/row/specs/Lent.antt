@@ -1,39 +1,39 @@
 -- What the functions over a lent row ask for and give.
 use mathlib.Core.Path.{_≡_}
 use Prim.Native.Nat.{ℕ, _+_, _-_, _≤_, _<_, _^_}
-use mathlib.Core.Bool.{Bool, true}
-use mathlib.Core.List.{List, [], _∷_}
-use lib.Dec.{leb}
+use mathlib.Core.Bool.{true}
+use mathlib.Core.List.{List}
 use lib.ListN.{length, take, drop, getD}
 use Rattle.words.specs.Rows.{part}
-use Rattle.rules.specs.Every.{all}
-use Rattle.rules.specs.Sizes.{mostBoxes, mostLoads, mostPn, unknown, recordForm}
-use Rattle.rules.specs.Sets.{setForm}
+use Rattle.rules.specs.Sizes.{mostBoxes, mostLoads, unknown}
 use Rattle.rules.specs.Box.{BookFits, written, turned}
 use Rattle.rules.specs.declared.model.Book.{Book}
 use Rattle.rules.specs.declared.model.Setting.{Setting}
 use Rattle.rules.specs.declared.model.Turn.{Turn}
-use Rattle.place.specs.Place.{letterAt, placeForm}
-use Rattle.row.specs.Row.{boxOf, rowFits, rowForm}
+use Rattle.letter.specs.Place.{letterAt, placeForm}
+use Rattle.letter.specs.Place.{headWords as letterHead}
+use Rattle.row.specs.Row.{boxOf, rowFits, rowForm, headWords, pnAt, lastAt, storedPnAt}
+use Rattle.row.specs.Row.{storedNumberAt, bestPnAt, bestNumberAt, answeredAt, acceptsAt}
+use Rattle.row.specs.Row.{beforePeers, countAt}
 
 -- the row of a box of n, with room for J records
 pub record RowSized (n J : ℕ) (r : List ℕ) : Type 0 where
-  pub words : length r ≡ 20 + J
+  pub words : length r ≡ headWords + J
   pub boxes : n ≤ mostBoxes
   pub loads : J ≤ mostLoads
 
 -- the records lie within the row, and the numbers fit 32 bits; of a peer above n nothing is asked
 pub record RowReadable (n : ℕ) (r : List ℕ) : Type 0 where
-  pub room : 20 + getD r 19 0 ≤ length r
-  pub pn : getD r 3 0 < 2 ^ 32
-  pub last : getD r 4 0 < 2 ^ 32
-  pub stored-pn : getD r 5 0 < 2 ^ 32
-  pub stored-number : getD r 6 0 < 2 ^ 32
-  pub best-pn : getD r 7 0 < 2 ^ 32
-  pub best-number : getD r 8 0 < 2 ^ 32
-  pub answered : getD r 9 0 < 2 ^ 32
-  pub accepts : getD r 10 0 < 2 ^ 32
-  pub peers : (k : ℕ) → 1 ≤ k → k ≤ n → getD r (13 + k) 0 < 2 ^ 32
+  pub room : headWords + getD r countAt 0 ≤ length r
+  pub pn : getD r pnAt 0 < 2 ^ 32
+  pub last : getD r lastAt 0 < 2 ^ 32
+  pub stored-pn : getD r storedPnAt 0 < 2 ^ 32
+  pub stored-number : getD r storedNumberAt 0 < 2 ^ 32
+  pub best-pn : getD r bestPnAt 0 < 2 ^ 32
+  pub best-number : getD r bestNumberAt 0 < 2 ^ 32
+  pub answered : getD r answeredAt 0 < 2 ^ 32
+  pub accepts : getD r acceptsAt 0 < 2 ^ 32
+  pub peers : (k : ℕ) → 1 ≤ k → k ≤ n → getD r (beforePeers + k) 0 < 2 ^ 32
 
 -- the row of box `me` of s, by form
 pub record RowByForm (s : Setting) (r : List ℕ) : Type 0 where
@@ -43,36 +43,12 @@ pub record RowByForm (s : Setting) (r : List ℕ) : Type 0 where
 
 -- a mail's place in the same site, by form
 pub record PlaceByForm (s : Setting) (p : List ℕ) : Type 0 where
-  pub words : length p ≡ 5 + s .j
+  pub words : length p ≡ letterHead + s .j
   pub form : placeForm (s .j) p ≡ true
-
--- the words' ranges, in the order of form: the enums, the count, the numbers ..
-unfoldable pub numbersFit : ℕ → List ℕ → Bool
-numbersFit J r =
-    all (leb (getD r 0 0) 1
-    ∷ leb (getD r 1 0) 4
-    ∷ leb (getD r 2 0) 5
-    ∷ leb (getD r 19 0) J
-    ∷ leb (getD r 3 0) mostPn
-    ∷ leb (getD r 5 0) mostPn
-    ∷ leb (getD r 6 0) J
-    ∷ leb (getD r 7 0) mostPn
-    ∷ leb (getD r 8 0) J
-    ∷ [])
-
--- .. and the records and sets
-unfoldable pub valuesFit : ℕ → List ℕ → Bool
-valuesFit n r =
-    all (recordForm (getD r 11 0)
-    ∷ setForm n (getD r 9 0)
-    ∷ setForm n (getD r 10 0)
-    ∷ recordForm (getD r 12 0)
-    ∷ recordForm (getD r 13 0)
-    ∷ [])
 
 -- the records that a row holds, whatever n is
 abbrev pub recordsOf : List ℕ → List ℕ
-recordsOf r = part r 20 (getD r 19 0)
+recordsOf r = part r headWords (getD r countAt 0)
 
 -- how many records are held after a turn
 abbrev pub countAfter : Book → ℕ → ℕ
@@ -83,15 +59,15 @@ countAfter (Book.Take a l) count = l
 -- the row r has room for what the book b makes of its records and those of the mail's place p
 pub record Writes (r p : List ℕ) (b : Book) : Type 0 where
   pub J : ℕ
-  pub words : length r ≡ 20 + J
+  pub words : length r ≡ headWords + J
   pub loads : J ≤ mostLoads
-  pub count : getD r 19 0 ≤ J
+  pub count : getD r countAt 0 ≤ J
   pub book : BookFits J (recordsOf r) (letterAt p .records) b
 
 -- r has become q, whose records are those that the book says
 pub record Wrote (r p : List ℕ) (b : Book) (q : List ℕ) : Type 0 where
   pub words : length q ≡ length r
-  pub records : take (countAfter b (getD r 19 0)) (drop 20 q)
+  pub records : take (countAfter b (getD r countAt 0)) (drop headWords q)
       ≡ written b (recordsOf r) (letterAt p .records)
 
 -- the row r of a box of n can take the turn t
@@ -104,4 +80,4 @@ pub record Plays (n : ℕ) (r p : List ℕ) (t : Turn) : Type 0 where
 pub record Played (n : ℕ) (r p : List ℕ) (t : Turn) (q : List ℕ) : Type 0 where
   pub box : boxOf n q ≡ turned (boxOf n r) t (letterAt p .records)
   pub words : length q ≡ length r
-  pub fits : (J : ℕ) → length r ≡ 20 + J → rowFits J q ≡ true
+  pub fits : (J : ℕ) → length r ≡ headWords + J → rowFits J q ≡ true

@@ -1,7 +1,4 @@
--- A box in words: twenty words of fields, and then room for J records. They stand in the image's
--- order: flag, state, phase, pn, last, stored pn, stored number, best pn, best number, the set of
--- boxes that answered, the accept set; the best, the waiting and the record being agreed; five
--- peers' lasts; the count of records held.
+-- A box in words: its fields in the image's order, and then room for J records.
 use Prim.Native.Nat.{ℕ, zero, suc, _+_}
 use mathlib.Core.Bool.{Bool, true, false, cond}
 use mathlib.Core.List.{List, [], _∷_}
@@ -17,7 +14,77 @@ use Rattle.rules.specs.declared.model.BoxState.{BoxState}
 use Rattle.rules.specs.declared.model.Phase.{Phase}
 use Rattle.rules.specs.declared.model.State.{State}
 
--- the state that has this number; 0 to 4 are by form
+-- ---- where each field stands: "flag, state, phase, pn, last, stored pn, stored number, best pn,
+-- best number, the set of boxes that answered, accept set; then three records (best, waiting, being
+-- agreed); .. peers' lasts ..; count of records held"
+
+abbrev pub flagAt : ℕ
+flagAt = 0
+
+abbrev pub stateAt : ℕ
+stateAt = 1
+
+abbrev pub phaseAt : ℕ
+phaseAt = 2
+
+abbrev pub pnAt : ℕ
+pnAt = 3
+
+abbrev pub lastAt : ℕ
+lastAt = 4
+
+abbrev pub storedPnAt : ℕ
+storedPnAt = 5
+
+abbrev pub storedNumberAt : ℕ
+storedNumberAt = 6
+
+abbrev pub bestPnAt : ℕ
+bestPnAt = 7
+
+abbrev pub bestNumberAt : ℕ
+bestNumberAt = 8
+
+abbrev pub answeredAt : ℕ
+answeredAt = 9
+
+abbrev pub acceptsAt : ℕ
+acceptsAt = 10
+
+abbrev pub bestAt : ℕ
+bestAt = 11
+
+abbrev pub waitingAt : ℕ
+waitingAt = 12
+
+abbrev pub agreeingAt : ℕ
+agreeingAt = 13
+
+-- peer k stands k places behind this
+abbrev pub beforePeers : ℕ
+beforePeers = 13
+
+abbrev pub peersAt : ℕ
+peersAt = 14
+
+abbrev pub countAt : ℕ
+countAt = 19
+
+-- the records stand behind these
+abbrev pub headWords : ℕ
+headWords = 20
+
+-- ---- what they say
+
+-- states 0 to this are by form
+abbrev pub mostState : ℕ
+mostState = 4
+
+-- phases 0 to this are by form
+abbrev pub mostPhase : ℕ
+mostPhase = 5
+
+-- the state that has this number
 abbrev pub stateOf : ℕ → State
 stateOf zero = State.Recovering
 stateOf (suc zero) = State.Active
@@ -25,7 +92,7 @@ stateOf (suc (suc zero)) = State.Updating
 stateOf (suc (suc (suc zero))) = State.UpdatingPrevious
 stateOf (suc (suc (suc (suc x)))) = State.Refresh
 
--- the phase that has this number; 0 to 5 are by form
+-- the phase that has this number
 abbrev pub phaseOf : ℕ → Phase
 phaseOf zero = Phase.Election
 phaseOf (suc zero) = Phase.SendCollect
@@ -43,38 +110,38 @@ flagNumber false = 0
 
 -- the last of peer k of n; a number above n is no box's, and its word is not read
 abbrev pub peerOf : ℕ → List ℕ → ℕ → ℕ
-peerOf n r k = cond (leb k n) (getD r (13 + k) 0) unknown
+peerOf n r k = cond (leb k n) (getD r (beforePeers + k) 0) unknown
 
 abbrev pub headOf : ℕ → List ℕ → BoxState
 headOf n r = record {
-  leads = flagOf (getD r 0 0);
-  state = stateOf (getD r 1 0);
-  phase = phaseOf (getD r 2 0);
+  leads = flagOf (getD r flagAt 0);
+  state = stateOf (getD r stateAt 0);
+  phase = phaseOf (getD r phaseAt 0);
   kept = record {
-    pn = getD r 3 0;
-    last = getD r 4 0;
-    stored = record { pn = getD r 5 0; number = getD r 6 0 };
+    pn = getD r pnAt 0;
+    last = getD r lastAt 0;
+    stored = record { pn = getD r storedPnAt 0; number = getD r storedNumberAt 0 };
   };
-  best = record { pn = getD r 7 0; number = getD r 8 0; value = getD r 11 0 };
-  answered = getD r 9 0;
-  accepts = getD r 10 0;
-  waiting = getD r 12 0;
-  agreeing = getD r 13 0;
+  best = record { pn = getD r bestPnAt 0; number = getD r bestNumberAt 0; value = getD r bestAt 0 };
+  answered = getD r answeredAt 0;
+  accepts = getD r acceptsAt 0;
+  waiting = getD r waitingAt 0;
+  agreeing = getD r agreeingAt 0;
   peers = peerOf n r 1 ∷ peerOf n r 2 ∷ peerOf n r 3 ∷ peerOf n r 4 ∷ peerOf n r 5 ∷ [];
 }
 
 -- the box that a row holds; what stands after its records is not read
 abbrev pub boxOf : ℕ → List ℕ → Box
-boxOf n r = record { head = headOf n r; records = part r 20 (getD r 19 0) }
+boxOf n r = record { head = headOf n r; records = part r headWords (getD r countAt 0) }
 
 -- what the box does not show of its words: flag, state and phase have their numbers, and the
 -- records have room
 unfoldable pub rowFits : ℕ → List ℕ → Bool
 rowFits J r =
-    all (leb (getD r 0 0) 1
-    ∷ leb (getD r 1 0) 4
-    ∷ leb (getD r 2 0) 5
-    ∷ leb (getD r 19 0) J
+    all (leb (getD r flagAt 0) 1
+    ∷ leb (getD r stateAt 0) mostState
+    ∷ leb (getD r phaseAt 0) mostPhase
+    ∷ leb (getD r countAt 0) J
     ∷ [])
 
 -- the row holds box b of n by form

@@ -15,7 +15,7 @@ use Rattle.rules.specs.declared.model.Setting.{Setting}
 use Rattle.rules.specs.declared.model.Turn.{Turn}
 use Rattle.laws.proofs.Logic.{true≠false, both-no}
 use Rattle.laws.specs.Receivers.{NotTo}
-use Rattle.place.specs.Place.{letterAt, placeForm}
+use Rattle.letter.specs.Place.{letterAt, placeForm}
 use Rattle.link.specs.Link.{placeWidth}
 use Rattle.memory.specs.Memory.{siteOf, memoryForm}
 use Rattle.memory.specs.After.{settingAt, boxesOf, linksOf, BoxLent, LinksPut, HeadStands}

@@ -24,7 +24,7 @@ use Rattle.laws.proofs.Logic.{In, All, All-head}
 use Rattle.laws.proofs.FormLaws.{FormedLetter, letter-made, is-link, box-is}
 use Rattle.laws.proofs.Receivers.{Foreign}
 use Rattle.laws.proofs.TurnForm.{EventFits}
-use Rattle.place.specs.Place.{letterAt, placeForm}
+use Rattle.letter.specs.Place.{letterAt, placeForm}
 use Rattle.link.specs.Link.{placeWidth}
 use Rattle.memory.specs.Memory.{siteOf, memoryForm}
 use Rattle.memory.specs.After.{settingAt, boxesOf, linksOf, linksBy, RowsPut, LinksPut}

@@ -15,7 +15,7 @@ use Rattle.rules.specs.declared.model.Setting.{Setting}
 use Rattle.rules.specs.declared.model.Turn.{Turn}
 use Rattle.laws.specs.Receivers.{NotTo}
 use Rattle.words.specs.Rows.{part}
-use Rattle.place.specs.Place.{letterAt}
+use Rattle.letter.specs.Place.{letterAt}
 use Rattle.link.specs.Link.{placeWidth}
 use Rattle.memory.specs.Memory.{memoryForm}
 use Rattle.site.specs.General.{generalPut}

@@ -10,7 +10,7 @@ ghost use Rattle.rules.specs.Site.{isLink, posted};
 ghost use Rattle.rules.specs.Step.{step};
 ghost use Rattle.rules.specs.declared.model.Call.{Call};
 ghost use Rattle.link.specs.Link.{placeWidth};
-ghost use Rattle.place.specs.Place.{letterAt};
+ghost use Rattle.letter.specs.Place.{letterAt};
 ghost use Rattle.memory.specs.Memory.{siteOf, memoryForm};
 ghost use Rattle.memory.specs.After.{boxesOf, linksOf};
 ghost use Rattle.site.specs.Entries.{After};

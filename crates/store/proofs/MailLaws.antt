@@ -14,8 +14,8 @@ use Rattle.rules.specs.Sizes.{mostLoads}
 use Rattle.rules.specs.Box.{Letter}
 use Rattle.laws.proofs.Logic.{each-made}
 use Rattle.laws.proofs.FormLaws.{letter-says}
-use Rattle.place.specs.Place.{letterAt, placeFits}
-use Rattle.place.proofs.EncloseLaws.{filled, filled-letter, filled-fits}
+use Rattle.letter.specs.Place.{letterAt, placeFits}
+use Rattle.letter.proofs.EncloseLaws.{filled, filled-letter, filled-fits}
 use Rattle.link.specs.Link.{placeWidth, linkWidth, places, linkOf}
 use Rattle.link.specs.Holds.{LinkSizes, Holds}
 use Rattle.link.proofs.LinkLaws.{fits-made, two-set, length-link}

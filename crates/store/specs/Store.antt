@@ -6,7 +6,7 @@ use mathlib.Core.List.{List}
 use lib.ListN.{length, drop, getD}
 use Rattle.words.specs.Rows.{part}
 use Rattle.rules.specs.Box.{Box, Letter}
-use Rattle.place.specs.Place.{letterAt, placeFits}
+use Rattle.letter.specs.Place.{letterAt, placeFits}
 use Rattle.row.specs.Row.{boxOf, rowFits}
 use Rattle.memory.specs.Memory.{siteWords, linksWords, pastSite, pastLinks, siteOf, memoryForm}
 use Rattle.cells.specs.Cells.{Stands, Found}

@@ -57,9 +57,9 @@ pub fn check_listed(src: &[u8], at: usize, table: &mut [u64]) -> Walk
     if !memory::is_general(&w) {
         return Walk::Bad;
     }
-    let n = place::number(w[0]);
-    let j = place::number(w[1]);
-    let l = place::number(w[2]);
+    let n = values::number(w[0]);
+    let j = values::number(w[1]);
+    let l = values::number(w[2]);
     table[0] = w[0] + 2;
     boxes::enter(table, 1, at, p);
     check_rest(src, p, n, j, l, table)

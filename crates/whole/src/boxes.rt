@@ -34,7 +34,7 @@ fn is_head(w: &[u64], n: u32, j: u32, b: u32) -> bool
     let numbers = row::numbers_fit(w, j);
     let values = row::values_fit(w, n);
     let peers = row::are_peers(w, n, j, b);
-    let counted = place::is_count(j, w[4], w[19]);
+    let counted = values::is_count(j, w[4], w[19]);
     numbers & values & peers & counted
 }
 

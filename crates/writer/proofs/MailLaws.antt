@@ -11,7 +11,7 @@ use Rattle.words.proofs.PartLaws.{length-part, gets-part, part-drop, cut-at}
 use Rattle.words.proofs.RowLaws.{rows-at, row-end}
 use Rattle.words.proofs.RingLaws.{slot-lt, length-ring, ring-at}
 use Rattle.rules.specs.Box.{Letter}
-use Rattle.place.specs.Place.{letterAt}
+use Rattle.letter.specs.Place.{letterAt}
 use Rattle.link.specs.Link.{placeWidth, linkWidth, places, linkOf}
 use Rattle.cells.specs.Cells.{chain, cells}
 use Rattle.image.specs.Image.{numbersFrom, letterBytes, linkBytes}

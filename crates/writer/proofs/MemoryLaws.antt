@@ -20,7 +20,7 @@ use Rattle.rules.specs.Site.{freshBox}
 use Rattle.laws.proofs.Logic.{In, passed, and-yes, and-both, every-at}
 use Rattle.laws.proofs.Logic as logic
 use Rattle.laws.proofs.FormLaws.{FormedSizes, sizes-says, box-is}
-use Rattle.place.specs.Place.{placeFits}
+use Rattle.letter.specs.Place.{placeFits}
 use Rattle.row.specs.Row.{boxOf, rowFits}
 use Rattle.link.specs.Link.{placeWidth, linkWidth, places, linkOf, linkFits}
 use Rattle.memory.specs.Memory.{rowWidth, siteWords, linksWords, rowAt, linkAt, siteOf}

@@ -8,7 +8,7 @@ use Rattle.words.specs.Rows.{part}
 use Rattle.words.specs.Ring.{slot}
 use Rattle.rules.specs.Sizes.{mostBoxes, mostLoads, mostMails}
 use Rattle.rules.specs.Box.{Box, Letter}
-use Rattle.place.specs.Place.{letterAt}
+use Rattle.letter.specs.Place.{letterAt}
 use Rattle.row.specs.Row.{boxOf}
 use Rattle.link.specs.Link.{placeWidth, linkWidth, linkOf}
 use Rattle.link.specs.Holds.{LinkSizes}

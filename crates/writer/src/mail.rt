@@ -4,7 +4,7 @@ ghost use mathlib.Core.Path.{_≡_};
 ghost use Prim.Native.Nat.{_+_, _*_, _≤_, _<_};
 ghost use lib.ListN.{length, getD};
 ghost use Rattle.rules.specs.Sizes.{mostLoads, mostMails};
-ghost use Rattle.place.specs.Place.{letterAt};
+ghost use Rattle.letter.specs.Place.{letterAt};
 ghost use Rattle.link.specs.Link.{linkOf};
 ghost use Rattle.cells.specs.Cells.{chain, Room, Wrote};
 ghost use Rattle.image.specs.Image.{letterBytes, linkBytes};

@@ -2,7 +2,7 @@
 use borrow.Author.Needs.{needs}
 use mathlib.Core.Path.{refl, ap, _∙_}
 use Rattle.words.proofs.PartLaws.{cut-at}
-use Rattle.place.specs.Place.{placeForm}
+use Rattle.letter.specs.Place.{placeForm}
 use Rattle.link.proofs.is_place_by_form.Statement.{statement}
 use Rattle.link.proofs.is_place_by_form.Tie as tie
 

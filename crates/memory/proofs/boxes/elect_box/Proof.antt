@@ -10,7 +10,7 @@ number-requires : tie.Need-number-requires
 number-requires c κs =
     let s = c .before .before in
     let f = row-formed (s .args .s) (s .args .row .now) (s .pre) in
-    omega (arith, f .ranged .count, s .pre .size .loads)
+    omega (arith, f .says .count, s .pre .size .loads)
 
 load-requires : tie.Need-load-requires
 load-requires c κs =

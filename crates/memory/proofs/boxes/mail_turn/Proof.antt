@@ -3,7 +3,7 @@ use borrow.Author.Needs.{needs}
 use mathlib.Core.Path.{refl, _∙_}
 use Rattle.words.proofs.PartLaws.{length-part}
 use Rattle.rules.specs.Box.{mail, turnOf}
-use Rattle.place.specs.Place.{letterAt}
+use Rattle.letter.specs.Place.{letterAt}
 use Rattle.link.specs.Link.{placeWidth}
 use Rattle.memory.proofs.PutLaws.{part-cut}
 use Rattle.memory.proofs.RowLaws.{row-by-form, box-at}

@@ -6,7 +6,7 @@ use native.Mathlib.Omega.{arith}
 use mathlib.Core.List.{[]}
 use lib.ListN.{length, take, drop}
 use Rattle.words.proofs.PartLaws.{length-cut, length-put}
-use Rattle.place.specs.Place.{letterAt}
+use Rattle.letter.specs.Place.{letterAt}
 use Rattle.image.specs.Image.{letterBytes}
 use Rattle.image.specs.Parts.{GoodLetter}
 use Rattle.store.specs.Store.{HoldsLetter}

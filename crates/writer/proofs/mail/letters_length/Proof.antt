@@ -7,7 +7,7 @@ use mathlib.Core.List.{[]}
 use lib.ListN.{length, take, drop, getD}
 use Rattle.rules.specs.Sizes.{mostLoads}
 use Rattle.rules.specs.Box.{Letter}
-use Rattle.place.specs.Place.{letterAt}
+use Rattle.letter.specs.Place.{letterAt}
 use Rattle.link.specs.Link.{linkOf}
 use Rattle.cells.specs.Cells.{chain}
 use Rattle.cells.proofs.ChainLaws.{length-none, length-next, length-all}

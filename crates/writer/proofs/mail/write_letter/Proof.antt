@@ -7,7 +7,7 @@ use lib.ListN.{take, drop}
 use Rattle.words.specs.Rows.{part}
 use Rattle.cells.specs.Cells.{cells, Room}
 use Rattle.cells.proofs.WriteLaws.{room-first, room-rest, wrote-seq}
-use Rattle.place.specs.Place.{letterAt}
+use Rattle.letter.specs.Place.{letterAt}
 use Rattle.image.specs.Image.{letterBytes}
 use Rattle.writer.proofs.MailLaws.{letter-groups}
 use Rattle.writer.proofs.mail.write_letter.Statement.{statement}

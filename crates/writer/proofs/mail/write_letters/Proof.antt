@@ -6,7 +6,7 @@ use native.Mathlib.Omega.{arith}
 use mathlib.Core.List.{[]}
 use lib.ListN.{length, take, drop, getD}
 use Rattle.rules.specs.Box.{Letter}
-use Rattle.place.specs.Place.{letterAt}
+use Rattle.letter.specs.Place.{letterAt}
 use Rattle.link.specs.Link.{linkOf}
 use Rattle.cells.specs.Cells.{chain, Room, Wrote}
 use Rattle.cells.proofs.WriteLaws.{wrote-none, room-next, wrote-next, wrote-all, wrote-length}

@@ -1,0 +1,41 @@
+-- Kinds and their numbers, both ways; and the case of `kind_of` that is left.
+use mathlib.Core.Path.{_≡_, refl, sym, ap}
+use mathlib.Core.Bool.{true}
+use Prim.Native.Nat.{ℕ, zero, suc, _-_, _≤_}
+use native.Mathlib.Omega.{arith}
+use Rattle.rules.specs.Sizes.{within}
+use Rattle.rules.specs.Numbers.{kindNumber}
+use Rattle.rules.specs.declared.model.Kind.{Kind}
+use Rattle.letter.specs.Place.{kindOf}
+
+pub kind-back : (k : Kind) → kindOf (kindNumber k) ≡ k
+kind-back Kind.Collect = refl
+kind-back Kind.Last = refl
+kind-back Kind.Begin = refl
+kind-back Kind.Accept = refl
+kind-back Kind.Commit = refl
+kind-back Kind.Lease = refl
+
+pub kind-number-back : (x : ℕ) → 1 ≤ x → x ≤ 6 → kindNumber (kindOf x) ≡ x
+kind-number-back zero a b = omega arith
+kind-number-back (suc zero) a b = refl
+kind-number-back (suc (suc zero)) a b = refl
+kind-number-back (suc (suc (suc zero))) a b = refl
+kind-number-back (suc (suc (suc (suc zero)))) a b = refl
+kind-number-back (suc (suc (suc (suc (suc zero))))) a b = refl
+kind-number-back (suc (suc (suc (suc (suc (suc x)))))) a b = omega arith
+
+-- Every number from 6 on is read as a Lease.
+pub kind-rest : (x : ℕ) → 6 ≤ x → Kind.Lease ≡ kindOf x
+kind-rest x h =
+    let e : x ≡ suc (suc (suc (suc (suc (suc (x - 6)))))) = omega arith in
+    sym (ap kindOf e)
+
+-- Every kind has a number by form.
+pub kind-in : (k : Kind) → within 1 6 (kindNumber k) ≡ true
+kind-in Kind.Collect = refl
+kind-in Kind.Last = refl
+kind-in Kind.Begin = refl
+kind-in Kind.Accept = refl
+kind-in Kind.Commit = refl
+kind-in Kind.Lease = refl

@@ -1,0 +1,4 @@
+-- What the contracts of `place` cite.
+pub mod Place
+pub mod Lent
+pub mod Faults

@@ -1,3 +1,0 @@
--- What the contracts of `place` cite.
-pub mod Place
-pub mod Lent

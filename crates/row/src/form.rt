@@ -1,0 +1,112 @@
+// By form of a box: its words field by field in the image's order, then its records.
+ghost use mathlib.Core.Path.{_≡_};
+ghost use Prim.Native.Nat.{_≤_};
+ghost use lib.ListN.{length};
+ghost use Rattle.rules.specs.Sizes.{mostBoxes};
+ghost use Rattle.rules.specs.Form.{peerForm};
+ghost use Rattle.values.specs.Faults.{faultThen};
+ghost use Rattle.row.specs.Row.{headOf, rowForm, headWords};
+ghost use Rattle.row.specs.Lent.{RowSized};
+ghost use Rattle.row.specs.Faults.{numberTests, valueTests, peerTests, headFault};
+use crate::ACCEPTS;
+use crate::AGREEING;
+use crate::ANSWERED;
+use crate::BEFORE_PEERS;
+use crate::BEST;
+use crate::BEST_NUMBER;
+use crate::BEST_PN;
+use crate::COUNT;
+use crate::FLAG;
+use crate::LAST;
+use crate::PHASE;
+use crate::PN;
+use crate::STATE;
+use crate::STORED_NUMBER;
+use crate::STORED_PN;
+use crate::WAITING;
+use crate::records;
+use values::Fault;
+use values::Field;
+use values::unless;
+
+// Numbers, and what is said of the fields behind them.
+fn number_fault(w: &[u64], j: u32, rest: Fault) -> Fault
+    requires { ⌜ headWords ≤ length (now w) ⌝ }
+    ensures { λ r. ⌜ r ≡ faultThen (numberTests j (now (w .entry))) rest ⌝ }
+{
+    let most = j as u64;
+    let f = unless(w[BEST_NUMBER] <= most, Field::BestNumber, rest);
+    let f = unless(w[BEST_PN] <= 999999999, Field::BestPn, f);
+    let f = unless(w[STORED_NUMBER] <= most, Field::StoredNumber, f);
+    let f = unless(w[STORED_PN] <= 999999999, Field::StoredPn, f);
+    let f = unless(w[LAST] <= most, Field::Last, f);
+    let f = unless(w[PN] <= 999999999, Field::Pn, f);
+    let f = unless(w[PHASE] <= 5, Field::Phase, f);
+    let f = unless(w[STATE] <= 4, Field::State, f);
+    unless(w[FLAG] <= 1, Field::Flag, f)
+}
+
+// Sets and records.
+fn value_fault(w: &[u64], n: u32, rest: Fault) -> Fault
+    requires { ⌜ headWords ≤ length (now w) ⌝ }
+    ensures { λ r. ⌜ r ≡ faultThen (valueTests n (now (w .entry))) rest ⌝ }
+{
+    let f = unless(values::is_record(w[AGREEING]), Field::Agreeing, rest);
+    let f = unless(values::is_record(w[WAITING]), Field::Waiting, f);
+    let f = unless(values::is_record(w[BEST]), Field::Best, f);
+    let f = unless(values::is_set(n, w[ACCEPTS]), Field::Accepts, f);
+    unless(values::is_set(n, w[ANSWERED]), Field::Answered, f)
+}
+
+// The last of peer k is by form in the row of box b; above n it is not read.
+fn is_peer(w: &[u64], n: u32, j: u32, b: u32, k: u32) -> bool
+    requires { ⌜ headWords ≤ length (now w) ⌝ }
+    requires { ⌜ (1 ≤ k) × (k ≤ mostBoxes) ⌝ }
+    ensures { λ r. ⌜ r ≡ peerForm n j b (headOf n (now (w .entry)) .peers) k ⌝ }
+{
+    if n < k {
+        return true;
+    }
+    let at = BEFORE_PEERS + k as usize;
+    let last = w[at];
+    let most = j as u64;
+    (last == 4294967295) | ((k != b) & (last <= most))
+}
+
+fn peer_fault(w: &[u64], n: u32, j: u32, b: u32, rest: Fault) -> Fault
+    requires { ⌜ headWords ≤ length (now w) ⌝ }
+    ensures { λ r. ⌜ r ≡ faultThen (peerTests n j b (now (w .entry))) rest ⌝ }
+{
+    let f = unless(is_peer(w, n, j, b, 5), Field::Peer(5), rest);
+    let f = unless(is_peer(w, n, j, b, 4), Field::Peer(4), f);
+    let f = unless(is_peer(w, n, j, b, 3), Field::Peer(3), f);
+    let f = unless(is_peer(w, n, j, b, 2), Field::Peer(2), f);
+    unless(is_peer(w, n, j, b, 1), Field::Peer(1), f)
+}
+
+// The first of a box's words that is not by form.
+pub fn head_fault(w: &[u64], n: u32, j: u32, b: u32) -> Fault
+    requires { ⌜ headWords ≤ length (now w) ⌝ }
+    ensures { λ r. ⌜ r ≡ headFault n j b (now (w .entry)) ⌝ }
+{
+    let f = unless(
+        values::is_count(j, w[LAST], w[COUNT]),
+        Field::Count,
+        Fault::None,
+    );
+    let f = peer_fault(w, n, j, b, f);
+    let f = value_fault(w, n, f);
+    number_fault(w, j, f)
+}
+
+// The row holds box b of n by form. What stands after its records is not read.
+pub fn is_by_form(row: &[u64], n: u32, j: u32, b: u32) -> bool
+    requires { ⌜ RowSized n j (now row) ⌝ }
+    ensures { λ r. ⌜ r ≡ rowForm n j b (now (row .entry)) ⌝ }
+{
+    let f = head_fault(row, n, j, b);
+    match f {
+        Fault::None => values::all_proper(records(row)),
+        Fault::At(_) => false,
+    }
+}

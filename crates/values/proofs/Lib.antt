@@ -1,0 +1,5 @@
+-- The laws of words as numbers, for the proofs of this crate and of the crates above it.
+pub mod AllLaws
+pub mod RecordLaws
+pub mod SetLaws
+pub mod FaultLaws

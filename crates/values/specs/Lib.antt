@@ -1,0 +1,2 @@
+-- What the contracts of `values` cite, and those of the crates whose words have fields.
+pub mod Faults
