@@ -7,7 +7,7 @@ use native.Mathlib.Numerals.{add-one}
 use native.Mathlib.Omega.{arith}
 use mathlib.Core.List.{List, [], _∷_, _++_}
 use lib.Dec.{leb, ltb}
-use lib.ListN.{length, take, drop, getD, length-append}
+use lib.ListN.{length, take, getD, replicate, length-append, length-replicate, getD-replicate}
 use lib.Seq.{ext-getD, take-suc, take-all, length-take-le, take-take, getD-take}
 use borrow.Author.Tests.{leb-true, leb-false, ltb-true, ltb-false}
 use Rattle.words.specs.Rows.{part, splice}
@@ -36,7 +36,7 @@ module _ (m : ℕ) where
   cut-low [] h c = omega arith
   cut-low (g ∷ gs) h c = let b = c .0 in (omega arith, c .1, c .2)
 
-  cut-in : (gs : List Group) (low : ℕ) → Cut low m gs → low ≤ m
+  pub cut-in : (gs : List Group) (low : ℕ) → Cut low m gs → low ≤ m
   unfolding Cut
   cut-in [] low c = c
   cut-in (g ∷ gs) low c = let b = c .0 in let r = cut-in gs (groupEnd g) (c .2) in omega arith
@@ -63,6 +63,12 @@ module _ (m : ℕ) where
   cut-before (g ∷ gs) low (suc i) c h =
       let k : i < length gs = omega arith in
       (cut-at-group gs (groupEnd g) i (c .2) k .0, cut-before gs (groupEnd g) i (c .2) k)
+
+-- What lies within m words lies within more.
+pub cut-more : (gs : List Group) (low : ℕ) {m more : ℕ} → m ≤ more → Cut low m gs → Cut low more gs
+unfolding Cut
+cut-more [] low h c = omega arith
+cut-more (g ∷ gs) low h c = (c .0, c .1, cut-more gs (groupEnd g) h (c .2))
 
 -- ---- their length
 
@@ -355,6 +361,23 @@ module _ (gs : List Group) (src : List ℕ) (at : ℕ) (w : List ℕ) where
             (subst (Below (256 ^ next .width)) (sym new) (r .below)));
         rest = λ k o. outside k (apart k o) ∙ g .rest k (before k o);
       }
+
+-- Read into words that were all `rest`, by the code's numbers for the groups gs.
+pub groups-grouped : (gs : List Group) (m rest : ℕ) (ns : List ℕ) {src : List ℕ} {at : ℕ}
+    {w v : List ℕ} {r : ℕ} → groupsOf ns ≡ gs → w ≡ replicate m rest
+    → GroupsRead (groupsOf ns) src at w v r
+    → GroupedWords gs m rest v × Stands (groupsBytes gs v) src at r
+groups-grouped gs m rest ns {src} {at} {w} {v} {r} n e g' =
+    let g = subst (λ (l : List Group). GroupsRead l src at w v r) n g' in
+    (
+      record {
+        width = g .width ∙ ap length e ∙ length-replicate m rest;
+        below = g .below;
+        none = λ k h o.
+            g .rest k o ∙ ap (λ (l : List ℕ). getD l k 0) e ∙ getD-replicate m k rest 0 h;
+      },
+      g .stands,
+    )
 
 -- As the code has it: the next group was read, with its three numbers.
 module _ (ns : List ℕ) (i : ℕ) (h : i < length ns / 3) (src : List ℕ) (at : ℕ) (w : List ℕ)

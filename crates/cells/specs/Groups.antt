@@ -13,6 +13,9 @@ pub record Group : Type 0 where
   pub from : ℕ
   pub count : ℕ
 
+abbrev pub group : ℕ → ℕ → ℕ → Group
+group k a c = record { width = k; from = a; count = c }
+
 abbrev pub groupEnd : Group → ℕ
 groupEnd g = g .from + g .count
 
@@ -39,7 +42,7 @@ unfoldable pub groupsOf : List ℕ → List Group
 groupsOf [] = []
 groupsOf (k ∷ []) = []
 groupsOf (k ∷ a ∷ []) = []
-groupsOf (k ∷ a ∷ c ∷ ns) = record { width = k; from = a; count = c } ∷ groupsOf ns
+groupsOf (k ∷ a ∷ c ∷ ns) = group k a c ∷ groupsOf ns
 
 -- word k is in none of them
 abbrev pub Outside : List Group → ℕ → Type 0

@@ -5,21 +5,23 @@ use Prim.Native.Nat.{ℕ, _+_, _≤_, _<_}
 use native.Mathlib.Omega.{arith}
 use mathlib.Core.List.{List, [], _∷_}
 use lib.ListN.{length, getD, length-append}
-use lib.Seq.{length-take-le}
 use Rattle.rules.specs.Sizes.{mostBoxes}
 use Rattle.rules.specs.Box.{Box, Letter}
-use Rattle.rules.specs.Site.{Site, freshBox, freshHead, fresh}
+use Rattle.rules.specs.Site.{Site, fresh}
 use Rattle.rules.specs.Form.{form}
-use Rattle.laws.proofs.Logic.{In}
 use Rattle.laws.proofs.FormLaws.{form-says}
 use Rattle.cells.specs.Cells.{chain, All, Each}
-use Rattle.cells.proofs.ChainLaws.{length-cells, each-made}
+use Rattle.letter.specs.Place as place
+use Rattle.row.specs.Row.{headWords}
+use Rattle.cells.proofs.ChainLaws.{length-cells}
+use Rattle.cells.proofs.GroupLaws.{length-groups}
 use Rattle.image.specs.Image.{numbersFrom, boxesOf, bySender, linksOf, boxBody, letterBytes}
-use Rattle.image.specs.Image.{linkBytes}
+use Rattle.image.specs.Image.{boxGroups, boxWords, letterGroups, letterWords, linkBytes}
 use Rattle.image.specs.Image.{tableOf, imageOf}
 use Rattle.image.specs.Parts.{listed, bodiesIn, listedBytes}
 use Rattle.image.specs.Longest.{tableLong, generalLong, boxLong, letterLong}
-use Rattle.image.proofs.OrderLaws.{length-boxes, boxes-at}
+use Rattle.image.proofs.CutLaws.{box-cut, box-groups-long, letter-cut, letter-groups-long}
+use Rattle.image.proofs.OrderLaws.{length-boxes}
 use Rattle.image.proofs.TableLaws.{length-table, bodies-count, image-in}
 
 -- the sum of a length over a list
@@ -53,7 +55,9 @@ boxLength n x = boxLong n (length (x .records))
 
 pub length-letter : (y : Letter) → length (letterBytes y) ≡ letterLength y
 unfolding letterBytes
-length-letter y = simp (length-append, length-cells) (omega arith)
+length-letter y =
+    let head = length-groups letterGroups 0 place.headWords (letterWords y) letter-cut refl in
+    simp (length-append, length-cells, head) (omega (arith, letter-groups-long))
 
 -- The letters of a link together.
 pub length-letters : (ys : List Letter) → length (chain letterBytes ys) ≡ total letterLength ys
@@ -66,12 +70,11 @@ length-link ys = simp (length-append, length-cells, length-letters) (omega arith
 pub length-links : (ls : List (List Letter)) → length (chain linkBytes ls) ≡ total linkLength ls
 length-links ls = length-total linkBytes linkLength ls (all-always length-link ls)
 
-pub length-box : (n : ℕ) (x : Box) → n ≤ mostBoxes → length (x .head .peers) ≡ mostBoxes
-    → length (boxBody n x) ≡ boxLength n x
+pub length-box : (n : ℕ) (x : Box) → n ≤ mostBoxes → length (boxBody n x) ≡ boxLength n x
 unfolding boxBody
-length-box n x h l =
-    simp (length-append, length-cells, length-take-le n (x .head .peers) (omega arith))
-    (omega arith)
+length-box n x h =
+    let head = length-groups (boxGroups n) 0 headWords (boxWords x) (box-cut n h) refl in
+    simp (length-append, length-cells, head) (omega (arith, box-groups-long n))
 
 -- ---- the image
 
@@ -81,27 +84,15 @@ imageLength s =
     tableLong (s .n)
     + (generalLong + (total (boxLength (s .n)) (boxesOf s) + total linkLength (linksOf s)))
 
-module _ (s : Site) (few : s .n ≤ mostBoxes)
-    (peers : (b : ℕ) → In b (s .n) → length (s .box b .head .peers) ≡ mostBoxes) where
-  abbrev Long : Box → Type 0
-  Long x = length (boxBody (s .n) x) ≡ boxLength (s .n) x
-
+module _ (s : Site) (few : s .n ≤ mostBoxes) where
   length-bodies : length (listedBytes (listed s))
       ≡ generalLong + (total (boxLength (s .n)) (boxesOf s) + total linkLength (linksOf s))
   unfolding listed listedBytes
   length-bodies =
-      let boxes = length-total (boxBody (s .n)) (boxLength (s .n)) (boxesOf s) all in
+      let boxes = length-total (boxBody (s .n)) (boxLength (s .n)) (boxesOf s)
+      (all-always (λ x. length-box (s .n) x few) (boxesOf s)) in
       let links = length-links (linksOf s) in
       simp (length-append, length-cells) (omega arith)
-    where
-      at : (i : ℕ) → i < length (boxesOf s) → Long (getD (boxesOf s) i freshBox)
-      at i h =
-          let k : i < s .n = omega (arith, length-boxes s) in
-          rw (boxes-at s i freshBox k)
-          (length-box (s .n) (s .box (i + 1)) few (peers (i + 1) (omega arith, omega arith)))
-
-      all : All Long (boxesOf s)
-      all = each-made (λ i. Long) (boxesOf s) freshBox at
 
   pub image-length : length (imageOf s) ≡ imageLength s
   unfolding imageLength listed
@@ -115,13 +106,13 @@ module _ (s : Site) (few : s .n ≤ mostBoxes)
 -- Of a site by form.
 pub form-length : (s : Site) → form s ≡ true → length (imageOf s) ≡ imageLength s
 form-length s e = let f = form-says e in
-    image-length s (f .sizes .few-boxes) (λ b h. f .boxes b h .places)
+    image-length s (f .sizes .few-boxes)
 
 -- ★ "Fresh image: n=3, 340 bytes; n=1, 124", whatever J and L are
 fresh-length : (n J L : ℕ) → n ≤ mostBoxes
     → length (imageOf (fresh n J L)) ≡ imageLength (fresh n J L)
-unfolding fresh freshHead
-fresh-length n J L h = image-length (fresh n J L) h (λ b k. refl)
+unfolding fresh
+fresh-length n J L h = image-length (fresh n J L) h
 
 pub fresh-three : (J L : ℕ) → length (imageOf (fresh 3 J L)) ≡ 340
 unfolding imageLength total fresh boxesOf linksOf bySender numbersFrom chain

@@ -1,5 +1,8 @@
 -- Theorems about the image: one site, one image, and how long it is.
 pub mod OrderLaws
+pub mod RecordLaws
+pub mod CutLaws
+pub mod HeadedLaws
 pub mod LetterLaws
 pub mod BoxLaws
 pub mod ListedLaws

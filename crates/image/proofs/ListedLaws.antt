@@ -29,7 +29,8 @@ use Rattle.image.specs.Parts.{Words}
 use Rattle.image.specs.Parts.{leaders, Listed, nIn, JIn, LIn, listed, listedBytes, GoodListed}
 use Rattle.image.proofs.OrderLaws.{from-snoc, length-boxes, boxes-at, length-links}
 use Rattle.image.proofs.OrderLaws.{link-index, links-at, all-links}
-use Rattle.image.proofs.LetterLaws.{all-of, all-to, words-code, link-code}
+use Rattle.image.proofs.RecordLaws.{all-of, all-to}
+use Rattle.image.proofs.LetterLaws.{words-code, link-code}
 use Rattle.image.proofs.BoxLaws.{box-code}
 
 -- ---- leaders

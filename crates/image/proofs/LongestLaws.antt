@@ -69,7 +69,7 @@ module _ (J : ℕ) where
       → length (boxBody n x) ≤ boxLong n J
   box-most n b few x g =
       let f = box-says g in
-      omega (arith, length-box n x few (f .places), f .held .room)
+      omega (arith, length-box n x few, f .held .room)
 
 -- All bodies, with the table of contents.
 pub listed-most : (t : Listed) → GoodListed t

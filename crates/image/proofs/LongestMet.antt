@@ -23,7 +23,7 @@ use Rattle.cells.proofs.ChainLaws.{each-made}
 use Rattle.image.specs.Image.{boxesOf, linksOf, imageOf}
 use Rattle.image.specs.Longest.{boxLong, letterLong, linkLong, longest}
 use Rattle.image.proofs.OrderLaws.{length-boxes, boxes-at, length-links, all-links}
-use Rattle.image.proofs.LetterLaws.{all-of}
+use Rattle.image.proofs.RecordLaws.{all-of}
 use Rattle.image.proofs.Lengths.{total, boxLength, letterLength, linkLength, imageLength}
 use Rattle.image.proofs.Lengths.{form-length}
 

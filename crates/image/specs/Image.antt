@@ -4,12 +4,13 @@ use Prim.Native.Nat.{ℕ, zero, suc, _+_, _-_, _*_}
 use mathlib.Core.Path.{_≡_}
 use mathlib.Core.Bool.{false}
 use mathlib.Core.List.{List, [], _∷_, _++_, map}
-use lib.ListN.{length, take}
-use Rattle.rules.specs.Numbers.{stateNumber, phaseNumber, kindNumber}
+use lib.ListN.{length}
 use Rattle.rules.specs.Box.{Box, Letter}
 use Rattle.rules.specs.Site.{Site, freshBox, isBox, isLink}
-use Rattle.row.specs.Row.{flagNumber}
+use Rattle.letter.specs.Place.{kindAt, headWords, wordsOfMail}
+use Rattle.row.specs.Row.{flagAt, bestAt, peersAt, countAt, wordsOf}
 use Rattle.cells.specs.Cells.{chain, cells}
+use Rattle.cells.specs.Groups.{Group, group, groupsBytes}
 
 -- ---- boxes and links in their order
 
@@ -46,45 +47,31 @@ generalBody s =
     ∷ s .present
     ∷ [])
 
--- "Box: flag, state, phase, pn, last, stored pn, stored number, best pn, best number", the set of
--- boxes that answered, "numbered as the present set is" (Q-1), "accept set; then three records
--- (best, waiting, being agreed); n peers' lasts (unknown 4,294,967,295); count of records held, and
--- these."
-unfoldable pub boxBody : ℕ → Box → List ℕ
-boxBody n x =
-    cells 4
-    (flagNumber (x .head .leads)
-    ∷ stateNumber (x .head .state)
-    ∷ phaseNumber (x .head .phase)
-    ∷ x .head .kept .pn
-    ∷ x .head .kept .last
-    ∷ x .head .kept .stored .pn
-    ∷ x .head .kept .stored .number
-    ∷ x .head .best .pn
-    ∷ x .head .best .number
-    ∷ x .head .answered
-    ∷ x .head .accepts
-    ∷ [])
-    ++ (cells 8
-    (x .head .best .value
-    ∷ x .head .waiting
-    ∷ x .head .agreeing
-    ∷ [])
-    ++ (cells 4 (take n (x .head .peers))
-    ++ (cells 4 (length (x .records) ∷ [])
-    ++ cells 8 (x .records))))
+-- "Box:" 4 bytes each for flag to accept set, "then three records ..; n peers' lasts ..; count of
+-- records held, and these." The order of the fields is that of a row's words (`wordsOf`).
+abbrev pub boxGroups : ℕ → List Group
+boxGroups n =
+    group 4 flagAt 11
+    ∷ group 8 bestAt 3
+    ∷ group 4 peersAt n
+    ∷ group 4 countAt 1
+    ∷ []
 
--- "its mails: kind .., pn (0 in Lease), last, unagreed pn, record count, records"
+abbrev pub boxWords : Box → List ℕ
+boxWords x = wordsOf (x .head) (length (x .records))
+
+unfoldable pub boxBody : ℕ → Box → List ℕ
+boxBody n x = groupsBytes (boxGroups n) (boxWords x) ++ cells 8 (x .records)
+
+-- "its mails: kind .., pn (0 in Lease), last, unagreed pn, record count, records": as in a place
+abbrev pub letterGroups : List Group
+letterGroups = group 4 kindAt headWords ∷ []
+
+abbrev pub letterWords : Letter → List ℕ
+letterWords y = wordsOfMail (y .head) (length (y .records))
+
 unfoldable pub letterBytes : Letter → List ℕ
-letterBytes y =
-    cells 4
-    (kindNumber (y .head .kind)
-    ∷ y .head .pn
-    ∷ y .head .last
-    ∷ y .head .unagreed
-    ∷ length (y .records)
-    ∷ [])
-    ++ cells 8 (y .records)
+letterBytes y = groupsBytes letterGroups (letterWords y) ++ cells 8 (y .records)
 
 -- "each a count and its mails"
 unfoldable pub linkBytes : List Letter → List ℕ

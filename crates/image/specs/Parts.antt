@@ -5,15 +5,16 @@ use mathlib.Core.Bool.{true}
 use mathlib.Core.Bool.{cond}
 use Prim.Native.Nat.{ℕ, _+_, _-_, _*_, _^_, _≤_}
 use mathlib.Core.List.{List, [], _∷_, _++_, map}
-use lib.ListN.{length, getD, replicate}
-use Rattle.words.specs.Rows.{part}
-use Rattle.rules.specs.Sizes.{mostBoxes, mostEpoch, unknown, within, sizesForm, proper}
+use lib.ListN.{length, getD}
+use Rattle.rules.specs.Sizes.{mostEpoch, unknown, within, sizesForm, proper}
 use Rattle.rules.specs.Sets.{setForm}
 use Rattle.rules.specs.Box.{Box, Letter}
 use Rattle.rules.specs.Site.{Site}
 use Rattle.rules.specs.Form.{formBox, formLetter}
+use Rattle.row.specs.Row.{headWords}
 use Rattle.cells.specs.Cells.{chain, cells, All, Below, Many}
-use Rattle.image.specs.Image.{boxesOf, linksOf, boxBody, linkBytes}
+use Rattle.cells.specs.Groups.{groupsBytes, GroupedWords}
+use Rattle.image.specs.Image.{boxesOf, linksOf, boxBody, boxGroups, linkBytes}
 
 -- ---- by form
 
@@ -48,22 +49,13 @@ pub record Words (m : ℕ) (w : List ℕ) : Type 0 where
   pub width : length w ≡ m
   pub below : Below (256 ^ 4) w
 
--- a box's fields and its count of records, of the twenty words of its row
-unfoldable pub headBytes : ℕ → List ℕ → List ℕ
-headBytes n w =
-    cells 4 (part w 0 11)
-    ++ (cells 8 (part w 11 3)
-    ++ (cells 4 (part w 14 n)
-    ++ cells 4 (part w 19 1)))
+-- a box's fields and its count of records, of the words of its row's head
+abbrev pub headBytes : ℕ → List ℕ → List ℕ
+headBytes n = groupsBytes (boxGroups n)
 
--- the twenty words are such as bytes hold, and those of peers above n are unknown
-pub record HeadWords (n : ℕ) (w : List ℕ) : Type 0 where
-  pub width : length w ≡ 20
-  pub fields : Below (256 ^ 4) (part w 0 11)
-  pub records : Below (256 ^ 8) (part w 11 3)
-  pub peers : Below (256 ^ 4) (part w 14 n)
-  pub none : part w (14 + n) (mostBoxes - n) ≡ replicate (mostBoxes - n) unknown
-  pub count : Below (256 ^ 4) (part w 19 1)
+-- the words are such as bytes hold, and those of peers above n are unknown
+abbrev pub HeadWords : ℕ → List ℕ → Type 0
+HeadWords n = GroupedWords (boxGroups n) headWords unknown
 
 -- ---- all bodies
 

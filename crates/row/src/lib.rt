@@ -78,6 +78,8 @@ pub const AGREEING: usize = 13;
 // Peer k stands k places behind this.
 pub const BEFORE_PEERS: usize = 13;
 
+pub const PEERS: usize = 14;
+
 pub const COUNT: usize = 19;
 
 pub const HEAD: usize = 20;

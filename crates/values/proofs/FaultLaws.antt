@@ -24,16 +24,16 @@ whole-then (t ∷ ts) rest = go (whole-then ts rest) (t .holds)
     go more true = more
     go more false = refl
 
+pub whole-none : (f : Fault) → isWhole f ≡ true → f ≡ Fault.None
+whole-none Fault.None h = refl
+whole-none (Fault.At x) h = absurd (false≢true h)
+
 -- Where nothing is amiss, nothing was before and nothing is behind.
 pub then-passed : (ts : List Test) (rest : Fault) → faultThen ts rest ≡ Fault.None
     → (all (holdsOf ts) ≡ true) × (rest ≡ Fault.None)
 then-passed ts rest e =
     let t : (all (holdsOf ts) && isWhole rest) ≡ true = sym (whole-then ts rest) ∙ ap isWhole e in
-    (first-of (all (holdsOf ts)) _ t, none rest (second-of (all (holdsOf ts)) _ t))
-  where
-    none : (f : Fault) → isWhole f ≡ true → f ≡ Fault.None
-    none Fault.None h = refl
-    none (Fault.At x) h = absurd (false≢true h)
+    (first-of (all (holdsOf ts)) _ t, whole-none rest (second-of (all (holdsOf ts)) _ t))
 
 pub passed-then : (ts : List Test) {rest : Fault} → all (holdsOf ts) ≡ true → rest ≡ Fault.None
     → faultThen ts rest ≡ Fault.None

@@ -10,7 +10,7 @@ use Rattle.cells.proofs.WalkLaws.{walk-none, walk-more, walk-all, walk-stop}
 use Rattle.le.specs.Le.{le}
 use Rattle.cells.proofs.CodeLaws.{le-code}
 use Rattle.image.specs.Parts.{GoodRecord}
-use Rattle.image.proofs.LetterLaws.{proper-below}
+use Rattle.image.proofs.RecordLaws.{proper-below}
 use Rattle.checker.proofs.mail.check_records.Statement.{statement}
 use Rattle.checker.proofs.mail.check_records.Tie as tie
 

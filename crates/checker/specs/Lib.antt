@@ -1,2 +1,0 @@
--- What the contracts of `checker` cite.
-pub mod Heads

@@ -1,0 +1,101 @@
+-- Things whose bytes are the words of a head, in groups, and then records: boxes and letters. One
+-- family of laws: they are told from their bytes, and found or not where a head was read.
+use mathlib.Core.Path.{_≡_, sym, ap, _∙_}
+use mathlib.Core.Bool.{Bool, true, false, false≢true}
+use Prim.Native.Nat.{ℕ}
+use mathlib.Core.List.{List, _++_}
+use lib.ListN.{length, getD}
+use Rattle.cells.specs.declared.Walk.{Walk}
+use Rattle.cells.specs.Cells.{cells, All, Stands, NoneAt, WalkIs, Many}
+use Rattle.cells.specs.Groups.{Group, groupsBytes, Cut, GroupedWords}
+use Rattle.cells.proofs.StandLaws.{stands-seq, stands-as}
+use Rattle.cells.proofs.CodeLaws.{Code, Parts, told, told-code}
+use Rattle.cells.proofs.GroupLaws.{groups-code}
+use Rattle.image.specs.Parts.{GoodRecord}
+use Rattle.image.proofs.RecordLaws.{records-code}
+
+-- a thing's words, its records, and how many these are
+pub record Headed {A : Type 0} (enc : A → List ℕ) (Good : A → Type 0) : Type 0 where
+  pub groups : List Group
+  pub width : ℕ
+  pub rest : ℕ
+  pub count-at : ℕ
+  pub cut : Cut 0 width groups
+  pub words : A → List ℕ
+  pub records : A → List ℕ
+  pub split : (x : A) → enc x ≡ groupsBytes groups (words x) ++ cells 8 (records x)
+  pub range : (x : A) → Good x → GroupedWords groups width rest (words x)
+  pub count : (x : A) → getD (words x) count-at 0 ≡ length (records x)
+  pub proper : (x : A) → Good x → All GoodRecord (records x)
+  pub back : (x y : A) → Good x → Good y → words x ≡ words y → records x ≡ records y → x ≡ y
+
+module _ {A : Type 0} {enc : A → List ℕ} {Good : A → Type 0} (H : Headed enc Good) where
+  abbrev pub headed-parts : Parts enc Good (groupsBytes (H .groups))
+      (GroupedWords (H .groups) (H .width) (H .rest))
+  headed-parts = record {
+    code = groups-code (H .groups) (H .width) (H .rest) (H .cut);
+    first = H .words;
+    rest = λ x. cells 8 (H .records x);
+    split = λ x g. H .split x;
+    range = H .range;
+  }
+
+  pub headed-code : Code enc Good
+  headed-code x y r s g h e =
+      let t = told-code headed-parts x y r s g h e in
+      let n : length (H .records x) ≡ length (H .records y) =
+      sym (H .count x) ∙ ap (λ (w : List ℕ). getD w (H .count-at) 0) (t .0) ∙ H .count y in
+      H .back x y g h (t .0)
+      (records-code (H .records x) (H .records y) r s n (H .proper x g) (H .proper y h) (t .1))
+
+-- ---- found by a test of its words
+
+-- the test of a head, and what it is the test of
+pub record Judged {A : Type 0} {enc : A → List ℕ} {Range : A → Type 0} (H : Headed enc Range)
+    (Good : A → Type 0) : Type 0 where
+  pub test : List ℕ → Bool
+  pub fits : (x : A) → Good x → Range x
+  pub passes : (x : A) → Good x → test (H .words x) ≡ true
+  pub made : List ℕ → List ℕ → A
+  pub good : (w rs : List ℕ) → GroupedWords (H .groups) (H .width) (H .rest) w → test w ≡ true
+      → length rs ≡ getD w (H .count-at) 0 → All GoodRecord rs → Good (made w rs)
+  pub words : (w rs : List ℕ) → GroupedWords (H .groups) (H .width) (H .rest) w → test w ≡ true
+      → length rs ≡ getD w (H .count-at) 0 → w ≡ H .words (made w rs)
+  pub records : (w rs : List ℕ) → rs ≡ H .records (made w rs)
+
+module _ {A : Type 0} {enc : A → List ℕ} {Range : A → Type 0} (H : Headed enc Range)
+    {Good : A → Type 0} (T : Judged H Good) (src : List ℕ) (at p : ℕ) (w : List ℕ)
+    (g : GroupedWords (H .groups) (H .width) (H .rest) w)
+    (s : Stands (groupsBytes (H .groups) w) src at p) where
+  -- The words are those of any such thing that stands there.
+  headed-told : (x : A) (q : ℕ) → Good x → Stands (enc x) src at q
+      → (w ≡ H .words x) × Stands (cells 8 (H .records x)) src p q
+  headed-told x q h v = told (headed-parts H) w g s x q (T .fits x h) v
+
+  pub headed-none : T .test w ≡ false → NoneAt enc Good src at
+  headed-none f x q h v =
+      let same : T .test w ≡ true = ap (T .test) (headed-told x q h v .0) ∙ T .passes x h in
+      absurd (false≢true (sym f ∙ same))
+
+  pub headed-then : T .test w ≡ true → (count : ℕ) → count ≡ getD w (H .count-at) 0 → (r : Walk)
+      → WalkIs (cells 8) (Many (λ i. GoodRecord) count) src p r → WalkIs enc Good src at r
+  headed-then t count c (Walk.Next q) f =
+      let rs = f .thing in
+      let x = T .made w rs in
+      let n : length rs ≡ getD w (H .count-at) 0 = f .good .count ∙ c in
+      let e : w ≡ H .words x = T .words w rs g t n in
+      record {
+        thing = x;
+        good = T .good w rs g t n (f .good .each);
+        stands = stands-as (sym (H .split x))
+            (stands-seq (stands-as (ap (groupsBytes (H .groups)) e) s)
+            (stands-as (ap (cells 8) (T .records w rs)) (f .stands)));
+      }
+  headed-then t count c Walk.Bad none = λ x q h v.
+      let e = headed-told x q h v in
+      none (H .records x) q
+      (record {
+        count = sym (c ∙ ap (λ (u : List ℕ). getD u (H .count-at) 0) (e .0) ∙ H .count x);
+        each = H .proper x (T .fits x h);
+      })
+      (e .1)
