@@ -12,18 +12,18 @@ use Rattle.le.specs.Le.{le, Number}
 use Rattle.le.proofs.LeLaws.{length-le}
 use Rattle.rules.specs.Sizes.{mostBoxes, mostLoads}
 use Rattle.rules.specs.Box.{Box}
-use Rattle.laws.proofs.FormLaws.{box-says}
 use Rattle.row.specs.Row.{flagNumber}
-use Rattle.cells.specs.Cells.{chain, Each, Stands, Found, NoneAt, Many}
+use Rattle.cells.specs.Cells.{chain, cells, Each, Stands, Found, NoneAt, Many}
 use Rattle.cells.proofs.ChainLaws.{chain-snoc, chain-map, each-snoc}
 use Rattle.cells.proofs.StandLaws.{stands-nil, stands-seq, stands-as, stands-le, stands-first}
 use Rattle.cells.proofs.CodeLaws.{le-code, same-thing}
 use Rattle.cells.proofs.WalkLaws.{walk-stop}
-use Rattle.image.specs.Image.{boxBody, contents}
+use Rattle.cells.specs.Groups.{groupBytes, groupsBytes}
+use Rattle.image.specs.Image.{boxGroups, boxWords, boxBody, contents}
 use Rattle.image.specs.Parts.{GoodBox, GoodBoxes, leaders}
 use Rattle.image.proofs.OrderLaws.{map-append}
 use Rattle.image.specs.Parts.{SomeBox}
-use Rattle.image.proofs.BoxLaws.{box-code}
+use Rattle.image.proofs.BoxLaws.{box-split, box-code}
 use Rattle.image.proofs.Lengths.{length-box}
 use Rattle.image.proofs.ListedLaws.{leaders-snoc, boxes-code}
 use Rattle.image.proofs.TableLaws.{contents-append}
@@ -70,15 +70,27 @@ flag-few : (b : Bool) → flagNumber b < 256 ^ 4
 flag-few true = omega arith
 flag-few false = omega arith
 
+number-first : (f : ℕ) (xs y z : List ℕ) → take 4 ((cells 4 (f ∷ xs) ++ y) ++ z) ≡ le 4 f
+unfolding chain
+number-first f xs y z =
+    ap (take 4) (append-assoc (cells 4 (f ∷ xs)) y z
+    ∙ append-assoc (le 4 f) (cells 4 xs) (y ++ z))
+    ∙ take-at (le 4 f) (cells 4 xs ++ (y ++ z)) 4 (length-le 4 f)
+
+head-first : (n : ℕ) (x : Box)
+    → take 4 (groupsBytes (boxGroups n) (boxWords x) ++ cells 8 (x .records))
+    ≡ le 4 (flagNumber (x .head .leads))
+unfolding groupsBytes chain
+head-first n x =
+    number-first (flagNumber (x .head .leads)) (part (boxWords x) 1 10)
+    (chain (groupBytes (boxWords x)) (drop 1 (boxGroups n))) (cells 8 (x .records))
+
 -- A box's bytes begin with its flag.
 flag-first : (n : ℕ) (x : Box)
     → boxBody n x ≡ le 4 (flagNumber (x .head .leads)) ++ drop 4 (boxBody n x)
-unfolding boxBody chain
 flag-first n x =
-    let f = flagNumber (x .head .leads) in
     sym (take-append-drop 4 (boxBody n x))
-    ∙ ap (λ (l : List ℕ). l ++ drop 4 (boxBody n x))
-    (ap (take 4) (append-assoc (le 4 f) _ _) ∙ take-at (le 4 f) _ 4 (length-le 4 f))
+    ∙ ap (λ (l : List ℕ). l ++ drop 4 (boxBody n x)) (ap (take 4) (box-split n x) ∙ head-first n x)
 
 module _ (n J : ℕ) (few : n ≤ mostBoxes) (src : List ℕ) (p q : ℕ) where
   -- There is room for it where a box stands.
@@ -86,7 +98,7 @@ module _ (n J : ℕ) (few : n ≤ mostBoxes) (src : List ℕ) (p q : ℕ) where
   flag-room b f =
       let e = f .stands .next in
       let room = f .stands .room in
-      omega (arith, length-box n (f .thing) few (box-says (f .good) .places))
+      omega (arith, length-box n (f .thing) few)
 
   -- So the word that is read there says whether the box leads.
   pub flag-told : (x : Box) → Stands (boxBody n x) src p q → (f : ℕ) → p + 4 ≤ length src

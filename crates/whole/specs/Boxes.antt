@@ -1,45 +1,13 @@
--- What the functions on boxes in bytes answer: a box's head, and all boxes with their entries in
--- the table of contents.
+-- What the functions on boxes in bytes answer: all boxes with their entries in the table of contents.
 use mathlib.Core.Path.{_≡_}
-use mathlib.Core.Bool.{Bool}
-use Prim.Native.Nat.{ℕ, _+_, _-_, _*_, _^_, _≤_}
-use mathlib.Core.List.{List, [], _∷_, _++_, map}
-use lib.ListN.{length, take, getD}
-use Rattle.words.specs.Rows.{part}
-use Rattle.rules.specs.Every.{all, every}
-use Rattle.rules.specs.Sizes.{mostBoxes}
+use Prim.Native.Nat.{ℕ, _+_, _*_, _≤_}
+use mathlib.Core.List.{List, _++_, map}
+use lib.ListN.{take}
 use Rattle.rules.specs.Box.{Box}
-use Rattle.rules.specs.Form.{countForm, peerForm}
-use Rattle.row.specs.Row.{headOf}
-use Rattle.row.specs.Lent.{numbersFit, valuesFit}
 use Rattle.cells.specs.declared.Walk.{Walk}
-use Rattle.cells.specs.Cells.{chain, Below, Stands, Found, NoneAt}
+use Rattle.cells.specs.Cells.{chain, Found, NoneAt}
 use Rattle.image.specs.Image.{boxBody, contents}
-use Rattle.image.specs.Parts.{headBytes, GoodBoxes, leaders}
-
--- ---- a box
-
--- the twenty words w have become v: a box's head stands at `at`, r is the place behind it, and the
--- words of peers above n are as they were
-pub record HeadRead (n : ℕ) (src : List ℕ) (at : ℕ) (w v : List ℕ) (r : ℕ) : Type 0 where
-  pub width : length v ≡ 20
-  pub stands : Stands (headBytes n v) src at r
-  pub fields : Below (256 ^ 4) (part v 0 11)
-  pub records : Below (256 ^ 8) (part v 11 3)
-  pub peers : Below (256 ^ 4) (part v 14 n)
-  pub count : Below (256 ^ 4) (part v 19 1)
-  pub rest : part v (14 + n) (mostBoxes - n) ≡ part w (14 + n) (mostBoxes - n)
-
--- by form of a box, but for its records: what its twenty words show
-unfoldable pub boxHead : ℕ → ℕ → ℕ → List ℕ → Bool
-boxHead n J b w =
-    all (numbersFit J w
-    ∷ valuesFit n w
-    ∷ every mostBoxes (peerForm n J b (headOf n w .peers))
-    ∷ countForm J (getD w 4 0) (getD w 19 0)
-    ∷ [])
-
--- ---- all boxes
+use Rattle.image.specs.Parts.{GoodBoxes, leaders}
 
 -- "at most one leader"
 pub record LedBoxes (n J : ℕ) (xs : List Box) : Type 0 where

@@ -10,7 +10,7 @@ ghost use Rattle.rules.specs.Sizes.{sizesForm};
 ghost use Rattle.whole.specs.Whole.{MailIs, RestIs, ListedIs};
 
 // The links of n boxes.
-fn check_mail(src: &[u8], at: usize, n: usize, j: usize, l: usize, table: &mut [u64]) -> Walk
+fn check_mail(src: &[u8], at: usize, n: usize, j: u32, l: usize, table: &mut [u64]) -> Walk
     requires { ⌜ at ≤ length (now src) ⌝ }
     requires { ⌜ sizesForm n j l ≡ true ⌝ }
     requires { ⌜ 5 + 2 * n ≤ length (now table) ⌝ }
@@ -38,7 +38,7 @@ fn check_rest(src: &[u8], at: usize, n: u32, j: u32, l: u32, table: &mut [u64]) 
 {
     let r = boxes::check_boxes(src, at, n, j, table);
     match r {
-        Walk::Next(p) => check_mail(src, p, n as usize, j as usize, l as usize, table),
+        Walk::Next(p) => check_mail(src, p, n as usize, j, l as usize, table),
         Walk::Bad => Walk::Bad,
     }
 }

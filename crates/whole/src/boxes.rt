@@ -1,5 +1,6 @@
-// Boxes in bytes: the twenty words of a head, then its records.
+// Boxes in bytes: the words of a head, then its records.
 use cells::Walk;
+use values::Fault;
 use words::size;
 use words::word;
 ghost use mathlib.Core.Path.{_≡_};
@@ -10,33 +11,7 @@ ghost use Rattle.rules.specs.Sizes.{mostBoxes, mostLoads};
 ghost use Rattle.cells.specs.Cells.{WalkIs};
 ghost use Rattle.image.specs.Image.{boxBody};
 ghost use Rattle.image.specs.Parts.{GoodBox};
-ghost use Rattle.whole.specs.Boxes.{HeadRead, boxHead, BoxesAre};
-
-// The words of a box's head are read into `head`, but those of peers above n. The place behind them
-// is answered.
-pub fn get_head(src: &[u8], at: usize, n: usize, head: &mut [u64]) -> usize
-    requires { ⌜ (n ≤ mostBoxes) × (length (now head) ≡ 20) ⌝ }
-    requires { ⌜ at + (72 + 4 * n) ≤ length (now src) ⌝ }
-    ensures { λ r.
-        ⌜ HeadRead n (now (src .entry)) at (now (head .entry)) (now (head .exit)) r ⌝ }
-{
-    let a = cells::get_words(src, at, 4, &mut head[0..11]);
-    let b = cells::get_words(src, a, 8, &mut head[11..14]);
-    let c = cells::get_words(src, b, 4, &mut head[14..14 + n]);
-    cells::get_words(src, c, 4, &mut head[19..20])
-}
-
-// A box's twenty words are by form.
-fn is_head(w: &[u64], n: u32, j: u32, b: u32) -> bool
-    requires { ⌜ length (now w) ≡ 20 ⌝ }
-    ensures { λ r. ⌜ r ≡ boxHead n j b (now (w .entry)) ⌝ }
-{
-    let numbers = row::numbers_fit(w, j);
-    let values = row::values_fit(w, n);
-    let peers = row::are_peers(w, n, j, b);
-    let counted = values::is_count(j, w[4], w[19]);
-    numbers & values & peers & counted
-}
+ghost use Rattle.whole.specs.Boxes.{BoxesAre};
 
 // Box b of n.
 pub fn check_box(src: &[u8], at: usize, n: u32, j: u32, b: u32) -> Walk
@@ -48,13 +23,15 @@ pub fn check_box(src: &[u8], at: usize, n: u32, j: u32, b: u32) -> Walk
     if src.len() - at < 72 + 4 * peers {
         return Walk::Bad;
     }
-    let mut w = [4294967295u64; 20];
-    let p = get_head(src, at, peers, &mut w);
-    let count = size(w[19]);
-    if is_head(&w, n, j, b) {
-        return checker::mail::check_records(src, p, count);
+    let mut w = [4294967295u64; row::HEAD];
+    let groups = image::box_groups(peers);
+    let p = cells::get_groups(src, at, &groups, &mut w);
+    let count = size(w[row::COUNT]);
+    let f = row::head_fault(&w, n, j, b);
+    match f {
+        Fault::None => checker::mail::check_records(src, p, count),
+        Fault::At(_) => Walk::Bad,
     }
-    Walk::Bad
 }
 
 // The entry of a body from p to q goes behind the first k words of a table of contents.
