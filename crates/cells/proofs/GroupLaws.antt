@@ -3,11 +3,13 @@
 use mathlib.Core.Path.{_≡_, refl, sym, ap, _∙_, subst}
 use mathlib.Core.Bool.{Bool, true, false}
 use Prim.Native.Nat.{ℕ, zero, suc, _+_, _-_, _*_, _/_, _^_, _≤_, _<_}
+use native.Mathlib.Nat.{add-sub-cancel-left}
 use native.Mathlib.Numerals.{add-one}
 use native.Mathlib.Omega.{arith}
 use mathlib.Core.List.{List, [], _∷_, _++_}
 use lib.Dec.{leb, ltb}
-use lib.ListN.{length, take, getD, replicate, length-append, length-replicate, getD-replicate}
+use lib.ListN.{length, take, drop, getD, replicate, length-append, length-replicate, getD-replicate}
+use lib.Seq.{take-at, drop-at, drop-drop}
 use lib.Seq.{ext-getD, take-suc, take-all, length-take-le, take-take, getD-take}
 use borrow.Author.Tests.{leb-true, leb-false, ltb-true, ltb-false}
 use Rattle.words.specs.Rows.{part, splice}
@@ -393,3 +395,17 @@ module _ (ns : List ℕ) (i : ℕ) (h : i < length ns / 3) (src : List ℕ) (at 
       (groups-next (groupsOf ns) src at w 0 cut i (group-here ns i h) v d g
       (r .count ∙ sym (ap (λ (x : Group). x .count) e))
       (subst (λ (k : ℕ). Read k src p d q) (sym (ap (λ (x : Group). x .width) e)) (r .read)))
+
+-- Behind a head v, m records ys take the place of what the row w had there.
+pub headed-put : (v w : List ℕ) {tail : List ℕ} (h m : ℕ) (ys : List ℕ) → tail ≡ drop h w
+    → length v ≡ h → length ys ≡ m
+    → splice (v ++ tail) h (h + m - h) ys ≡ v ++ (ys ++ drop (h + length ys) w)
+headed-put v w {tail} h m ys t e n =
+    rw (
+      add-sub-cancel-left,
+      take-at v tail h e,
+      drop-at v tail h e,
+      t,
+      drop-drop m h w,
+      n,
+    )

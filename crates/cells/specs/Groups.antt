@@ -2,8 +2,8 @@
 -- is the layout of a head, said once for whoever writes it, finds it or reads it.
 use mathlib.Core.Path.{_≡_}
 use Prim.Native.Nat.{ℕ, _+_, _*_, _^_, _≤_, _<_}
-use mathlib.Core.List.{List, [], _∷_}
-use lib.ListN.{length, getD}
+use mathlib.Core.List.{List, [], _∷_, _++_}
+use lib.ListN.{length, drop, getD}
 use Rattle.words.specs.Rows.{part, splice}
 use Rattle.cells.specs.Cells.{chain, cells, All, Below, Stands, Read}
 
@@ -73,3 +73,28 @@ pub record GroupsRead (gs : List Group) (src : List ℕ) (at : ℕ) (w v : List 
     pub stands : Stands (groupsBytes gs v) src at r
     pub below : All (GroupFits v) gs
     pub rest : (k : ℕ) → Outside gs k → getD v k 0 ≡ getD w k 0
+
+-- ---- a head in groups, and behind it as many records as its word `count` says
+
+abbrev pub headedBytes : List Group → ℕ → ℕ → List ℕ → List ℕ
+headedBytes gs head count r = groupsBytes gs r ++ cells 8 (part r head (getD r count 0))
+
+-- whatever head stands at `at`, its records have room in m words and stand behind it
+pub record RecordsThere (gs : List Group) (head count rest : ℕ) (src : List ℕ) (at m : ℕ) : Type 0
+  where
+    pub room : (v : List ℕ) (p : ℕ) → GroupedWords gs head rest v
+        → Stands (groupsBytes gs v) src at p
+        → (head + getD v count 0 ≤ m) × (p + getD v count 0 * 8 ≤ length src)
+
+-- the words w have become z: the head v and its records stand at `at`, r is the place behind them,
+-- and what lies behind the records is as it was
+pub record HeadedRead (gs : List Group) (head count rest : ℕ) (src : List ℕ) (at : ℕ)
+    (w z : List ℕ) (r : ℕ) : Type 0 where
+  pub words : List ℕ
+  pub records : List ℕ
+  pub place : ℕ
+  pub grouped : GroupedWords gs head rest words
+  pub stands : Stands (groupsBytes gs words) src at place
+  pub long : length records ≡ getD words count 0
+  pub read : Read 8 src place records r
+  pub row : z ≡ words ++ (records ++ drop (head + length records) w)

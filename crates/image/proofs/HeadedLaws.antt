@@ -1,18 +1,21 @@
 -- Things whose bytes are the words of a head, in groups, and then records: boxes and letters. One
 -- family of laws: they are told from their bytes, and found or not where a head was read.
-use mathlib.Core.Path.{_≡_, sym, ap, _∙_}
+use mathlib.Core.Path.{_≡_, sym, ap, _∙_, subst}
 use mathlib.Core.Bool.{Bool, true, false, false≢true}
-use Prim.Native.Nat.{ℕ}
+use Prim.Native.Nat.{ℕ, _+_, _^_, _≤_, _<_}
+use native.Mathlib.Omega.{arith}
 use mathlib.Core.List.{List, _++_}
-use lib.ListN.{length, getD}
+use lib.ListN.{length, drop, getD}
 use Rattle.cells.specs.declared.Walk.{Walk}
-use Rattle.cells.specs.Cells.{cells, All, Stands, NoneAt, WalkIs, Many}
-use Rattle.cells.specs.Groups.{Group, groupsBytes, Cut, GroupedWords}
+use Rattle.cells.specs.Cells.{cells, All, Stands, Found, NoneAt, WalkIs, Many, Has}
+use Rattle.cells.specs.Groups.{Group, groupsOf, groupsBytes, groupsLength, Cut}
+use Rattle.cells.specs.Groups.{GroupedWords, RecordsThere, HeadedRead}
+use Rattle.cells.proofs.ChainLaws.{length-cells}
 use Rattle.cells.proofs.StandLaws.{stands-seq, stands-as}
 use Rattle.cells.proofs.CodeLaws.{Code, Parts, told, told-code}
 use Rattle.cells.proofs.GroupLaws.{groups-code}
 use Rattle.image.specs.Parts.{GoodRecord}
-use Rattle.image.proofs.RecordLaws.{records-code}
+use Rattle.image.proofs.RecordLaws.{records-code, same-records}
 
 -- a thing's words, its records, and how many these are
 pub record Headed {A : Type 0} (enc : A → List ℕ) (Good : A → Type 0) : Type 0 where
@@ -99,3 +102,64 @@ module _ {A : Type 0} {enc : A → List ℕ} {Range : A → Type 0} (H : Headed 
         each = H .proper x (T .fits x h);
       })
       (e .1)
+
+-- ---- read into words
+
+module _ {A : Type 0} {enc : A → List ℕ} {Good : A → Type 0} (H : Headed enc Good) (src : List ℕ)
+    (at : ℕ) where
+  -- Where such a thing stands, its records have room in m words.
+  records-there : (m : ℕ) → ((x : A) → Good x → H .width + length (H .records x) ≤ m)
+      → Has enc Good src at
+      → RecordsThere (H .groups) (H .width) (H .count-at) (H .rest) src at m
+  records-there m few h = record {
+    room = λ v p g s.
+        let f = h .found in
+        let x = f .thing in
+        let t = told (headed-parts H) v g s x (h .place) (f .good) (f .stands) in
+        let n : getD v (H .count-at) 0 ≡ length (H .records x) =
+        ap (λ (w : List ℕ). getD w (H .count-at) 0) (t .0) ∙ H .count x in
+        let next = t .1 .next in
+        let room = t .1 .room in
+        (omega (arith, few x (f .good)), omega (arith, length-cells 8 (H .records x)));
+  }
+
+  -- what `get_headed` asks of m words, with the groups gs
+  abbrev pub Asked : ℕ → List Group → Type 0
+  Asked m gs =
+      Cut 0 (H .width) gs
+      × (((H .count-at < H .width) × (H .width ≤ m) × (m < 2 ^ 64))
+      × ((at + groupsLength gs ≤ length src)
+      × RecordsThere gs (H .width) (H .count-at) (H .rest) src at m))
+
+  pub headed-asks : (ns : List ℕ) (m : ℕ) → groupsOf ns ≡ H .groups
+      → (H .count-at < H .width) × (H .width ≤ m) × (m < 2 ^ 64)
+      → ((x : A) → groupsLength (H .groups) ≤ length (enc x))
+      → ((x : A) → Good x → H .width + length (H .records x) ≤ m) → Has enc Good src at
+      → Asked m (groupsOf ns)
+  headed-asks ns m e sizes least few h =
+      let f = h .found in
+      let next = f .stands .next in
+      let room = f .stands .room in
+      subst (Asked m) (sym e) (
+        H .cut,
+        (sizes, (omega (arith, least (f .thing)), records-there m few h)),
+      )
+
+  -- What was read is the thing that stands there.
+  pub headed-read : (ns : List ℕ) → groupsOf ns ≡ H .groups → {w z : List ℕ} {r : ℕ}
+      → HeadedRead (groupsOf ns) (H .width) (H .count-at) (H .rest) src at w z r
+      → (q : ℕ) (f : Found enc Good src at q)
+      → (z ≡ H .words (f .thing) ++ (H .records (f .thing)
+      ++ drop (H .width + length (H .records (f .thing))) w)) × (r ≡ q)
+  headed-read ns u {w} {z} {r} g' q f =
+      let g = subst (λ (gs : List Group).
+      HeadedRead gs (H .width) (H .count-at) (H .rest) src at w z r) u g' in
+      let x = f .thing in
+      let t = told (headed-parts H) (g .words) (g .grouped) (g .stands) x q (f .good) (f .stands) in
+      let n : length (g .records) ≡ length (H .records x) =
+      g .long ∙ ap (λ (l : List ℕ). getD l (H .count-at) 0) (t .0) ∙ H .count x in
+      let e = same-records (H .records x) (g .records) n (g .read) (t .1) (H .proper x (f .good)) in
+      (
+        g .row ∙ (λ i. t .0 i ++ (e .0 i ++ drop (H .width + length (e .0 i)) w)),
+        e .1,
+      )

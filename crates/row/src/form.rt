@@ -23,6 +23,7 @@ use crate::PN;
 use crate::STATE;
 use crate::STORED_NUMBER;
 use crate::STORED_PN;
+use crate::UNKNOWN;
 use crate::WAITING;
 use crate::records;
 use values::Fault;
@@ -70,7 +71,7 @@ fn is_peer(w: &[u64], n: u32, j: u32, b: u32, k: u32) -> bool
     let at = BEFORE_PEERS + k as usize;
     let last = w[at];
     let most = j as u64;
-    (last == 4294967295) | ((k != b) & (last <= most))
+    (last == UNKNOWN) | ((k != b) & (last <= most))
 }
 
 fn peer_fault(w: &[u64], n: u32, j: u32, b: u32, rest: Fault) -> Fault

@@ -84,6 +84,9 @@ pub const COUNT: usize = 19;
 
 pub const HEAD: usize = 20;
 
+// The last of a peer that is not known.
+pub const UNKNOWN: u64 = 4294967295;
+
 pub fn state_of(x: u64) -> State
     ensures { λ r. ⌜ r ≡ stateOf x ⌝ }
 {

@@ -1,103 +1,45 @@
 -- A letter and a link, as they stand in an image and as their words hold them.
 use mathlib.Core.Path.{_≡_, refl, sym, ap, _∙_, subst}
-use Prim.Native.Nat.{ℕ, _+_, _-_, _*_, _^_, _≤_, _<_}
+use Prim.Native.Nat.{ℕ, _+_, _-_, _*_, _≤_, _<_}
 use native.Mathlib.Nat.{mul-le-mul-right}
 use native.Mathlib.Omega.{arith}
 use mathlib.Core.List.{List, [], _∷_, _++_, append-nil, map}
 use lib.ListN.{length, drop, getD, set, length-drop}
-use lib.Seq.{ext-getD, drop-length}
+use lib.Seq.{ext-getD, drop-length, take-at}
+use borrow.Author.Tests.{le-leb}
 use Rattle.words.specs.Rows.{part, splice, rows}
 use Rattle.words.proofs.RowLaws.{length-rows, rows-at, take-rows, length-table, table-get}
 use Rattle.words.proofs.RingLaws.{ring-flat}
-use Rattle.rules.specs.Every.{each}
+use Rattle.rules.specs.Every.{all, each}
 use Rattle.rules.specs.Sizes.{mostLoads}
 use Rattle.rules.specs.Box.{Letter}
 use Rattle.laws.proofs.Logic.{each-made}
-use Rattle.laws.proofs.FormLaws.{letter-says}
 use Rattle.letter.specs.Place.{letterAt, placeFits}
-use Rattle.letter.proofs.EncloseLaws.{filled, filled-letter, filled-fits}
+use Rattle.letter.proofs.KindLaws.{kind-in}
 use Rattle.link.specs.Link.{placeWidth, linkWidth, places, linkOf}
 use Rattle.link.specs.Holds.{LinkSizes, Holds}
 use Rattle.link.proofs.LinkLaws.{fits-made, two-set, length-link}
-use Rattle.cells.specs.Cells.{chain, cells, All, Stands, Read, Found, Many, Has}
-use Rattle.cells.proofs.ChainLaws.{length-cells, each-map}
-use Rattle.cells.proofs.CodeLaws.{cells-code, told}
-use Rattle.image.specs.Image.{letterBytes, linkBytes}
-use Rattle.image.specs.Parts.{GoodRecord, GoodLetter, GoodLink}
-use Rattle.image.proofs.LetterLaws.{proper-below, letterWords, letter-records, letter-few}
-use Rattle.image.proofs.LetterLaws.{letter-parts, countWord, link-parts}
-use Rattle.image.proofs.Lengths.{length-letter}
+use Rattle.cells.specs.Cells.{chain, Stands, Read, Found, Many, Has}
+use Rattle.cells.proofs.CodeLaws.{told}
+use Rattle.image.specs.Image.{letterWords, letterBytes, linkBytes}
+use Rattle.image.specs.Parts.{GoodLetter, GoodLink}
+use Rattle.image.proofs.LetterLaws.{mail-back, countWord, link-parts}
 use Rattle.image.proofs.Lengths as lengths
 use Rattle.store.specs.Store.{HoldsLetter, HoldsRows, StoredIs}
 
--- Records that were read where those of a thing by form stand are these.
-pub same-records : {src : List ℕ} {p q r : ℕ} (xs ys : List ℕ) → length ys ≡ length xs
-    → Read 8 src p ys r → Stands (cells 8 xs) src p q → All GoodRecord xs
-    → (ys ≡ xs) × (r ≡ q)
-same-records {src} {p} {q} {r} xs ys l g v good =
-    let below = each-map (λ i. GoodRecord) (λ i x. x < 256 ^ 8) (λ i x. proper-below) xs good in
-    let e : ys ≡ xs =
-    cells-code 8 ys xs (drop r src) (drop q src) l (g .below) below
-    (sym (g .stands .here) ∙ v .here) in
-    (e, g .stands .next ∙ ap (λ (x : List ℕ). p + length (cells 8 x)) e ∙ sym (v .next))
-
 -- ---- a letter
 
-pub letter-room : (J : ℕ) (src : List ℕ) (at : ℕ) → Has letterBytes (GoodLetter J) src at
-    → at + 20 ≤ length src
-letter-room J src at x =
-    let f = x .found in
-    let next = f .stands .next in
-    let room = f .stands .room in
-    omega (arith, length-letter (f .thing))
-
--- w are the five words that were read.
-module _ (J : ℕ) (few : J ≤ mostLoads) (src : List ℕ) (at p : ℕ) (w : List ℕ)
-    (five : length w ≡ 5) (g : Read 4 src at w p) where
-  letter-is : (y : Letter) (q : ℕ) → GoodLetter J y → Stands (letterBytes y) src at q
-      → (w ≡ letterWords y) × Stands (cells 8 (y .records)) src p q
-  letter-is y q =
-      told (letter-parts J few) w (record { width = five; below = g .below }) (g .stands) y q
-
-  -- Its records have room in a place, and stand behind the words.
-  pub letter-there : Has letterBytes (GoodLetter J) src at
-      → (getD w 4 0 ≤ J) × (p + getD w 4 0 * 8 ≤ length src)
-  letter-there x =
-      let f = x .found in
-      let t = letter-is (f .thing) (x .place) (f .good) (f .stands) in
-      let count : getD w 4 0 ≡ length (f .thing .records) =
-      ap (λ (v : List ℕ). getD v 4 0) (t .0) in
-      let next = t .1 .next in
-      let room = t .1 .room in (
-        omega (arith, letter-few (letter-says (f .good))),
-        omega (arith, length-cells 8 (f .thing .records)),
-      )
-
-  -- The place when the words and then the records ys are in it.
-  pub letter-stored : (place ys : List ℕ) (m r : ℕ) → length place ≡ 5 + J → m ≡ getD w 4 0
-      → length ys ≡ m → Read 8 src p ys r
-      → StoredIs letterBytes (GoodLetter J) src at
-      (HoldsLetter J (splice (w ++ drop 5 place) 5 (5 + m - 5) ys)) r
-  letter-stored place ys m r wide u long h q f =
-      let y = f .thing in
-      let c = length (y .records) in
-      let t = letter-is y q (f .good) (f .stands) in
-      let count : m ≡ c = u ∙ ap (λ (v : List ℕ). getD v 4 0) (t .0) in
-      let z = same-records (y .records) ys (long ∙ count) h (t .1) (letter-records J y
-      (f .good)) in
-      let room : 5 + c ≤ length place =
-      omega (arith, letter-few (letter-says (f .good))) in
-      let size : 5 + m - 5 ≡ c = omega arith in
-      let here : splice (w ++ drop 5 place) 5 (5 + m - 5) ys
-      ≡ filled place (y .head) (y .records) c refl =
-      λ i. splice (t .0 i ++ drop 5 place) 5 (size i) (z .0 i) in (
-        record {
-          letter = ap letterAt here ∙ filled-letter place (y .head) (y .records) c refl;
-          fits = ap (placeFits J) here
-              ∙ filled-fits place (y .head) (y .records) c refl room J wide;
-        },
-        z .1,
-      )
+-- A place with a letter's words and records holds it.
+pub letter-held : (J : ℕ) (y : Letter) (tail : List ℕ) → length (y .records) ≤ J
+    → HoldsLetter J (letterWords y ++ (y .records ++ tail)) y
+unfolding placeFits all
+letter-held J y tail room =
+    let c = length (y .records) in
+    let m = mail-back (y .head) c in
+    record {
+      letter = λ i. record { head = m i; records = take-at (y .records) tail c refl i };
+      fits = rw (kind-in (y .head .kind), le-leb c J room);
+    }
 
 -- ---- a link
 

@@ -1,5 +1,4 @@
 // The boxes' bodies, each into its row.
-use words::size;
 ghost use mathlib.Core.Path.{_≡_};
 ghost use mathlib.Core.List.{[]};
 ghost use Prim.Native.Nat.{_*_, _≤_};
@@ -21,10 +20,8 @@ fn store_box(src: &[u8], at: usize, n: u32, j: u32, row: &mut [u64]) -> usize
         ⌜ StoredIs (boxBody n) (SomeBox n j) (now (src .entry)) at
         (HoldsBox n j (now (row .exit))) r ⌝ }
 {
-    words::fill(&mut row[0..20], 4294967295);
-    let p = whole::boxes::get_head(src, at, n as usize, &mut row[0..20]);
-    let held = size(row[19]);
-    cells::get_words(src, p, 8, &mut row[20..20 + held])
+    let groups = image::box_groups(n as usize);
+    cells::get_headed(src, at, &groups, row::HEAD, row::COUNT, row::UNKNOWN, row)
 }
 
 // The n boxes go into the first n rows.

@@ -21,9 +21,8 @@ fn store_letter(src: &[u8], at: usize, j: u32, place: &mut [u64]) -> usize
         ⌜ StoredIs letterBytes (GoodLetter j) (now (src .entry)) at
         (HoldsLetter j (now (place .exit))) r ⌝ }
 {
-    let p = cells::get_words(src, at, 4, &mut place[0..5]);
-    let count = size(place[4]);
-    cells::get_words(src, p, 8, &mut place[5..5 + count])
+    let groups = image::letter_groups();
+    cells::get_headed(src, at, &groups, letter::HEAD, letter::COUNT, 0, place)
 }
 
 // n letters go into the first n places.
@@ -36,7 +35,7 @@ fn store_letters(src: &[u8], at: usize, n: usize, j: u32, places: &mut [u64]) ->
         (HoldsRows (HoldsLetter j) (placeWidth j) n (letterAt []) (now (places .entry))
         (now (places .exit))) r ⌝ }
 {
-    let w = 5 + j as usize;
+    let w = letter::HEAD + j as usize;
     let mut p = at;
     let mut i = 0;
     while i < n {

@@ -23,7 +23,7 @@ pub fn check_box(src: &[u8], at: usize, n: u32, j: u32, b: u32) -> Walk
     if src.len() - at < 72 + 4 * peers {
         return Walk::Bad;
     }
-    let mut w = [4294967295u64; row::HEAD];
+    let mut w = [row::UNKNOWN; row::HEAD];
     let groups = image::box_groups(peers);
     let p = cells::get_groups(src, at, &groups, &mut w);
     let count = size(w[row::COUNT]);

@@ -1,11 +1,11 @@
--- `cells::get_group` meets its contract.
+-- `cells::groups::get_group` meets its contract.
 use borrow.Author.Needs.{needs}
 use mathlib.Core.Path.{_∙_}
 use native.Mathlib.Nat.{add-sub-cancel-left}
 use native.Mathlib.Omega.{arith}
 use Rattle.words.proofs.PartLaws.{length-cut}
-use Rattle.cells.proofs.get_group.Statement.{statement}
-use Rattle.cells.proofs.get_group.Tie as tie
+use Rattle.cells.proofs.groups.get_group.Statement.{statement}
+use Rattle.cells.proofs.groups.get_group.Tie as tie
 
 get-words-requires : tie.Need-get-words-requires
 get-words-requires c κs =

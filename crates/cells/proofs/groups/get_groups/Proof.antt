@@ -1,4 +1,4 @@
--- `cells::get_groups` meets its contract: at each turn the first i groups are read.
+-- `cells::groups::get_groups` meets its contract: at each turn the first i groups are read.
 use borrow.Author.Needs.{needs}
 use mathlib.Core.Path.{_≡_, refl, _∙_}
 use Prim.Native.Nat.{_+_, _-_, _/_, _≤_}
@@ -8,8 +8,8 @@ use Rattle.cells.specs.Groups.{groupsOf, groupsLength, GroupsRead}
 use Rattle.cells.proofs.StandLaws.{read-end}
 use Rattle.cells.proofs.GroupLaws.{group-in, group-end, group-read, groups-none, groups-all}
 use Rattle.cells.proofs.GroupLaws.{length-groups-of, length-first-groups, countAt}
-use Rattle.cells.proofs.get_groups.Statement.{statement}
-use Rattle.cells.proofs.get_groups.Tie as tie
+use Rattle.cells.proofs.groups.get_groups.Statement.{statement}
+use Rattle.cells.proofs.groups.get_groups.Tie as tie
 
 abbrev Inv-loop : tie.InvT-loop
 Inv-loop src at groups w₀ n p₀ i₀ w p i =

@@ -1,8 +1,8 @@
--- `cells::put_group` meets its contract.
+-- `cells::groups::put_group` meets its contract.
 use borrow.Author.Needs.{needs}
 use native.Mathlib.Nat.{add-sub-cancel-left}
-use Rattle.cells.proofs.put_group.Statement.{statement}
-use Rattle.cells.proofs.put_group.Tie as tie
+use Rattle.cells.proofs.groups.put_group.Statement.{statement}
+use Rattle.cells.proofs.groups.put_group.Tie as tie
 
 put-words-requires : tie.Need-put-words-requires
 put-words-requires c κs =

@@ -1,4 +1,4 @@
--- `cells::put_groups` meets its contract: at each turn the first i groups are written.
+-- `cells::groups::put_groups` meets its contract: at each turn the first i groups are written.
 use borrow.Author.Needs.{needs}
 use mathlib.Core.Path.{_≡_, refl, _∙_}
 use Prim.Native.Nat.{_-_, _/_, _≤_}
@@ -8,8 +8,8 @@ use Rattle.cells.specs.Cells.{chain, Wrote}
 use Rattle.cells.specs.Groups.{groupBytes, groupsOf, groupsBytes}
 use Rattle.cells.proofs.WriteLaws.{wrote-none, wrote-all, wrote-length}
 use Rattle.cells.proofs.GroupLaws.{group-in, group-room, group-wrote, length-groups-of}
-use Rattle.cells.proofs.put_groups.Statement.{statement}
-use Rattle.cells.proofs.put_groups.Tie as tie
+use Rattle.cells.proofs.groups.put_groups.Statement.{statement}
+use Rattle.cells.proofs.groups.put_groups.Tie as tie
 
 abbrev Inv-loop : tie.InvT-loop
 Inv-loop out₀ at groups w n p₀ i₀ out p i =
