@@ -107,7 +107,7 @@ length-first-groups (g ∷ gs) (suc i) = let r = length-first-groups gs i in ome
 
 -- ---- told from their bytes
 
-abbrev SameIn : List ℕ → List ℕ → Group → Type 0
+abbrev pub SameIn : List ℕ → List ℕ → Group → Type 0
 SameIn v w g = groupWords v g ≡ groupWords w g
 
 -- A word is the same where it is in a group that is, and else where that is shown.
@@ -138,6 +138,14 @@ same-at v w (g ∷ gs) h k none =
     go more false a t b =
         let low = leb-false (g .from) k a in
         more (λ o. none ((λ above below. omega arith), o))
+
+pub groups-as : (v w : List ℕ) (gs : List Group) → All (SameIn v w) gs
+    → groupsBytes gs v ≡ groupsBytes gs w
+unfolding groupsBytes
+groups-as v w gs h =
+    chain-same (groupBytes v) (groupBytes w) gs
+    (each-map (λ j. SameIn v w) (λ j g. groupBytes v g ≡ groupBytes w g)
+    (λ j g e. ap (cells (g .width)) e) gs h)
 
 groups-same : (gs : List Group) (low m : ℕ) (v w r s : List ℕ) → Cut low m gs
     → length v ≡ m → length w ≡ m → All (GroupFits v) gs → All (GroupFits w) gs

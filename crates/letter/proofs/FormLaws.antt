@@ -160,6 +160,18 @@ kindForm J p =
     formKind (mailAt p .kind) J (mailAt p .pn) (mailAt p .last) (mailAt p .unagreed)
     (length (letterAt p .records))
 
+-- What a place shows where it fits.
+pub fits-says : (J : ℕ) (p : List ℕ) → placeFits J p ≡ true
+    → (1 ≤ getD p kindAt 0) × (getD p kindAt 0 ≤ mostKind) × (getD p countAt 0 ≤ J)
+unfolding placeFits
+fits-says J p e =
+    let k = all-at 0 _ e in
+    (
+      leb-true 1 (getD p kindAt 0) (first-of (leb 1 (getD p kindAt 0)) _ k),
+      leb-true (getD p kindAt 0) mostKind (second-of (leb 1 (getD p kindAt 0)) _ k),
+      leb-true (getD p countAt 0) J (all-at 1 _ e),
+    )
+
 -- A place whose words say so can be read.
 pub readable : (J : ℕ) (p : List ℕ) → PlaceSized J p → HeadSays J p → PlaceReadable p
 readable J p s r = let k = r .kind in

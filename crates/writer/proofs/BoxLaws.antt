@@ -2,45 +2,28 @@
 use mathlib.Core.Path.{_≡_, refl, sym, ap, _∙_, subst}
 use mathlib.Core.Bool.{Bool, cond}
 use Prim.Native.Nat.{ℕ, zero, suc, _+_, _-_, _*_, _≤_, _<_}
-use native.Mathlib.Nat.{add-sub-cancel-left, zero-add}
+use native.Mathlib.Nat.{zero-add}
 use native.Mathlib.Omega.{arith}
 use mathlib.Core.List.{List, [], _∷_, _++_}
 use lib.ListN.{length, take, drop, getD, length-map}
-use lib.Seq.{getD-take, getD-drop, ext-getD, length-take-le}
+use lib.Seq.{getD-take, getD-drop, ext-getD, length-take-le, take-append-le}
 use borrow.Author.Tests.{le-leb}
 use Rattle.words.specs.Rows.{part}
 use Rattle.words.proofs.PartLaws.{length-part, gets, gets-part, cut-at}
 use Rattle.rules.specs.Sizes.{mostBoxes, unknown}
-use Rattle.rules.specs.Numbers.{stateNumber, phaseNumber}
-use Rattle.row.specs.Row.{flagOf, flagNumber, stateOf, phaseOf, peerOf, headOf, boxOf}
+use Rattle.row.specs.Row.{peerOf, headOf, boxOf, headWords, countAt}
+use Rattle.row.proofs.NumberLaws.{flag-number-back, state-number-back, phase-number-back}
+use Rattle.row.proofs.FormLaws.{fits-says}
 use Rattle.memory.specs.Memory.{rowWidth}
-use Rattle.cells.specs.Cells.{cells}
-use Rattle.image.specs.Image.{numbersFrom, boxBody}
+use Rattle.cells.specs.Cells.{cells, Each, All}
+use Rattle.cells.specs.Groups.{Cut, headedBytes}
+use Rattle.cells.proofs.GroupLaws.{SameIn, groups-as, cut-more}
+use Rattle.image.specs.Image.{numbersFrom, boxGroups, boxWords, boxBody}
 use Rattle.image.proofs.OrderLaws.{map-at, length-from, from-at}
+use Rattle.image.proofs.CutLaws.{box-cut as groups-cut}
+use Rattle.image.proofs.BoxLaws.{box-split}
 use Rattle.image.proofs.Lengths.{length-box}
 use Rattle.writer.specs.Fits.{BoxFits, boxRow, BoxesFit, boxesIn}
-
-flag-number : (x : ℕ) → x ≤ 1 → flagNumber (flagOf x) ≡ x
-flag-number zero h = refl
-flag-number (suc zero) h = refl
-flag-number (suc (suc x)) h = absurd (omega arith)
-
-state-number : (x : ℕ) → x ≤ 4 → stateNumber (stateOf x) ≡ x
-state-number zero h = refl
-state-number (suc zero) h = refl
-state-number (suc (suc zero)) h = refl
-state-number (suc (suc (suc zero))) h = refl
-state-number (suc (suc (suc (suc zero)))) h = refl
-state-number (suc (suc (suc (suc (suc x))))) h = absurd (omega arith)
-
-phase-number : (x : ℕ) → x ≤ 5 → phaseNumber (phaseOf x) ≡ x
-phase-number zero h = refl
-phase-number (suc zero) h = refl
-phase-number (suc (suc zero)) h = refl
-phase-number (suc (suc (suc zero))) h = refl
-phase-number (suc (suc (suc (suc zero)))) h = refl
-phase-number (suc (suc (suc (suc (suc zero))))) h = refl
-phase-number (suc (suc (suc (suc (suc (suc x)))))) h = absurd (omega arith)
 
 module _ (n : ℕ) (r : List ℕ) where
   -- The first n peers of a box are their words.
@@ -74,47 +57,51 @@ module _ (n : ℕ) (r : List ℕ) where
 
 module _ (n J : ℕ) (r : List ℕ) (f : BoxFits n J r) where
   -- It holds as many records as its count says.
-  box-held : length (boxOf n r .records) ≡ getD r 19 0
-  box-held = let w = f .width in let k = f .room in length-part 20 (getD r 19 0) r (omega arith)
+  box-held : length (boxOf n r .records) ≡ getD r countAt 0
+  box-held = let w = f .width in let k = fits-says J r (f .fits) .3 in
+      length-part headWords (getD r countAt 0) r (omega arith)
 
-  pub box-long : length (boxBody n (boxOf n r)) ≡ 72 + 4 * n + 8 * getD r 19 0
+  pub box-long : length (boxBody n (boxOf n r)) ≡ 72 + 4 * n + 8 * getD r countAt 0
   box-long =
-      length-box n (boxOf n r) (f .boxes) refl ∙ ap (λ (k : ℕ). 72 + 4 * n + 8 * k) box-held
+      length-box n (boxOf n r) (f .boxes) ∙ ap (λ (k : ℕ). 72 + 4 * n + 8 * k) box-held
 
-  -- Its bytes, as the code cuts the words, of which held are records.
-  abbrev pub records-of : ℕ → List ℕ
-  records-of held = cells 8 (take (20 + held - 20) (drop 20 r))
-
-  abbrev pub from-count : ℕ → List ℕ
-  from-count held = cells 4 (part r 19 1) ++ records-of held
-
-  abbrev pub from-peers : ℕ → List ℕ
-  from-peers held = cells 4 (take (14 + n - 14) (drop 14 r)) ++ from-count held
-
-  abbrev pub from-records : ℕ → List ℕ
-  from-records held = cells 8 (part r 11 3) ++ from-peers held
-
-  pub box-groups : (held : ℕ) → held ≡ getD r 19 0
-      → boxBody n (boxOf n r) ≡ cells 4 (part r 0 11) ++ from-records held
-  unfolding boxBody
-  box-groups held e =
+  -- Its words in their groups are those of the row.
+  box-groups : All (SameIn (boxWords (boxOf n r)) r) (boxGroups n)
+  unfolding Each
+  box-groups =
       let w = f .width in
       let b = f .boxes in
-      let flag = flag-number (getD r 0 0) (f .flag) in
-      let state = state-number (getD r 1 0) (f .state) in
-      let phase = phase-number (getD r 2 0) (f .phase) in
-      let peers = peers-are n r b (omega arith) in
-      let rs = part r 20 (getD r 19 0) in
-      rw (e, add-sub-cancel-left 20 (getD r 19 0), add-sub-cancel-left 14 n)
-      ((λ i.
-      cells 4 (flag i ∷ state i ∷ phase i ∷ gets 0 r 3 8)
-      ++ (cells 8 (gets 0 r 11 3)
-      ++ (cells 4 (peers i) ++ (cells 4 (box-held i ∷ []) ++ cells 8 rs))))
-      ∙ (λ i.
-      cells 4 (gets-part 0 r 0 11 (omega arith) i)
-      ++ (cells 8 (gets-part 0 r 11 3 (omega arith) i)
-      ++ (cells 4 (part r 14 n) ++ (cells 4 (gets-part 0 r 19 1 (omega arith) i)
-      ++ cells 8 rs)))))
+      let t = fits-says J r (f .fits) in
+      let flag = flag-number-back (getD r 0 0) (t .0) in
+      let state = state-number-back (getD r 1 0) (t .1) in
+      let phase = phase-number-back (getD r 2 0) (t .2) in
+      let h = boxOf n r .head in
+      (
+        (λ i. flag i ∷ state i ∷ phase i ∷ gets 0 r 3 8) ∙ gets-part 0 r 0 11 (omega arith),
+        (
+          gets-part 0 r 11 3 (omega arith),
+          (
+            take-append-le n (h .peers) (length (boxOf n r .records) ∷ []) b
+                ∙ peers-are n r b (omega arith),
+            ((λ i. box-held i ∷ []) ∙ gets-part 0 r countAt 1 (omega arith), tt),
+          ),
+        ),
+      )
+
+  -- So its bytes are the row's.
+  pub box-bytes : boxBody n (boxOf n r) ≡ headedBytes (boxGroups n) headWords countAt r
+  box-bytes =
+      box-split n (boxOf n r)
+      ∙ ap (λ (l : List ℕ). l ++ cells 8 (boxOf n r .records))
+      (groups-as (boxWords (boxOf n r)) r (boxGroups n) box-groups)
+
+  -- There is room for its groups and records.
+  pub row-cut : Cut 0 (length r) (boxGroups n)
+  row-cut = let w = f .width in
+      cut-more (boxGroups n) 0 (omega arith) (groups-cut n (f .boxes))
+
+  pub row-room : headWords + getD r countAt 0 ≤ length r
+  row-room = let w = f .width in let t = fits-says J r (f .fits) .3 in omega arith
 
 -- ---- the boxes
 

@@ -1,7 +1,7 @@
 -- A place's words are a letter's numbers, a link's places its letters, the links' words the links.
 use mathlib.Core.Path.{_≡_, refl, sym, ap, _∙_, subst}
 use Prim.Native.Nat.{ℕ, _+_, _-_, _*_, _≤_, _<_}
-use native.Mathlib.Nat.{add-sub-cancel-left, zero-add}
+use native.Mathlib.Nat.{zero-add}
 use native.Mathlib.Omega.{arith}
 use mathlib.Core.List.{List, [], _∷_, _++_}
 use lib.ListN.{length, take, drop, getD, length-map, List·getD-map}
@@ -11,12 +11,18 @@ use Rattle.words.proofs.PartLaws.{length-part, gets-part, part-drop, cut-at}
 use Rattle.words.proofs.RowLaws.{rows-at, row-end}
 use Rattle.words.proofs.RingLaws.{slot-lt, length-ring, ring-at}
 use Rattle.rules.specs.Box.{Letter}
-use Rattle.letter.specs.Place.{letterAt}
+use Rattle.letter.specs.Place.{letterAt, kindAt, countAt, headWords}
+use Rattle.letter.proofs.KindLaws.{kind-number-back}
+use Rattle.letter.proofs.FormLaws.{fits-says}
 use Rattle.link.specs.Link.{placeWidth, linkWidth, places, linkOf}
-use Rattle.cells.specs.Cells.{chain, cells}
-use Rattle.image.specs.Image.{numbersFrom, letterBytes, linkBytes}
+use Rattle.cells.specs.Cells.{chain, cells, Each, All}
+use Rattle.cells.specs.Groups.{Cut, headedBytes}
+use Rattle.cells.proofs.GroupLaws.{SameIn, groups-as, cut-more}
+use Rattle.image.specs.Image.{numbersFrom, letterGroups, letterWords, letterBytes}
+use Rattle.image.specs.Image.{linkBytes}
 use Rattle.image.proofs.OrderLaws.{map-at, length-from, from-at}
-use Rattle.image.proofs.LetterLaws.{kind-number}
+use Rattle.image.proofs.CutLaws.{letter-cut}
+use Rattle.image.proofs.LetterLaws.{letter-split}
 use Rattle.image.proofs.Lengths.{length-letter}
 use Rattle.writer.specs.Fits.{LetterFits, letterPlace, LinkFits, LetterIs, linkRow, LinksFit}
 use Rattle.writer.specs.Fits.{linksIn}
@@ -25,25 +31,37 @@ use Rattle.writer.specs.Fits.{linksIn}
 
 module _ (J : ℕ) (p : List ℕ) (f : LetterFits J p) where
   -- It holds as many records as its count says.
-  letter-held : length (letterAt p .records) ≡ getD p 4 0
-  letter-held = let w = f .width in let r = f .room in length-part 5 (getD p 4 0) p (omega arith)
+  letter-held : length (letterAt p .records) ≡ getD p countAt 0
+  letter-held = let w = f .width in let r = fits-says J p (f .fits) .2 in
+      length-part headWords (getD p countAt 0) p (omega arith)
 
-  pub letter-long : length (letterBytes (letterAt p)) ≡ 20 + 8 * getD p 4 0
+  pub letter-long : length (letterBytes (letterAt p)) ≡ 20 + 8 * getD p countAt 0
   letter-long = length-letter (letterAt p) ∙ ap (λ (k : ℕ). 20 + 8 * k) letter-held
 
-  -- Its bytes, as the code cuts the words, of which count are records.
-  pub letter-groups : (count : ℕ) → count ≡ getD p 4 0
-      → letterBytes (letterAt p) ≡ cells 4 (part p 0 5) ++ cells 8
-      (take (5 + count - 5) (drop 5 p))
-  unfolding letterBytes
-  letter-groups count e =
+  -- Its words are those of the place, and so its bytes are.
+  letter-groups : All (SameIn (letterWords (letterAt p)) p) letterGroups
+  unfolding Each
+  letter-groups =
       let w = f .width in
-      let k = kind-number (getD p 0 0) (f .some-kind) (f .few-kinds) in
-      let rs = part p 5 (getD p 4 0) in
-      rw (e, add-sub-cancel-left 5 (getD p 4 0))
-      ((λ i.
-      cells 4 (k i ∷ getD p 1 0 ∷ getD p 2 0 ∷ getD p 3 0 ∷ letter-held i ∷ []) ++ cells 8 rs)
-      ∙ ap (λ (l : List ℕ). cells 4 l ++ cells 8 rs) (gets-part 0 p 0 5 (omega arith)))
+      let t = fits-says J p (f .fits) in
+      let k = kind-number-back (getD p kindAt 0) (t .0) (t .1) in
+      (
+        (λ i. k i ∷ getD p 1 0 ∷ getD p 2 0 ∷ getD p 3 0 ∷ letter-held i ∷ [])
+            ∙ gets-part 0 p 0 headWords (omega arith),
+        tt,
+      )
+
+  pub letter-bytes : letterBytes (letterAt p) ≡ headedBytes letterGroups headWords countAt p
+  letter-bytes =
+      letter-split (letterAt p)
+      ∙ ap (λ (l : List ℕ). l ++ cells 8 (letterAt p .records))
+      (groups-as (letterWords (letterAt p)) p letterGroups letter-groups)
+
+  pub place-cut-groups : Cut 0 (length p) letterGroups
+  place-cut-groups = let w = f .width in cut-more letterGroups 0 (omega arith) letter-cut
+
+  pub place-room : headWords + getD p countAt 0 ≤ length p
+  place-room = let w = f .width in let t = fits-says J p (f .fits) .2 in omega arith
 
 -- ---- a link
 

@@ -36,36 +36,7 @@ use Rattle.writer.specs.Fits.{LetterFits, letterPlace, LinkFits, linkRow
 use Rattle.writer.specs.Fits.{BoxFits, boxRow, BoxesFit, boxesIn}
 use Rattle.writer.proofs.BoxLaws.{length-boxes-in, boxes-in-at}
 
--- ---- one place, one row, one link
-
-place-fits : (J : ℕ) (p : List ℕ) → J ≤ mostLoads → length p ≡ placeWidth J
-    → placeFits J p ≡ true → LetterFits J p
-unfolding placeFits
-place-fits J p loads width e =
-    let t = passed _ e in
-    let kind = and-yes (leb 1 (getD p 0 0)) (leb (getD p 0 0) 6) (t .0) in
-    record {
-      loads = loads;
-      width = width;
-      some-kind = leb-true 1 (getD p 0 0) (kind .0);
-      few-kinds = leb-true (getD p 0 0) 6 (kind .1);
-      room = leb-true (getD p 4 0) J (t .1 .0);
-    }
-
-row-fits : (n J : ℕ) (r : List ℕ) → n ≤ mostBoxes → J ≤ mostLoads → length r ≡ rowWidth J
-    → rowFits J r ≡ true → BoxFits n J r
-unfolding rowFits
-row-fits n J r boxes loads width e =
-    let t = passed _ e in
-    record {
-      boxes = boxes;
-      loads = loads;
-      width = width;
-      flag = leb-true (getD r 0 0) 1 (t .0);
-      state = leb-true (getD r 1 0) 4 (t .1 .0);
-      phase = leb-true (getD r 2 0) 5 (t .1 .1 .0);
-      room = leb-true (getD r 19 0) J (t .1 .1 .1 .0);
-    }
+-- ---- one link
 
 link-fits : (J L : ℕ) (r : List ℕ) → J ≤ mostLoads → L ≤ mostMails → length r ≡ linkWidth J L
     → linkFits J L r ≡ true → LinkFits J L r
@@ -95,9 +66,11 @@ link-fits J L r loads mails width e =
         ring-at [] L (getD r 0 0) (getD r 1 0) i rs first count h
         ∙ rows-at w L p (drop 2 r) k ∙ part-drop 2 (p * w) w r in
         let fits = logic.each-at (placeFits J) (places J L r) [] t i (omega arith) in
-        place-fits J (letterPlace J L r i) loads
-        (length-part (2 + p * w) w r (omega (arith, row-end w k)))
-        (subst (λ (q : List ℕ). placeFits J q ≡ true) here fits)
+        record {
+          loads = loads;
+          width = length-part (2 + p * w) w r (omega (arith, row-end w k));
+          fits = subst (λ (q : List ℕ). placeFits J q ≡ true) here fits;
+        }
 
 -- ---- all of them
 
@@ -150,11 +123,14 @@ module _ (xs ls : List ℕ) (e : memoryForm xs ls ≡ true) where
         loads = z .few-loads;
         width = site-words;
         each = λ i h.
-            row-fits nIn JIn (boxRow JIn xs i) (z .few-boxes) (z .few-loads)
-            (length-part (5 + i * rowWidth JIn) (rowWidth JIn) xs
-            (omega (arith, site-words, row-end (rowWidth JIn) h)))
-            (subst (λ (k : ℕ). rowFits JIn (boxRow JIn xs k) ≡ true) (same i)
-            (row-at-fits (i + 1) (omega arith, omega arith)));
+            record {
+              boxes = z .few-boxes;
+              loads = z .few-loads;
+              width = length-part (5 + i * rowWidth JIn) (rowWidth JIn) xs
+                  (omega (arith, site-words, row-end (rowWidth JIn) h));
+              fits = subst (λ (k : ℕ). rowFits JIn (boxRow JIn xs k) ≡ true) (same i)
+                  (row-at-fits (i + 1) (omega arith, omega arith));
+            };
       }
     where
       same : (i : ℕ) → i + 1 - 1 ≡ i

@@ -1,6 +1,7 @@
 -- When lent words can be written as the parts of an image, and the boxes and links that they hold,
 -- in the image's order.
 use mathlib.Core.Path.{_≡_}
+use mathlib.Core.Bool.{true}
 use Prim.Native.Nat.{ℕ, _+_, _*_, _≤_, _<_}
 use mathlib.Core.List.{List, [], _∷_, _++_, map}
 use lib.ListN.{length, getD}
@@ -8,8 +9,8 @@ use Rattle.words.specs.Rows.{part}
 use Rattle.words.specs.Ring.{slot}
 use Rattle.rules.specs.Sizes.{mostBoxes, mostLoads, mostMails}
 use Rattle.rules.specs.Box.{Box, Letter}
-use Rattle.letter.specs.Place.{letterAt}
-use Rattle.row.specs.Row.{boxOf}
+use Rattle.letter.specs.Place.{letterAt, placeFits}
+use Rattle.row.specs.Row.{boxOf, rowFits}
 use Rattle.link.specs.Link.{placeWidth, linkWidth, linkOf}
 use Rattle.link.specs.Holds.{LinkSizes}
 use Rattle.memory.specs.Memory.{rowWidth}
@@ -20,9 +21,7 @@ use Rattle.image.specs.Image.{numbersFrom, boxBody, linkBytes, contents}
 pub record LetterFits (J : ℕ) (p : List ℕ) : Type 0 where
   pub loads : J ≤ mostLoads
   pub width : length p ≡ placeWidth J
-  pub some-kind : 1 ≤ getD p 0 0
-  pub few-kinds : getD p 0 0 ≤ 6
-  pub room : getD p 4 0 ≤ J
+  pub fits : placeFits J p ≡ true
 
 -- the place of letter i of the link r
 abbrev pub letterPlace : ℕ → ℕ → List ℕ → ℕ → List ℕ
@@ -60,10 +59,7 @@ pub record BoxFits (n J : ℕ) (r : List ℕ) : Type 0 where
   pub boxes : n ≤ mostBoxes
   pub loads : J ≤ mostLoads
   pub width : length r ≡ rowWidth J
-  pub flag : getD r 0 0 ≤ 1
-  pub state : getD r 1 0 ≤ 4
-  pub phase : getD r 2 0 ≤ 5
-  pub room : getD r 19 0 ≤ J
+  pub fits : rowFits J r ≡ true
 
 -- n rows behind the general words
 abbrev pub boxRow : ℕ → List ℕ → ℕ → List ℕ

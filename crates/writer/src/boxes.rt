@@ -18,7 +18,7 @@ fn box_length(row: &[u64], n: usize, j: u32) -> usize
         ⌜ (r ≡ length (boxBody n (boxOf n (now (row .entry)))))
         × (r ≤ boxLong mostBoxes mostLoads) ⌝ }
 {
-    72 + 4 * n + 8 * size(row[19])
+    72 + 4 * n + 8 * size(row[row::COUNT])
 }
 
 // How long the bodies of boxes 1 to n are together.
@@ -28,7 +28,7 @@ pub fn boxes_length(site: &[u64], n: usize, j: u32) -> usize
         ⌜ (r ≡ length (chain (boxBody n) (boxesIn n j (now (site .entry)))))
         × (r ≤ mostBoxes * boxLong mostBoxes mostLoads) ⌝ }
 {
-    let w = 20 + j as usize;
+    let w = row::HEAD + j as usize;
     let mut total = 0;
     let mut i = 0;
     while i < n {
@@ -56,7 +56,7 @@ pub fn write_contents(
         ⌜ Wrote (cells 4 (contents start (map (boxBody n) (boxesIn n j (now (site .entry))))))
         (now (out .entry)) at (now (out .exit)) r ⌝ }
 {
-    let w = 20 + j as usize;
+    let w = row::HEAD + j as usize;
     let mut p = at;
     let mut o = start;
     let mut i = 0;
@@ -78,12 +78,8 @@ fn write_box(out: &mut [u8], at: usize, row: &[u64], n: usize, j: u32) -> usize
         ⌜ Wrote (boxBody n (boxOf n (now (row .entry))))
         (now (out .entry)) at (now (out .exit)) r ⌝ }
 {
-    let held = size(row[19]);
-    let a = cells::put_words(out, at, 4, &row[0..11]);
-    let b = cells::put_words(out, a, 8, &row[11..14]);
-    let c = cells::put_words(out, b, 4, &row[14..14 + n]);
-    let d = cells::put_words(out, c, 4, &row[19..20]);
-    cells::put_words(out, d, 8, &row[20..20 + held])
+    let groups = image::box_groups(n);
+    cells::put_headed(out, at, &groups, row::HEAD, row::COUNT, row)
 }
 
 // The bodies of boxes 1 to n.
@@ -94,7 +90,7 @@ pub fn write_boxes(out: &mut [u8], at: usize, site: &[u64], n: usize, j: u32) ->
         ⌜ Wrote (chain (boxBody n) (boxesIn n j (now (site .entry))))
         (now (out .entry)) at (now (out .exit)) r ⌝ }
 {
-    let w = 20 + j as usize;
+    let w = row::HEAD + j as usize;
     let mut p = at;
     let mut i = 0;
     while i < n {

@@ -19,7 +19,7 @@ pub fn letter_at(link: &[u64], j: u32, l: u32, i: usize) -> usize
 {
     let first = size(link[0]);
     let p = words::place(l as usize, first, i);
-    2 + words::row_at(p, 5 + j as usize, l as usize)
+    2 + words::row_at(p, letter::HEAD + j as usize, l as usize)
 }
 
 // ---- lengths
@@ -30,7 +30,7 @@ fn letter_length(place: &[u64], j: u32) -> usize
         ⌜ (r ≡ length (letterBytes (letterAt (now (place .entry)))))
         × (r ≤ letterLong mostLoads) ⌝ }
 {
-    20 + 8 * size(place[4])
+    20 + 8 * size(place[letter::COUNT])
 }
 
 fn letters_length(link: &[u64], j: u32, l: u32) -> usize
@@ -39,7 +39,7 @@ fn letters_length(link: &[u64], j: u32, l: u32) -> usize
         ⌜ (r ≡ length (chain letterBytes (linkOf j l (now (link .entry)))))
         × (r ≤ mostMails * letterLong mostLoads) ⌝ }
 {
-    let w = 5 + j as usize;
+    let w = letter::HEAD + j as usize;
     let count = size(link[1]);
     let mut total = 0;
     let mut i = 0;
@@ -88,9 +88,8 @@ fn write_letter(out: &mut [u8], at: usize, place: &[u64], j: u32) -> usize
         ⌜ Wrote (letterBytes (letterAt (now (place .entry))))
         (now (out .entry)) at (now (out .exit)) r ⌝ }
 {
-    let count = size(place[4]);
-    let p = cells::put_words(out, at, 4, &place[0..5]);
-    cells::put_words(out, p, 8, &place[5..5 + count])
+    let groups = image::letter_groups();
+    cells::put_headed(out, at, &groups, letter::HEAD, letter::COUNT, place)
 }
 
 fn write_letters(out: &mut [u8], at: usize, link: &[u64], j: u32, l: u32) -> usize
@@ -100,7 +99,7 @@ fn write_letters(out: &mut [u8], at: usize, link: &[u64], j: u32, l: u32) -> usi
         ⌜ Wrote (chain letterBytes (linkOf j l (now (link .entry))))
         (now (out .entry)) at (now (out .exit)) r ⌝ }
 {
-    let w = 5 + j as usize;
+    let w = letter::HEAD + j as usize;
     let count = size(link[1]);
     let mut p = at;
     let mut i = 0;
