@@ -2,7 +2,8 @@
 ghost use mathlib.Core.List.{List, []};
 ghost use Prim.Native.Nat.{ℕ, _+_, _*_, _≤_};
 ghost use lib.ListN.{length};
-ghost use Rattle.memory.specs.Memory.{siteOf};
+ghost use Rattle.row.specs.Row.{headWords};
+ghost use Rattle.memory.specs.Memory.{siteOf, generalWords};
 ghost use Rattle.print.specs.Decimal.{spaced};
 ghost use Rattle.print.specs.Text.{Wrote, doneText};
 ghost use Rattle.trace.specs.Feeding.{endText};
@@ -13,9 +14,12 @@ ghost use Rattle.feed.specs.Says.{Rowed, answerMost};
 use crate::state::Feed;
 use crate::state::Stage;
 
+// Where the last of a row that begins r words behind the general ones stands.
+const LAST_OF_ROW: usize = memory::GENERAL + row::LAST;
+
 // The last of each of n boxes, whose rows are w words wide, after a space.
 fn put_lasts(out: &mut [u8], at: usize, site: &[u64], n: usize, w: usize) -> usize
-    requires { ⌜ (at + 21 * n ≤ length (now out)) × (5 + n * w ≤ length (now site)) × (20 ≤ w) ⌝ }
+    requires { ⌜ (at + 21 * n ≤ length (now out)) × (generalWords + n * w ≤ length (now site)) × (headWords ≤ w) ⌝ }
     ensures { λ r.
         ⌜ Wrote (21 * n) (now (out .entry)) (now (out .exit)) at r
         (spaced (lastsAt (now (site .entry)) w n)) ⌝ }
@@ -24,7 +28,7 @@ fn put_lasts(out: &mut [u8], at: usize, site: &[u64], n: usize, w: usize) -> usi
     let mut i = 0;
     while i < n {
         let r = words::row_at(i, w, n);
-        p = print::put_next(out, p, site[r + 9]);
+        p = print::put_next(out, p, site[r + LAST_OF_ROW]);
         i += 1;
     }
     p
@@ -38,10 +42,10 @@ pub(crate) fn put_done(out: &mut [u8], at: usize, k: u64, site: &[u64]) -> usize
         (doneText k (siteOf (now (site .entry)) [] .epoch)
         (lasts (siteOf (now (site .entry)) []))) ⌝ }
 {
-    let n = words::size(site[0]);
-    let w = 20 + words::size(site[1]);
+    let n = words::size(site[memory::N]);
+    let w = row::HEAD + words::size(site[memory::J]);
     let p = print::put_decimal(out, at, k);
-    let p = print::put_next(out, p, site[3]);
+    let p = print::put_next(out, p, site[memory::EPOCH]);
     let p = put_lasts(out, p, site, n, w);
     print::put_byte(out, p, 10)
 }

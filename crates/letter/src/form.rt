@@ -21,6 +21,7 @@ use crate::kind_of;
 use crate::records;
 use rules::model::Kind;
 use values::Fault;
+use values::MOST_PN;
 use values::Field;
 
 // What each kind asks of its pn ..
@@ -28,11 +29,11 @@ fn is_pn(k: Kind, pn: u64) -> bool
     ensures { λ r. ⌜ r ≡ pnFits k pn ⌝ }
 {
     match k {
-        Kind::Collect => pn <= 999999999,
-        Kind::Last => pn <= 999999999,
-        Kind::Begin => pn <= 999999999,
-        Kind::Accept => pn <= 999999999,
-        Kind::Commit => pn <= 999999999,
+        Kind::Collect => pn <= MOST_PN,
+        Kind::Last => pn <= MOST_PN,
+        Kind::Begin => pn <= MOST_PN,
+        Kind::Accept => pn <= MOST_PN,
+        Kind::Commit => pn <= MOST_PN,
         Kind::Lease => pn == 0,
     }
 }
@@ -58,7 +59,7 @@ fn is_unagreed(k: Kind, unagreed: u64) -> bool
 {
     match k {
         Kind::Collect => unagreed == 0,
-        Kind::Last => unagreed <= 999999999,
+        Kind::Last => unagreed <= MOST_PN,
         Kind::Begin => unagreed == 0,
         Kind::Accept => unagreed == 0,
         Kind::Commit => unagreed == 0,

@@ -26,7 +26,7 @@ fn place_at(j: u32, l: u32, first: usize, i: usize) -> usize
     requires { ⌜ (first < l) × (i ≤ l) ⌝ }
     ensures { λ r. ⌜ (r ≡ placeStart j l first i) × (r + placeWidth j ≤ linkWidth j l) ⌝ }
 {
-    let width = 5 + j as usize;
+    let width = letter::HEAD + j as usize;
     let places = l as usize;
     let p = words::place(places, first, i);
     2 + words::row_at(p, width, places)
@@ -62,7 +62,7 @@ pub fn push(link: &mut [u64], j: u32, l: u32, m: Mail, records: &[u64])
     let first = words::size(link[0]);
     let count = words::size(link[1]);
     let start = place_at(j, l, first, count);
-    let width = 5 + j as usize;
+    let width = letter::HEAD + j as usize;
     let end = start + width;
     letter::enclose(&mut link[start..end], m, records);
     link[1] = words::word(count + 1);
@@ -91,7 +91,7 @@ pub fn double(link: &mut [u64], j: u32, l: u32)
     let before = words::before(l as usize, first);
     let from = place_at(j, l, first, 0);
     let to = place_at(j, l, before, 0);
-    let held = 5 + words::size(link[from + 4]);
+    let held = letter::HEAD + words::size(link[from + letter::COUNT]);
     words::copy_within(link, from, to, held);
     link[0] = words::word(before);
     link[1] = words::word(count + 1);
@@ -113,7 +113,7 @@ fn is_place_by_form(link: &[u64], j: u32, l: u32, first: usize, i: usize) -> boo
     ensures { λ r. ⌜ r ≡ placeForm j (placeIn j l first i (now (link .entry))) ⌝ }
 {
     let start = place_at(j, l, first, i);
-    let width = 5 + j as usize;
+    let width = letter::HEAD + j as usize;
     let end = start + width;
     letter::is_by_form(&link[start..end], j)
 }

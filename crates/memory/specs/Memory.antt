@@ -12,16 +12,36 @@ use Rattle.rules.specs.Sizes.{sizesForm}
 use Rattle.rules.specs.Box.{Box, Letter}
 use Rattle.rules.specs.Site.{Site, freshBox, isBox, isLink}
 use Rattle.rules.specs.Form.{form}
-use Rattle.row.specs.Row.{boxOf, rowFits}
+use Rattle.row.specs.Row.{boxOf, rowFits, headWords}
 use Rattle.link.specs.Link.{linkWidth, linkOf, linkFits}
 
--- twenty words of fields and the records' room
+-- where the general words stand
+abbrev pub nAt : ℕ
+nAt = 0
+
+abbrev pub JAt : ℕ
+JAt = 1
+
+abbrev pub LAt : ℕ
+LAt = 2
+
+abbrev pub epochAt : ℕ
+epochAt = 3
+
+abbrev pub presentAt : ℕ
+presentAt = 4
+
+-- the rows stand behind these
+abbrev pub generalWords : ℕ
+generalWords = 5
+
+-- a box's fields and the records' room
 abbrev pub rowWidth : ℕ → ℕ
-rowWidth J = 20 + J
+rowWidth J = headWords + J
 
 -- how many words a site of these sizes needs in each list
 abbrev pub siteWords : ℕ → ℕ → ℕ
-siteWords n J = 5 + n * rowWidth J
+siteWords n J = generalWords + n * rowWidth J
 
 abbrev pub linksWords : ℕ → ℕ → ℕ → ℕ
 linksWords n J L = n * (n - 1) * linkWidth J L
@@ -39,7 +59,7 @@ pastLinks n J L ls = drop (linksWords n J L) ls
 
 -- where box b's row begins, and the row
 abbrev pub rowStart : ℕ → ℕ → ℕ
-rowStart J b = 5 + (b - 1) * rowWidth J
+rowStart J b = generalWords + (b - 1) * rowWidth J
 
 abbrev pub rowAt : ℕ → List ℕ → ℕ → List ℕ
 rowAt J xs b = part xs (rowStart J b) (rowWidth J)
@@ -64,13 +84,13 @@ linkIn n J L ls a b = cond (isLink n a b) (linkOf J L (linkAt n J L ls a b)) []
 -- the site that the words hold
 unfoldable pub siteOf : List ℕ → List ℕ → Site
 siteOf xs ls = record {
-  n = getD xs 0 0;
-  J = getD xs 1 0;
-  L = getD xs 2 0;
-  epoch = getD xs 3 0;
-  present = getD xs 4 0;
-  box = boxIn (getD xs 0 0) (getD xs 1 0) xs;
-  link = linkIn (getD xs 0 0) (getD xs 1 0) (getD xs 2 0) ls;
+  n = getD xs nAt 0;
+  J = getD xs JAt 0;
+  L = getD xs LAt 0;
+  epoch = getD xs epochAt 0;
+  present = getD xs presentAt 0;
+  box = boxIn (getD xs nAt 0) (getD xs JAt 0) xs;
+  link = linkIn (getD xs nAt 0) (getD xs JAt 0) (getD xs LAt 0) ls;
 }
 
 -- what the site does not show of its words: there are enough of them, and every row and every link
@@ -86,7 +106,7 @@ roomy n J L xs ls =
 
 -- the words can be read as a site at all
 abbrev pub readable : List ℕ → List ℕ → Bool
-readable xs ls = roomy (getD xs 0 0) (getD xs 1 0) (getD xs 2 0) xs ls
+readable xs ls = roomy (getD xs nAt 0) (getD xs JAt 0) (getD xs LAt 0) xs ls
 
 -- by form, of the words: "A lent site memory that is too short for its sizes is not by form"
 unfoldable pub memoryForm : List ℕ → List ℕ → Bool

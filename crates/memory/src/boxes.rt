@@ -52,7 +52,7 @@ pub fn mail_turn(site: &[u64], links: &[u64], s: Setting, sender: u32, p: usize)
         ⌜ t ≡ turnOf s (boxesOf s (now (site .entry)) (s .me))
         (mail sender (letterAt (part (now (links .entry)) p (placeWidth (s .j))))) ⌝ }
 {
-    let width = 5 + s.j as usize;
+    let width = letter::HEAD + s.j as usize;
     let end = p + width;
     row::mail_turn(places::row_of(site, s, s.me), &links[p..end], s, sender)
 }
@@ -91,7 +91,7 @@ fn elect_box(row: &mut [u64], s: Setting, c: u32)
         ⌜ RowHolds (s .n) (s .j) (electedBox s c (boxOf (s .n) (now (row .entry))))
         (now (row .entry)) (now (row .exit)) ⌝ }
 {
-    let held = values::number(row[19]);
+    let held = values::number(row[row::COUNT]);
     let head = row::load(row, s.n);
     let next = head.elected(s, c);
     row::store(row, next, held);

@@ -15,6 +15,12 @@ ghost use Rattle.memory.specs.Parts.{
   linksForm,
 };
 use crate::general;
+use crate::general::EPOCH;
+use crate::general::GENERAL;
+use crate::general::J;
+use crate::general::L;
+use crate::general::N;
+use crate::general::PRESENT;
 use crate::places;
 use rules::model::Setting;
 use rules::ranges;
@@ -23,14 +29,14 @@ use rules::ranges;
 pub fn is_general(site: &[u64]) -> bool
     ensures { λ r. ⌜ r ≡ generalForm (now (site .entry)) ⌝ }
 {
-    if site.len() < 5 {
+    if site.len() < GENERAL {
         return false;
     }
-    if !ranges::are_sizes(site[0], site[1], site[2]) {
+    if !ranges::are_sizes(site[N], site[J], site[L]) {
         return false;
     }
-    let present = values::is_set(values::number(site[0]), site[4]);
-    let epoch = site[3];
+    let present = values::is_set(values::number(site[N]), site[PRESENT]);
+    let epoch = site[EPOCH];
     (1 <= epoch) & (epoch <= 1000000) & present
 }
 
@@ -51,7 +57,7 @@ fn leader(site: &[u64], s: Setting, b: u32) -> u32
     ensures { λ r. ⌜ r ≡ cond (leadsTest s (now (site .entry)) b) 1 0 ⌝ }
 {
     let row = places::row_of(site, s, b);
-    if row[0] == 1 {
+    if row[row::FLAG] == 1 {
         return 1;
     }
     0

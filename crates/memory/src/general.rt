@@ -7,6 +7,19 @@ ghost use Rattle.memory.specs.After.{settingAt, GeneralLent};
 use rules::model::Setting;
 use rules::sets;
 
+// Where the general words stand; the rows stand behind them.
+pub const N: usize = 0;
+
+pub const J: usize = 1;
+
+pub const L: usize = 2;
+
+pub const EPOCH: usize = 3;
+
+pub const PRESENT: usize = 4;
+
+pub const GENERAL: usize = 5;
+
 // Box k is in the set w.
 pub fn has(w: u32, k: u32) -> bool
     requires { ⌜ k ≤ mostBoxes ⌝ }
@@ -22,11 +35,11 @@ pub fn setting_of(site: &[u64], c: u32) -> Setting
     ensures { λ r. ⌜ r ≡ settingAt (now (site .entry)) c ⌝ }
 {
     Setting {
-        n: values::number(site[0]),
-        j: values::number(site[1]),
-        l: values::number(site[2]),
-        epoch: values::number(site[3]),
-        present: values::number(site[4]),
+        n: values::number(site[N]),
+        j: values::number(site[J]),
+        l: values::number(site[L]),
+        epoch: values::number(site[EPOCH]),
+        present: values::number(site[PRESENT]),
         me: c,
     }
 }

@@ -19,12 +19,13 @@ ghost use Rattle.memory.specs.Memory.{
 };
 ghost use Rattle.memory.specs.After.{linkRow};
 ghost use Rattle.memory.specs.Parts.{wordsForm};
+use crate::general::GENERAL;
 use rules::model::Setting;
 
 pub fn row_width(j: u32) -> usize
     ensures { λ r. ⌜ r ≡ rowWidth j ⌝ }
 {
-    20 + j as usize
+    row::HEAD + j as usize
 }
 
 // Where box b's row begins, and that it ends within the words of the site.
@@ -36,7 +37,7 @@ pub fn row_start(s: Setting, b: u32) -> usize
 {
     let width = row_width(s.j);
     let before = (b - 1) as usize;
-    5 + words::row_at(before, width, s.n as usize)
+    GENERAL + words::row_at(before, width, s.n as usize)
 }
 
 // The row of box b.
@@ -55,7 +56,7 @@ pub fn link_width(j: u32, l: u32) -> usize
     requires { ⌜ LinkSizes j l ⌝ }
     ensures { λ r. ⌜ r ≡ linkWidth j l ⌝ }
 {
-    let place = 5 + j as usize;
+    let place = letter::HEAD + j as usize;
     2 + l as usize * place
 }
 
@@ -141,5 +142,5 @@ pub fn has_words(site: &[u64], links: &[u64], s: Setting) -> bool
 {
     let rows = s.n as usize * row_width(s.j);
     let pairs = link_count(s) * link_width(s.j, s.l);
-    (5 + rows <= site.len()) & (pairs <= links.len())
+    (GENERAL + rows <= site.len()) & (pairs <= links.len())
 }

@@ -7,6 +7,7 @@ ghost use Rattle.rules.specs.Sizes.{mostEpoch, within, sizesForm};
 ghost use Rattle.rules.specs.Answers.{isAccepted};
 ghost use Rattle.rules.specs.Sets.{setForm};
 ghost use Rattle.rules.specs.Form.{formBox, formLetter};
+ghost use Rattle.letter.specs.Place.{headWords};
 ghost use Rattle.own.specs.Entry.{
   ownBox,
   ownLetter,
@@ -71,7 +72,7 @@ fn is_row(row: &[u64], s: Setting) -> bool
         ⌜ r ≡ (rowReads (s .j) (now (row .entry))
         && formBox (s .n) (s .j) (s .me) (ownBox s (now (row .entry)))) ⌝ }
 {
-    let end = 20 + s.j as usize;
+    let end = row::HEAD + s.j as usize;
     if row.len() < end {
         return false;
     }
@@ -85,7 +86,7 @@ fn is_letter(letter: &[u64], s: Setting) -> bool
         ⌜ r ≡ (placeReads (s .j) (now (letter .entry))
         && formLetter (s .j) (ownLetter s (now (letter .entry)))) ⌝ }
 {
-    let end = 5 + s.j as usize;
+    let end = letter::HEAD + s.j as usize;
     if letter.len() < end {
         return false;
     }
@@ -95,9 +96,9 @@ fn is_letter(letter: &[u64], s: Setting) -> bool
 // 12 where the turn goes on and the place for its letter has too few words.
 fn answer_in(a: Answer, place: usize, j: u32) -> Answer
     ensures { λ r.
-        ⌜ r ≡ cond (isAccepted a && ltb place (5 + j)) (Answer.Refused Refusal.Buffer) a ⌝ }
+        ⌜ r ≡ cond (isAccepted a && ltb place (headWords + j)) (Answer.Refused Refusal.Buffer) a ⌝ }
 {
-    let room = 5 + j as usize;
+    let room = letter::HEAD + j as usize;
     let accepted = answers::is_accepted(a);
     if accepted & (place < room) {
         return Answer::Refused(Refusal::Buffer);
@@ -157,8 +158,8 @@ fn conclude(row: &mut [u64], letter: &[u64], out: &mut [u64], s: Setting, t: Tur
             to: 0,
         };
     }
-    let end = 20 + s.j as usize;
-    let room = 5 + s.j as usize;
+    let end = row::HEAD + s.j as usize;
+    let room = letter::HEAD + s.j as usize;
     let to = carry_out(&mut row[0..end], letter, &mut out[0..room], s.n, t);
     Sent {
         answer: answer,
@@ -185,9 +186,9 @@ pub fn act(row: &mut [u64], out: &mut [u64], s: Setting, a: Act) -> Sent
     if !ranges::is_box(s.n, s.me) {
         return refused(Refusal::Box);
     }
-    let end = 20 + s.j as usize;
+    let end = row::HEAD + s.j as usize;
     let t = row::act_turn(&row[0..end], s, a);
-    let nothing = [0; 5];
+    let nothing = [0; letter::HEAD];
     conclude(row, &nothing, out, s, t)
 }
 
@@ -211,8 +212,8 @@ pub fn mail(row: &mut [u64], letter: &[u64], out: &mut [u64], s: Setting, sender
     if !ranges::is_link(s.n, sender, s.me) {
         return refused(Refusal::Box);
     }
-    let row_end = 20 + s.j as usize;
-    let letter_end = 5 + s.j as usize;
+    let row_end = row::HEAD + s.j as usize;
+    let letter_end = letter::HEAD + s.j as usize;
     let t = row::mail_turn(&row[0..row_end], &letter[0..letter_end], s, sender);
     conclude(row, &letter[0..letter_end], out, s, t)
 }

@@ -12,7 +12,7 @@ fn read_bodies(image: &[u8], at: usize, site: &mut [u64], links: &mut [u64]) -> 
         ⌜ ReadIs (now (image .entry)) (now (site .entry)) (now (links .entry)) r
         (now (site .exit)) (now (links .exit)) ⌝ }
 {
-    let mut w = [0u64; 5];
+    let mut w = [0u64; memory::GENERAL];
     cells::get_words(image, at, 4, &mut w);
     let s = memory::setting_of(&w, 0);
     if memory::has_words(site, links, s) {

@@ -27,6 +27,7 @@ use crate::UNKNOWN;
 use crate::WAITING;
 use crate::records;
 use values::Fault;
+use values::MOST_PN;
 use values::Field;
 use values::unless;
 
@@ -37,11 +38,11 @@ fn number_fault(w: &[u64], j: u32, rest: Fault) -> Fault
 {
     let most = j as u64;
     let f = unless(w[BEST_NUMBER] <= most, Field::BestNumber, rest);
-    let f = unless(w[BEST_PN] <= 999999999, Field::BestPn, f);
+    let f = unless(w[BEST_PN] <= MOST_PN, Field::BestPn, f);
     let f = unless(w[STORED_NUMBER] <= most, Field::StoredNumber, f);
-    let f = unless(w[STORED_PN] <= 999999999, Field::StoredPn, f);
+    let f = unless(w[STORED_PN] <= MOST_PN, Field::StoredPn, f);
     let f = unless(w[LAST] <= most, Field::Last, f);
-    let f = unless(w[PN] <= 999999999, Field::Pn, f);
+    let f = unless(w[PN] <= MOST_PN, Field::Pn, f);
     let f = unless(w[PHASE] <= 5, Field::Phase, f);
     let f = unless(w[STATE] <= 4, Field::State, f);
     unless(w[FLAG] <= 1, Field::Flag, f)

@@ -84,6 +84,9 @@ pub const COUNT: usize = 19;
 
 pub const HEAD: usize = 20;
 
+// The record of number k stands k places behind this.
+pub const BEFORE_RECORDS: usize = 19;
+
 // The last of a peer that is not known.
 pub const UNKNOWN: u64 = 4294967295;
 

@@ -36,7 +36,7 @@ fn carry_mail(site: &mut [u64], links: &mut [u64], s: Setting, a: u32, p: usize,
         (now (site .entry)) (now (links .entry)) (now (site .exit)) (now (links .exit)) ⌝ }
 {
     let out = t.out;
-    let q = p + (5 + s.j as usize);
+    let q = p + (letter::HEAD + s.j as usize);
     memory::play(site, links, s, p, q, t);
     memory::pop(links, s, a);
     turns::post(site, links, s, out);

@@ -6,7 +6,7 @@ ghost use lib.ListN.{length};
 ghost use Rattle.rules.specs.Sizes.{mostEpoch};
 ghost use Rattle.rules.specs.Step.{risen, step};
 ghost use Rattle.rules.specs.declared.model.Call.{Call};
-ghost use Rattle.memory.specs.Memory.{siteOf, memoryForm};
+ghost use Rattle.memory.specs.Memory.{siteOf, memoryForm, generalWords};
 ghost use Rattle.site.specs.Entries.{After};
 ghost use Rattle.site.specs.General.{generalPut, Presented};
 use crate::verdicts;
@@ -19,11 +19,11 @@ use rules::sets;
 
 // The epoch and the present set are written.
 pub(crate) fn put_general(site: &mut [u64], epoch: u32, present: u32)
-    requires { ⌜ 5 ≤ length (now site) ⌝ }
+    requires { ⌜ generalWords ≤ length (now site) ⌝ }
     ensures { λ _. ⌜ now (site .exit) ≡ generalPut epoch present (now (site .entry)) ⌝ }
 {
-    site[3] = epoch as u64;
-    site[4] = present as u64;
+    site[memory::EPOCH] = epoch as u64;
+    site[memory::PRESENT] = present as u64;
 }
 
 // An even epoch rises by 1, an odd one stays.
@@ -40,7 +40,7 @@ fn raise(epoch: u32) -> u32
 
 // Where the verdict says Go the boxes of w are present, and the epoch rises.
 fn present_as(site: &mut [u64], s: Setting, w: u32, v: Verdict) -> Answer
-    requires { ⌜ (5 ≤ length (now site)) × (s .epoch ≤ mostEpoch) ⌝ }
+    requires { ⌜ (generalWords ≤ length (now site)) × (s .epoch ≤ mostEpoch) ⌝ }
     ensures { λ r. ⌜ Presented v (s .epoch) w (now (site .entry)) (now (site .exit)) r ⌝ }
 {
     let epoch = raise(s.epoch);

@@ -13,10 +13,10 @@ pub(crate) fn is_agreed(row: &[u64], n: u32, k: u32, left: u32, right: u32) -> b
     if number < 1 {
         return false;
     }
-    if row[4] < number {
+    if row[row::LAST] < number {
         return false;
     }
-    let at = 19 + k as usize;
+    let at = row::BEFORE_RECORDS + k as usize;
     let record = row[at];
     (record / 4294967296 == left as u64) & (record % 4294967296 == right as u64)
 }

@@ -4,6 +4,7 @@ ghost use mathlib.Core.Path.{_≡_};
 ghost use lib.ListN.{length};
 ghost use Rattle.rules.specs.Sizes.{mostBoxes};
 ghost use Rattle.rules.specs.Sets.{fullSet};
+ghost use Rattle.memory.specs.Memory.{generalWords};
 ghost use Rattle.site.specs.General.{settingPut};
 ghost use Rattle.site.specs.Entries.{FreshMade};
 use rules::model::Answer;
@@ -27,14 +28,14 @@ fn full_set(n: u32) -> u32
 
 // The five general words are written.
 fn put_setting(site: &mut [u64], s: Setting)
-    requires { ⌜ 5 ≤ length (now site) ⌝ }
+    requires { ⌜ generalWords ≤ length (now site) ⌝ }
     ensures { λ _. ⌜ now (site .exit) ≡ settingPut s (now (site .entry)) ⌝ }
 {
-    site[0] = s.n as u64;
-    site[1] = s.j as u64;
-    site[2] = s.l as u64;
-    site[3] = s.epoch as u64;
-    site[4] = s.present as u64;
+    site[memory::N] = s.n as u64;
+    site[memory::J] = s.j as u64;
+    site[memory::L] = s.l as u64;
+    site[memory::EPOCH] = s.epoch as u64;
+    site[memory::PRESENT] = s.present as u64;
 }
 
 // A fresh site of n boxes in any words.

@@ -15,9 +15,9 @@ pub fn store_site(src: &[u8], at: usize, site: &mut [u64], links: &mut [u64])
         (now (site .exit)) (now (links .exit)) ⌝ }
 {
     let end = site.len();
-    let p = cells::get_words(src, at, 4, &mut site[0..5]);
+    let p = cells::get_words(src, at, 4, &mut site[0..memory::GENERAL]);
     let s = memory::setting_of(site, 0);
     let m = memory::link_count(s);
-    let q = boxes::store_boxes(src, p, s.n, s.j, &mut site[5..end]);
+    let q = boxes::store_boxes(src, p, s.n, s.j, &mut site[memory::GENERAL..end]);
     mail::store_links(src, q, m, s.j, s.l, links);
 }

@@ -32,6 +32,9 @@ pub enum Field {
     Count,
 }
 
+// The largest proposal number.
+pub const MOST_PN: u64 = 999999999;
+
 // The first field that is not by form.
 pub enum Fault {
     None,

@@ -52,7 +52,7 @@ pub fn check_listed(src: &[u8], at: usize, table: &mut [u64]) -> Walk
     if src.len() - at < 20 {
         return Walk::Bad;
     }
-    let mut w = [0u64; 5];
+    let mut w = [0u64; memory::GENERAL];
     let p = cells::get_words(src, at, 4, &mut w);
     if !memory::is_general(&w) {
         return Walk::Bad;

@@ -32,7 +32,7 @@ pub fn boxes_length(site: &[u64], n: usize, j: u32) -> usize
     let mut total = 0;
     let mut i = 0;
     while i < n {
-        let a = 5 + words::row_at(i, w, n);
+        let a = memory::GENERAL + words::row_at(i, w, n);
         total += box_length(&site[a..a + w], n, j);
         i += 1;
     }
@@ -61,7 +61,7 @@ pub fn write_contents(
     let mut o = start;
     let mut i = 0;
     while i < n {
-        let a = 5 + words::row_at(i, w, n);
+        let a = memory::GENERAL + words::row_at(i, w, n);
         let length = box_length(&site[a..a + w], n, j);
         let entry = [word(o), word(length)];
         p = cells::put_words(out, p, 4, &entry);
@@ -94,7 +94,7 @@ pub fn write_boxes(out: &mut [u8], at: usize, site: &[u64], n: usize, j: u32) ->
     let mut p = at;
     let mut i = 0;
     while i < n {
-        let a = 5 + words::row_at(i, w, n);
+        let a = memory::GENERAL + words::row_at(i, w, n);
         p = write_box(out, p, &site[a..a + w], n, j);
         i += 1;
     }

@@ -99,7 +99,7 @@ fn write_bodies(
         ⌜ Wrote (bodiesOf n j l m (now (site .entry)) (now (links .entry)))
         (now (out .entry)) at (now (out .exit)) r ⌝ }
 {
-    let a = cells::put_words(out, at, 4, &site[0..5]);
+    let a = cells::put_words(out, at, 4, &site[0..memory::GENERAL]);
     let b = boxes::write_boxes(out, a, site, n, j);
     mail::write_links(out, b, links, m, j, l)
 }
