@@ -378,8 +378,7 @@ pub groups-grouped : (gs : List Group) (m rest : ℕ) (ns : List ℕ) {src : Lis
     → GroupsRead (groupsOf ns) src at w v r
     → GroupedWords gs m rest v × Stands (groupsBytes gs v) src at r
 groups-grouped gs m rest ns {src} {at} {w} {v} {r} n e g' =
-    let g = subst (λ (l : List Group). GroupsRead l src at w v r) n g' in
-    (
+    let g = subst (λ (l : List Group). GroupsRead l src at w v r) n g' in (
       record {
         width = g .width ∙ ap length e ∙ length-replicate m rest;
         below = g .below;

@@ -21,10 +21,9 @@ use Rattle.letter.proofs.KindLaws.{kind-back, kind-number-back, kind-in}
 use Rattle.letter.proofs.FormLaws.{head-says, head-whole}
 use Rattle.cells.specs.declared.Walk.{Walk}
 use Rattle.cells.specs.Cells.{chain, cells, All, Stands, Read, Found, NoneAt, WalkIs, Many}
-use Rattle.cells.specs.Groups.{GroupedWords}
 use Rattle.cells.proofs.StandLaws.{stands-le, stands-seq, stands-as}
 use Rattle.cells.proofs.CodeLaws.{le-code, same-thing, told}
-use Rattle.image.specs.Image.{letterGroups, letterWords, letterBytes, linkBytes}
+use Rattle.image.specs.Image.{letterWords, letterBytes, linkBytes}
 use Rattle.image.specs.Parts.{GoodRecord, GoodLetter, GoodLink}
 use Rattle.image.proofs.RecordLaws.{all-to, proper-below}
 use Rattle.image.proofs.HeadedLaws.{Judged}
@@ -66,7 +65,10 @@ module _ (J : ℕ) (loads : J ≤ mostLoads) where
           all-each proper rs (all-to GoodRecord rs h),
           (
             le-leb (getD w pnAt 0) _ (k .pn),
-            (le-leb (getD w unagreedAt 0) _ (k .unagreed), (le-leb (getD w lastAt 0) J (k .last), tt)),
+            (
+              le-leb (getD w unagreedAt 0) _ (k .unagreed),
+              (le-leb (getD w lastAt 0) J (k .last), tt),
+            ),
           ),
         ),
       )

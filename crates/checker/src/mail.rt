@@ -2,7 +2,6 @@
 use cells::Walk;
 use values::Fault;
 use words::size;
-ghost use mathlib.Core.Path.{_≡_};
 ghost use Prim.Native.Nat.{_-_, _≤_};
 ghost use lib.ListN.{length};
 ghost use Rattle.le.specs.Le.{le};

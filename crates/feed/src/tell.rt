@@ -19,7 +19,8 @@ const LAST_OF_ROW: usize = memory::GENERAL + row::LAST;
 
 // The last of each of n boxes, whose rows are w words wide, after a space.
 fn put_lasts(out: &mut [u8], at: usize, site: &[u64], n: usize, w: usize) -> usize
-    requires { ⌜ (at + 21 * n ≤ length (now out)) × (generalWords + n * w ≤ length (now site)) × (headWords ≤ w) ⌝ }
+    requires { ⌜ (at + 21 * n ≤ length (now out)) × (generalWords + n * w ≤ length (now site))
+        × (headWords ≤ w) ⌝ }
     ensures { λ r.
         ⌜ Wrote (21 * n) (now (out .entry)) (now (out .exit)) at r
         (spaced (lastsAt (now (site .entry)) w n)) ⌝ }

@@ -153,10 +153,33 @@ module _ (n J b : ℕ) (boxes : n ≤ mostBoxes) (x : Box) (f : FormedBox n J b 
         record {
           width = refl;
           below = (
-            (omega arith, (omega arith, (omega arith, (omega arith, (omega arith, (omega arith, (omega arith,
-            (omega arith, (omega arith, (omega arith, (omega arith, tt))))))))))),
             (
-              (record-below (f .best), (record-below (f .waiting), (record-below (f .agreeing), tt))),
+              omega arith,
+              (
+                omega arith,
+                (
+                  omega arith,
+                  (
+                    omega arith,
+                    (
+                      omega arith,
+                      (
+                        omega arith,
+                        (
+                          omega arith,
+                          (omega arith, (omega arith, (omega arith, (omega arith, tt)))),
+                        ),
+                      ),
+                    ),
+                  ),
+                ),
+              ),
+            ),
+            (
+              (
+                record-below (f .best),
+                (record-below (f .waiting), (record-below (f .agreeing), tt)),
+              ),
               (
                 subst (Below (256 ^ 4)) (sym peers-part)
                     (each-take (λ i y. y < 256 ^ 4) n peersOf

@@ -10,12 +10,11 @@ use Rattle.image.specs.Image.{boxGroups, letterGroups}
 
 pub box-cut : (n : ℕ) → n ≤ mostBoxes → Cut 0 headWords (boxGroups n)
 unfolding Cut
-box-cut n h =
-    (
-      omega arith,
-      omega arith,
-      (omega arith, omega arith, (omega arith, omega arith, (omega arith, omega arith, omega arith))),
-    )
+box-cut n h = (
+  omega arith,
+  omega arith,
+  (omega arith, omega arith, (omega arith, omega arith, (omega arith, omega arith, omega arith))),
+)
 
 pub box-groups-long : (n : ℕ) → groupsLength (boxGroups n) ≡ 72 + 4 * n
 unfolding groupsLength

@@ -158,8 +158,8 @@ module _ {A : Type 0} {enc : A → List ℕ} {Good : A → Type 0} (H : Headed e
       let t = told (headed-parts H) (g .words) (g .grouped) (g .stands) x q (f .good) (f .stands) in
       let n : length (g .records) ≡ length (H .records x) =
       g .long ∙ ap (λ (l : List ℕ). getD l (H .count-at) 0) (t .0) ∙ H .count x in
-      let e = same-records (H .records x) (g .records) n (g .read) (t .1) (H .proper x (f .good)) in
-      (
+      let e = same-records (H .records x) (g .records) n (g .read) (t .1)
+      (H .proper x (f .good)) in (
         g .row ∙ (λ i. t .0 i ++ (e .0 i ++ drop (H .width + length (e .0 i)) w)),
         e .1,
       )

@@ -1,10 +1,10 @@
 -- How long an image is: a sum over what it holds; and the starred fresh images.
 use mathlib.Core.Path.{_≡_, refl, ap, _∙_}
 use mathlib.Core.Bool.{true}
-use Prim.Native.Nat.{ℕ, _+_, _≤_, _<_}
+use Prim.Native.Nat.{ℕ, _+_, _≤_}
 use native.Mathlib.Omega.{arith}
 use mathlib.Core.List.{List, [], _∷_}
-use lib.ListN.{length, getD, length-append}
+use lib.ListN.{length, length-append}
 use Rattle.rules.specs.Sizes.{mostBoxes}
 use Rattle.rules.specs.Box.{Box, Letter}
 use Rattle.rules.specs.Site.{Site, fresh}

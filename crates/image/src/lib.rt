@@ -8,7 +8,20 @@ ghost use Rattle.image.specs.Image.{boxGroups, letterGroups};
 pub fn box_groups(n: usize) -> [usize; 12]
     ensures { λ r. ⌜ (groupsOf r ≡ boxGroups n) × (length r ≡ 12) ⌝ }
 {
-    [4, row::FLAG, 11, 8, row::BEST, 3, 4, row::PEERS, n, 4, row::COUNT, 1]
+    [
+        4,
+        row::FLAG,
+        11,
+        8,
+        row::BEST,
+        3,
+        4,
+        row::PEERS,
+        n,
+        4,
+        row::COUNT,
+        1,
+    ]
 }
 
 pub fn letter_groups() -> [usize; 3]

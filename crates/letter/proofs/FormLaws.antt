@@ -1,7 +1,7 @@
 -- What the form of a letter's words says, and of a place: the words first, then the records.
 use mathlib.Core.Path.{_≡_, refl, sym, ap, _∙_}
 use mathlib.Core.Bool.{Bool, true, false, _&&_, _||_, and-true}
-use mathlib.Core.List.{List, [], _∷_}
+use mathlib.Core.List.{List}
 use Prim.Native.Nat.{ℕ, _+_, _-_, _≤_}
 use native.Mathlib.Omega.{arith}
 use lib.Dec.{leb, ltb, eqb}
@@ -165,8 +165,7 @@ pub fits-says : (J : ℕ) (p : List ℕ) → placeFits J p ≡ true
     → (1 ≤ getD p kindAt 0) × (getD p kindAt 0 ≤ mostKind) × (getD p countAt 0 ≤ J)
 unfolding placeFits
 fits-says J p e =
-    let k = all-at 0 _ e in
-    (
+    let k = all-at 0 _ e in (
       leb-true 1 (getD p kindAt 0) (first-of (leb 1 (getD p kindAt 0)) _ k),
       leb-true (getD p kindAt 0) mostKind (second-of (leb 1 (getD p kindAt 0)) _ k),
       leb-true (getD p countAt 0) J (all-at 1 _ e),

@@ -21,8 +21,8 @@ use crate::kind_of;
 use crate::records;
 use rules::model::Kind;
 use values::Fault;
-use values::MOST_PN;
 use values::Field;
+use values::MOST_PN;
 
 // What each kind asks of its pn ..
 fn is_pn(k: Kind, pn: u64) -> bool

@@ -126,13 +126,12 @@ pub fits-says : (J : ℕ) (r : List ℕ) → rowFits J r ≡ true
     → (getD r flagAt 0 ≤ 1) × (getD r stateAt 0 ≤ mostState)
     × (getD r phaseAt 0 ≤ mostPhase) × (getD r countAt 0 ≤ J)
 unfolding rowFits
-fits-says J r e =
-    (
-      leb-true _ _ (all-at 0 _ e),
-      leb-true _ _ (all-at 1 _ e),
-      leb-true _ _ (all-at 2 _ e),
-      leb-true _ _ (all-at 3 _ e),
-    )
+fits-says J r e = (
+  leb-true _ _ (all-at 0 _ e),
+  leb-true _ _ (all-at 1 _ e),
+  leb-true _ _ (all-at 2 _ e),
+  leb-true _ _ (all-at 3 _ e),
+)
 
 -- How many records a row holds whose count has room.
 pub count-held : (n J : ℕ) (r : List ℕ) → RowSized n J r → getD r countAt 0 ≤ J

@@ -27,8 +27,8 @@ use crate::UNKNOWN;
 use crate::WAITING;
 use crate::records;
 use values::Fault;
-use values::MOST_PN;
 use values::Field;
+use values::MOST_PN;
 use values::unless;
 
 // Numbers, and what is said of the fields behind them.

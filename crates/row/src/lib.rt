@@ -267,7 +267,8 @@ fn put(row: &mut [u64], l: u32, r: u64)
 
 // The mail's records a+1 to l stand after the first a.
 fn take(row: &mut [u64], place: &[u64], a: u32, l: u32)
-    requires { ⌜ (a ≤ l) × (headWords + l ≤ length (now row)) × (letterHead + l ≤ length (now place)) ⌝ }
+    requires { ⌜ (a ≤ l) × (headWords + l ≤ length (now row))
+        × (letterHead + l ≤ length (now place)) ⌝ }
     ensures { λ _.
         ⌜ now (row .exit) ≡ splice (now (row .entry)) (headWords + a) (l - a)
         (part (now (place .entry)) (letterHead + a) (l - a)) ⌝ }

@@ -65,6 +65,7 @@ use Rattle.rules.specs.Needs.{ruled}
 use Rattle.rules.specs.Step.{byAnswer, delivered, elect, presented, step, agreedAs, holds}
 use Rattle.le.specs.Le.{le}
 use Rattle.cells.specs.Cells.{chain}
+use Rattle.cells.specs.Groups.{groupsBytes}
 use Rattle.image.specs.Image.{numbersFrom, boxesOf, bySender, linksOf, generalBody, boxBody}
 use Rattle.image.specs.Image.{letterBytes, linkBytes, mailBody, bodies, contents, tableOf, imageOf}
 use Rattle.print.specs.Decimal.{decimalOf, spaced}
@@ -87,6 +88,6 @@ unfolding stars starBytes ones onesIn pick all each every tally sizesForm proper
     countForm peerForm formBox formKind formLetter formLink form ruled byAnswer delivered elect
     presented step agreedAs holds decimalOf spaced doneText refusedText starts wordOf grown finished
     byteRead bytesRead lineOf readLine linesFrom texts traceSizes opened played judged upTo toldText
-    toldNext lineText lineNext replay le chain numbersFrom boxesOf bySender linksOf generalBody
-    boxBody letterBytes linkBytes mailBody bodies contents tableOf imageOf
+    toldNext lineText lineNext replay le chain groupsBytes numbersFrom boxesOf bySender linksOf
+    generalBody boxBody letterBytes linkBytes mailBody bodies contents tableOf imageOf
 starred = refl

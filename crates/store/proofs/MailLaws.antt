@@ -11,7 +11,6 @@ use Rattle.words.specs.Rows.{part, splice, rows}
 use Rattle.words.proofs.RowLaws.{length-rows, rows-at, take-rows, length-table, table-get}
 use Rattle.words.proofs.RingLaws.{ring-flat}
 use Rattle.rules.specs.Every.{all, each}
-use Rattle.rules.specs.Sizes.{mostLoads}
 use Rattle.rules.specs.Box.{Letter}
 use Rattle.laws.proofs.Logic.{each-made}
 use Rattle.letter.specs.Place.{letterAt, placeFits}

@@ -1,4 +1,5 @@
--- What the functions on boxes in bytes answer: all boxes with their entries in the table of contents.
+-- What the functions on boxes in bytes answer: all boxes, with their entries in the table of
+-- contents.
 use mathlib.Core.Path.{_≡_}
 use Prim.Native.Nat.{ℕ, _+_, _*_, _≤_}
 use mathlib.Core.List.{List, _++_, map}

@@ -75,8 +75,7 @@ module _ (n J : ℕ) (r : List ℕ) (f : BoxFits n J r) where
       let flag = flag-number-back (getD r 0 0) (t .0) in
       let state = state-number-back (getD r 1 0) (t .1) in
       let phase = phase-number-back (getD r 2 0) (t .2) in
-      let h = boxOf n r .head in
-      (
+      let h = boxOf n r .head in (
         (λ i. flag i ∷ state i ∷ phase i ∷ gets 0 r 3 8) ∙ gets-part 0 r 0 11 (omega arith),
         (
           gets-part 0 r 11 3 (omega arith),

@@ -44,8 +44,7 @@ module _ (J : ℕ) (p : List ℕ) (f : LetterFits J p) where
   letter-groups =
       let w = f .width in
       let t = fits-says J p (f .fits) in
-      let k = kind-number-back (getD p kindAt 0) (t .0) (t .1) in
-      (
+      let k = kind-number-back (getD p kindAt 0) (t .0) (t .1) in (
         (λ i. k i ∷ getD p 1 0 ∷ getD p 2 0 ∷ getD p 3 0 ∷ letter-held i ∷ [])
             ∙ gets-part 0 p 0 headWords (omega arith),
         tt,

@@ -5,7 +5,6 @@ use Prim.Native.Nat.{ℕ, _+_, _-_, _*_, _≤_, _<_}
 use native.Mathlib.Nat.{zero-add}
 use native.Mathlib.Omega.{arith}
 use mathlib.Core.List.{List, [], map}
-use lib.Dec.{leb}
 use lib.ListN.{length, drop, getD, length-map}
 use lib.Seq.{ext-getD}
 use borrow.Author.Tests.{leb-true, ltb-true, ne-eqb}
@@ -15,9 +14,9 @@ use Rattle.words.proofs.PartLaws.{length-part, gets-part, part-drop}
 use Rattle.words.proofs.RowLaws.{rows-at, row-end}
 use Rattle.words.proofs.RingLaws.{slot-lt, length-ring, ring-at}
 use Rattle.rules.specs.Every.{each}
-use Rattle.rules.specs.Sizes.{mostBoxes, mostLoads, mostMails}
+use Rattle.rules.specs.Sizes.{mostLoads, mostMails}
 use Rattle.rules.specs.Site.{freshBox}
-use Rattle.laws.proofs.Logic.{In, passed, and-yes, and-both, every-at}
+use Rattle.laws.proofs.Logic.{In, passed, and-both, every-at}
 use Rattle.laws.proofs.Logic as logic
 use Rattle.laws.proofs.FormLaws.{FormedSizes, sizes-says, box-is}
 use Rattle.letter.specs.Place.{placeFits}
@@ -33,7 +32,7 @@ use Rattle.image.specs.Parts.{listed}
 use Rattle.image.proofs.OrderLaws.{map-at, length-from, from-at, length-boxes, boxes-at}
 use Rattle.image.proofs.OrderLaws.{all-pairs, pairs-flat}
 use Rattle.writer.specs.Fits.{LetterFits, letterPlace, LinkFits, linkRow, LinksFit, linksIn}
-use Rattle.writer.specs.Fits.{BoxFits, boxRow, BoxesFit, boxesIn}
+use Rattle.writer.specs.Fits.{boxRow, BoxesFit, boxesIn}
 use Rattle.writer.proofs.BoxLaws.{length-boxes-in, boxes-in-at}
 
 -- ---- one link

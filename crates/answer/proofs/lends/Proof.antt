@@ -10,4 +10,7 @@ returns-2 : tie.Need-returns-2
 returns-2 c = half-enough _ _ (c .if1 .left)
 
 pub lends-spec : {M : Type 1} → statement M
-lends-spec = tie.close (tie.spec returns returns-2)
+lends-spec =
+    tie.close
+    (tie.spec
+    returns returns-2)

@@ -72,15 +72,5 @@ pub get-words-spec : {M : Type 1} → statement M
 get-words-spec =
     tie.close
     (tie.spec
-    Inv-loop
-    μ-loop
-    loop-holds
-    get-at-requires
-    (λ c. search needs)
-    (λ c. search needs)
-    add-p
-    (λ c. search needs)
-    (λ c. search needs)
-    loop-again
-    (λ c. search needs)
-    returns)
+    Inv-loop μ-loop loop-holds get-at-requires (λ c. search needs) (λ c. search needs) add-p
+    (λ c. search needs) (λ c. search needs) loop-again (λ c. search needs) returns)

@@ -21,17 +21,11 @@ Inv-loop input size site₀ links₀ out₀ n f₀ i₀ site links out f i =
 abbrev μ-loop : tie.MeasureT-loop
 μ-loop input size site₀ links₀ out₀ n f₀ i₀ site links out f i = n - i
 
-start-requires : tie.Need-start-requires Inv-loop μ-loop
-start-requires c κs = search needs
-
 loop-holds : tie.Need-loop-holds Inv-loop μ-loop
 loop-holds c = (omega arith, refl, refl, refl, refl)
 
 sub-least : tie.Need-sub-least Inv-loop μ-loop
 sub-least c = omega arith
-
-least-requires : tie.Need-least-requires Inv-loop μ-loop
-least-requires c κs = search needs
 
 add-e : tie.Need-add-e Inv-loop μ-loop
 add-e c =
@@ -41,16 +35,10 @@ add-e c =
 sub-feed-piece : tie.Need-sub-feed-piece Inv-loop μ-loop
 sub-feed-piece c = omega arith
 
-part-feed-piece-start : tie.Need-part-feed-piece-start Inv-loop μ-loop
-part-feed-piece-start c = search needs
-
 part-feed-piece-end : tie.Need-part-feed-piece-end Inv-loop μ-loop
 part-feed-piece-end c =
     let at-loop = c .before .before in
     omega (arith, c .least .ensures, at-loop .loop .inv .0, at-loop .loop .inv .1)
-
-feed-piece-requires : tie.Need-feed-piece-requires Inv-loop μ-loop
-feed-piece-requires c κs = search needs
 
 slice-reshare-prefix-write-all : tie.Need-slice-reshare-prefix-write-all Inv-loop μ-loop
 slice-reshare-prefix-write-all c =
@@ -60,9 +48,6 @@ slice-aggregate-write-all : tie.Need-slice-aggregate-write-all Inv-loop μ-loop
 slice-aggregate-write-all c =
     let at-feed-piece = c .before .before .before .before .before .before .before in
     sym (length-take-le _ _ (piece-fits (at-feed-piece .feed-piece .ensures) .0))
-
-write-all-requires : tie.Need-write-all-requires Inv-loop μ-loop
-write-all-requires c κs = search needs
 
 same-length : tie.Need-same-length Inv-loop μ-loop
 same-length c =
@@ -84,9 +69,6 @@ same-length-3 c =
     let at-feed-piece = at-out .before .before .before .before .before in
     let at-loop = at-feed-piece .before .before .before .before .before .before .before in
     at-out .out .given ∙ at-loop .loop .inv .4
-
-returns : tie.Need-returns Inv-loop μ-loop
-returns c = search needs
 
 add-i : tie.Need-add-i Inv-loop μ-loop
 add-i c =
@@ -149,18 +131,12 @@ loop-again c =
       at-out .out .given ∙ at-loop .loop .inv .4,
     )
 
-feed-end-requires : tie.Need-feed-end-requires Inv-loop μ-loop
-feed-end-requires c κs = search needs
-
 slice-reshare-prefix-write-all-2 : tie.Need-slice-reshare-prefix-write-all-2 Inv-loop μ-loop
 slice-reshare-prefix-write-all-2 c = end-fits (c .before .before .feed-end .ensures)
 
 slice-aggregate-write-all-2 : tie.Need-slice-aggregate-write-all-2 Inv-loop μ-loop
 slice-aggregate-write-all-2 c =
     sym (length-take-le _ _ (end-fits (c .before .before .before .feed-end .ensures)))
-
-write-all-requires-2 : tie.Need-write-all-requires-2 Inv-loop μ-loop
-write-all-requires-2 c κs = search needs
 
 same-length-4 : tie.Need-same-length-4 Inv-loop μ-loop
 same-length-4 c = c .before .before .before .before .before .before .before .loop .inv .2
@@ -173,39 +149,13 @@ same-length-6 c =
     c .before .before .before .out2 .given
     ∙ c .before .before .before .before .before .before .before .loop .inv .4
 
-returns-2 : tie.Need-returns-2 Inv-loop μ-loop
-returns-2 c = search needs
-
 pub feed-cut-spec : {M : Type 1} → statement M
 feed-cut-spec =
     tie.close
     (tie.spec
-    Inv-loop
-    μ-loop
-    start-requires
-    loop-holds
-    sub-least
-    least-requires
-    add-e
-    sub-feed-piece
-    part-feed-piece-start
-    part-feed-piece-end
-    feed-piece-requires
-    slice-reshare-prefix-write-all
-    slice-aggregate-write-all
-    write-all-requires
-    same-length
-    same-length-2
-    same-length-3
-    returns
-    add-i
-    loop-less
-    loop-again
-    feed-end-requires
-    slice-reshare-prefix-write-all-2
-    slice-aggregate-write-all-2
-    write-all-requires-2
-    same-length-4
-    same-length-5
-    same-length-6
-    returns-2)
+    Inv-loop μ-loop (λ c κs. search needs) loop-holds sub-least (λ c κs. search needs) add-e
+    sub-feed-piece (λ c. search needs) part-feed-piece-end (λ c κs. search needs)
+    slice-reshare-prefix-write-all slice-aggregate-write-all (λ c κs. search needs) same-length
+    same-length-2 same-length-3 (λ c. search needs) add-i loop-less loop-again
+    (λ c κs. search needs) slice-reshare-prefix-write-all-2 slice-aggregate-write-all-2
+    (λ c κs. search needs) same-length-4 same-length-5 same-length-6 (λ c. search needs))

@@ -15,7 +15,4 @@ pub digit-spec : {M : Type 1} → statement M
 digit-spec =
     tie.close
     (tie.spec
-    (λ c. search needs)
-    (λ c. search needs)
-    returns
-    returns-2)
+    (λ c. search needs) (λ c. search needs) returns returns-2)

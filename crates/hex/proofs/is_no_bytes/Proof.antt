@@ -18,6 +18,4 @@ pub is-no-bytes-spec : {M : Type 1} → statement M
 is-no-bytes-spec =
     tie.close
     (tie.spec
-    returns
-    (λ c. search needs)
-    returns-2)
+    returns (λ c. search needs) returns-2)

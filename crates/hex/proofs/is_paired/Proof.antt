@@ -19,7 +19,4 @@ pub is-paired-spec : {M : Type 1} → statement M
 is-paired-spec =
     tie.close
     (tie.spec
-    returns
-    returns-2
-    (λ c κs. search needs)
-    returns-3)
+    returns returns-2 (λ c κs. search needs) returns-3)

@@ -18,7 +18,4 @@ pub small-spec : {M : Type 1} → statement M
 small-spec =
     tie.close
     (tie.spec
-    returns
-    (λ c. search needs)
-    returns-2
-    returns-3)
+    returns (λ c. search needs) returns-2 returns-3)

@@ -26,9 +26,4 @@ pub small-value-spec : {M : Type 1} → statement M
 small-value-spec =
     tie.close
     (tie.spec
-    returns
-    returns-2
-    returns-3
-    (λ c. search needs)
-    returns-4
-    returns-5)
+    returns returns-2 returns-3 (λ c. search needs) returns-4 returns-5)

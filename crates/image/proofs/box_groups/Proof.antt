@@ -9,4 +9,7 @@ unfolding groupsOf
 returns c = (refl, refl)
 
 pub box-groups-spec : {M : Type 1} → statement M
-box-groups-spec = tie.close (tie.spec returns)
+box-groups-spec =
+    tie.close
+    (tie.spec
+    returns)

@@ -9,4 +9,7 @@ unfolding groupsOf
 returns c = (refl, refl)
 
 pub letter-groups-spec : {M : Type 1} → statement M
-letter-groups-spec = tie.close (tie.spec returns)
+letter-groups-spec =
+    tie.close
+    (tie.spec
+    returns)

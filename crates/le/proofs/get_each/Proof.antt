@@ -59,14 +59,5 @@ pub get-each-spec : {M : Type 1} → statement M
 get-each-spec =
     tie.close
     (tie.spec
-    Inv-loop
-    μ-loop
-    loop-holds
-    (λ c. search needs)
-    mul-x
-    (λ c. search needs)
-    (λ c κs. search needs)
-    add-x
-    (λ c. search needs)
-    loop-again
-    returns)
+    Inv-loop μ-loop loop-holds (λ c. search needs) mul-x (λ c. search needs) (λ c κs. search needs)
+    add-x (λ c. search needs) loop-again returns)

@@ -18,4 +18,5 @@ returns-2 c =
 pub first-record-spec : {M : Type 1} → statement M
 first-record-spec =
     tie.close
-    (tie.spec (λ c κs. search needs) (λ c. search needs) returns returns-2)
+    (tie.spec
+    (λ c κs. search needs) (λ c. search needs) returns returns-2)

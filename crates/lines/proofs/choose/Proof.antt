@@ -13,4 +13,7 @@ unfolding pick
 returns-2 c = search tests
 
 pub choose-spec : {M : Type 1} → statement M
-choose-spec = tie.close (tie.spec returns returns-2)
+choose-spec =
+    tie.close
+    (tie.spec
+    returns returns-2)

@@ -29,12 +29,5 @@ pub grow-spec : {M : Type 1} → statement M
 grow-spec =
     tie.close
     (tie.spec
-    returns
-    returns-2
-    returns-3
-    (λ c. search needs)
-    (λ c. search needs)
-    (λ c. search needs)
-    returns-4
-    (λ c. search needs)
-    returns-5)
+    returns returns-2 returns-3 (λ c. search needs) (λ c. search needs) (λ c. search needs)
+    returns-4 (λ c. search needs) returns-5)

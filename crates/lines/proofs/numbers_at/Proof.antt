@@ -54,14 +54,5 @@ pub numbers-at-spec : {M : Type 1} → statement M
 numbers-at-spec =
     tie.close
     (tie.spec
-    Inv-loop
-    μ-loop
-    none-requires
-    loop-holds
-    shared-slice-read-next
-    next-requires
-    add-i
-    loop-less
-    loop-again
-    finish-requires
-    returns)
+    Inv-loop μ-loop none-requires loop-holds shared-slice-read-next next-requires add-i loop-less
+    loop-again finish-requires returns)

@@ -17,6 +17,4 @@ pub one-more-spec : {M : Type 1} → statement M
 one-more-spec =
     tie.close
     (tie.spec
-    (λ c. search needs)
-    returns
-    returns-2)
+    (λ c. search needs) returns returns-2)

@@ -16,6 +16,4 @@ pub or-word-spec : {M : Type 1} → statement M
 or-word-spec =
     tie.close
     (tie.spec
-    (λ c κs. search needs)
-    (λ c κs. search needs)
-    returns)
+    (λ c κs. search needs) (λ c κs. search needs) returns)

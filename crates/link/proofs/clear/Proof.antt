@@ -16,7 +16,4 @@ pub clear-spec : {M : Type 1} → statement M
 clear-spec =
     tie.close
     (tie.spec
-    (λ c. search needs)
-    slice-write-link-2
-    (λ c. search needs)
-    returns)
+    (λ c. search needs) slice-write-link-2 (λ c. search needs) returns)

@@ -11,4 +11,7 @@ returns c =
     c .size .ensures ∙ sym (length-link (a .j) (a .l) (a .link .now))
 
 pub count-spec : {M : Type 1} → statement M
-count-spec = tie.close (tie.spec (λ c. search needs) (λ c κs. search needs) returns)
+count-spec =
+    tie.close
+    (tie.spec
+    (λ c. search needs) (λ c κs. search needs) returns)

@@ -77,23 +77,8 @@ pub double-spec : {M : Type 1} → statement M
 double-spec =
     tie.close
     (tie.spec
-    (λ c. search needs)
-    (λ c κs. search needs)
-    (λ c. search needs)
-    (λ c κs. search needs)
-    before-requires
-    place-at-requires
-    (λ c κs. search needs)
-    (λ c. search needs)
-    (λ c. search needs)
-    (λ c. search needs)
-    (λ c κs. search needs)
-    add-held
-    copy-within-requires
-    (λ c κs. search needs)
-    (λ c. search needs)
-    add-word
-    (λ c κs. search needs)
-    slice-write-link-2
-    (λ c. search needs)
-    returns)
+    (λ c. search needs) (λ c κs. search needs) (λ c. search needs) (λ c κs. search needs)
+    before-requires place-at-requires (λ c κs. search needs) (λ c. search needs)
+    (λ c. search needs) (λ c. search needs) (λ c κs. search needs) add-held copy-within-requires
+    (λ c κs. search needs) (λ c. search needs) add-word (λ c κs. search needs) slice-write-link-2
+    (λ c. search needs) returns)

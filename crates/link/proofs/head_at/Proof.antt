@@ -22,7 +22,4 @@ pub head-at-spec : {M : Type 1} → statement M
 head-at-spec =
     tie.close
     (tie.spec
-    (λ c. search needs)
-    (λ c κs. search needs)
-    place-at-requires
-    returns)
+    (λ c. search needs) (λ c κs. search needs) place-at-requires returns)

@@ -18,8 +18,4 @@ pub place-at-spec : {M : Type 1} → statement M
 place-at-spec =
     tie.close
     (tie.spec
-    (λ c. search needs)
-    (λ c κs. search needs)
-    row-at-requires
-    add-result
-    returns)
+    (λ c. search needs) (λ c κs. search needs) row-at-requires add-result returns)

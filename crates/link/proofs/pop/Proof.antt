@@ -37,15 +37,6 @@ pub pop-spec : {M : Type 1} → statement M
 pop-spec =
     tie.close
     (tie.spec
-    (λ c. search needs)
-    (λ c κs. search needs)
-    (λ c. search needs)
-    (λ c κs. search needs)
-    after-requires
-    (λ c κs. search needs)
-    (λ c. search needs)
-    sub-word
-    (λ c κs. search needs)
-    slice-write-link-2
-    (λ c. search needs)
-    returns)
+    (λ c. search needs) (λ c κs. search needs) (λ c. search needs) (λ c κs. search needs)
+    after-requires (λ c κs. search needs) (λ c. search needs) sub-word (λ c κs. search needs)
+    slice-write-link-2 (λ c. search needs) returns)

@@ -11,4 +11,6 @@ returns-2 c = rw (← c .before .is-accepted .ensures, c .if1 .left)
 
 pub answer-in-spec : {M : Type 1} → statement M
 answer-in-spec =
-    tie.close (tie.spec (λ c. search needs) (λ c κs. search needs) returns returns-2)
+    tie.close
+    (tie.spec
+    (λ c. search needs) (λ c κs. search needs) returns returns-2)

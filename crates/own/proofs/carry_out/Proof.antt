@@ -29,9 +29,5 @@ pub carry-out-spec : {M : Type 1} → statement M
 carry-out-spec =
     tie.close
     (tie.spec
-    (λ c κs. search needs)
-    records-requires
-    send-requires
-    (λ c. search needs)
-    (λ c. search needs)
+    (λ c κs. search needs) records-requires send-requires (λ c. search needs) (λ c. search needs)
     returns)

@@ -26,11 +26,5 @@ pub is-row-spec : {M : Type 1} → statement M
 is-row-spec =
     tie.close
     (tie.spec
-    (λ c. search needs)
-    (λ c. search needs)
-    returns
-    (λ c. search needs)
-    (λ c. search needs)
-    (λ c. search needs)
-    is-by-form-requires
-    returns-2)
+    (λ c. search needs) (λ c. search needs) returns (λ c. search needs) (λ c. search needs)
+    (λ c. search needs) is-by-form-requires returns-2)

@@ -7,4 +7,7 @@ returns : tie.Need-returns
 returns c = rw (c .before .before .is-set .ensures, c .before .before .before .wide .ensures)
 
 pub is-setting-spec : {M : Type 1} → statement M
-is-setting-spec = tie.close (tie.spec (λ c κs. search needs) (λ c κs. search needs) returns)
+is-setting-spec =
+    tie.close
+    (tie.spec
+    (λ c κs. search needs) (λ c κs. search needs) returns)

@@ -103,34 +103,10 @@ pub mail-spec : {M : Type 1} → statement M
 mail-spec =
     tie.close
     (tie.spec
-    (λ c κs. search needs)
-    (λ c κs. search needs)
-    returns
-    (λ c κs. search needs)
-    is-row-requires
-    is-letter-requires
-    (λ c κs. search needs)
-    (λ c. search needs)
-    returns-2
-    (λ c κs. search needs)
-    (λ c κs. search needs)
-    (λ c. search needs)
-    returns-3
-    (λ c. search needs)
-    (λ c. search needs)
-    (λ c. search needs)
-    (λ c. search needs)
-    (λ c. search needs)
-    (λ c. search needs)
-    part-mail-turn-end
-    (λ c. search needs)
-    (λ c. search needs)
-    part-mail-turn-end-2
-    mail-turn-requires
-    (λ c. search needs)
-    (λ c. search needs)
-    part-conclude-end
-    conclude-requires
-    (λ c. search needs)
-    (λ c. search needs)
-    returns-4)
+    (λ c κs. search needs) (λ c κs. search needs) returns (λ c κs. search needs) is-row-requires
+    is-letter-requires (λ c κs. search needs) (λ c. search needs) returns-2 (λ c κs. search needs)
+    (λ c κs. search needs) (λ c. search needs) returns-3 (λ c. search needs) (λ c. search needs)
+    (λ c. search needs) (λ c. search needs) (λ c. search needs) (λ c. search needs)
+    part-mail-turn-end (λ c. search needs) (λ c. search needs) part-mail-turn-end-2
+    mail-turn-requires (λ c. search needs) (λ c. search needs) part-conclude-end conclude-requires
+    (λ c. search needs) (λ c. search needs) returns-4)

@@ -13,4 +13,7 @@ returns-2 : tie.Need-returns-2
 returns-2 c = nobody _ _ _ _ (c .if1 .left)
 
 pub post-spec : {M : Type 1} → statement M
-post-spec = tie.close (tie.spec (λ c κs. search needs) (λ c. search needs) returns returns-2)
+post-spec =
+    tie.close
+    (tie.spec
+    (λ c κs. search needs) (λ c. search needs) returns returns-2)

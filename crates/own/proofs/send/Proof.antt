@@ -21,9 +21,4 @@ pub send-spec : {M : Type 1} → statement M
 send-spec =
     tie.close
     (tie.spec
-    (λ c. search needs)
-    (λ c. search needs)
-    post-requires
-    returns
-    (λ c. search needs)
-    returns-2)
+    (λ c. search needs) (λ c. search needs) post-requires returns (λ c. search needs) returns-2)

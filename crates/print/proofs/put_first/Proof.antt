@@ -38,8 +38,4 @@ pub put-first-spec : {M : Type 1} → statement M
 put-first-spec =
     tie.close
     (tie.spec
-    (λ c. search needs)
-    slice-aggregate-put-bytes
-    put-bytes-requires
-    (λ c. search needs)
-    returns)
+    (λ c. search needs) slice-aggregate-put-bytes put-bytes-requires (λ c. search needs) returns)

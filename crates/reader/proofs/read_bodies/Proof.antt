@@ -82,15 +82,6 @@ pub read-bodies-spec : {M : Type 1} → statement M
 read-bodies-spec =
     tie.close
     (tie.spec
-    (λ c. search needs)
-    get-words-requires
-    (λ c. search needs)
-    setting-of-requires
-    has-words-requires
-    store-site-requires
-    (λ c. search needs)
-    (λ c. search needs)
-    returns
-    (λ c. search needs)
-    (λ c. search needs)
-    returns-2)
+    (λ c. search needs) get-words-requires (λ c. search needs) setting-of-requires
+    has-words-requires store-site-requires (λ c. search needs) (λ c. search needs) returns
+    (λ c. search needs) (λ c. search needs) returns-2)

@@ -28,8 +28,4 @@ pub act-turn-spec : {M : Type 1} → statement M
 act-turn-spec =
     tie.close
     (tie.spec
-    load-requires
-    records-requires
-    (λ c κs. search needs)
-    (λ c κs. search needs)
-    returns)
+    load-requires records-requires (λ c κs. search needs) (λ c κs. search needs) returns)

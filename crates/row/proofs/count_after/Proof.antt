@@ -16,10 +16,5 @@ pub count-after-spec : {M : Type 1} → statement M
 count-after-spec =
     tie.close
     (tie.spec
-    (λ c. search needs)
-    (λ c. search needs)
-    add-result
-    (λ c. search needs)
-    (λ c. search needs)
-    returns-2
-    (λ c. search needs))
+    (λ c. search needs) (λ c. search needs) add-result (λ c. search needs) (λ c. search needs)
+    returns-2 (λ c. search needs))

@@ -51,11 +51,5 @@ pub mail-turn-spec : {M : Type 1} → statement M
 mail-turn-spec =
     tie.close
     (tie.spec
-    load-requires
-    records-requires
-    (λ c κs. search needs)
-    load-requires-2
-    first-record-requires
-    after-last-requires
-    (λ c κs. search needs)
-    returns)
+    load-requires records-requires (λ c κs. search needs) load-requires-2 first-record-requires
+    after-last-requires (λ c κs. search needs) returns)

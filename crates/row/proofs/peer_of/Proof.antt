@@ -25,9 +25,4 @@ pub peer-of-spec : {M : Type 1} → statement M
 peer-of-spec =
     tie.close
     (tie.spec
-    returns
-    (λ c. search needs)
-    (λ c. search needs)
-    (λ c. search needs)
-    number-requires
-    returns-2)
+    returns (λ c. search needs) (λ c. search needs) (λ c. search needs) number-requires returns-2)

@@ -46,13 +46,5 @@ pub write-spec : {M : Type 1} → statement M
 write-spec =
     tie.close
     (tie.spec
-    (λ c. search needs)
-    (λ c. search needs)
-    put-requires
-    (λ c. search needs)
-    take-requires
-    returns
-    (λ c. search needs)
-    returns-2
-    (λ c. search needs)
-    returns-3)
+    (λ c. search needs) (λ c. search needs) put-requires (λ c. search needs) take-requires returns
+    (λ c. search needs) returns-2 (λ c. search needs) returns-3)

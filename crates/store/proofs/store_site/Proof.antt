@@ -194,17 +194,7 @@ pub store-site-spec : {M : Type 1} → statement M
 store-site-spec =
     tie.close
     (tie.spec
-    (λ c. search needs)
-    (λ c. search needs)
-    part-get-words-end
-    get-words-requires
-    setting-of-requires
-    link-count-requires
-    sub-store-boxes
-    part-store-boxes-start
-    part-store-boxes-end
-    store-boxes-requires
-    store-links-requires
-    (λ c. search needs)
-    (λ c. search needs)
-    returns)
+    (λ c. search needs) (λ c. search needs) part-get-words-end get-words-requires
+    setting-of-requires link-count-requires sub-store-boxes part-store-boxes-start
+    part-store-boxes-end store-boxes-requires store-links-requires (λ c. search needs)
+    (λ c. search needs) returns)

@@ -17,7 +17,4 @@ pub held-at-spec : {M : Type 1} → statement M
 held-at-spec =
     tie.close
     (tie.spec
-    (λ c. search needs)
-    (λ c. search needs)
-    returns
-    returns-2)
+    (λ c. search needs) (λ c. search needs) returns returns-2)

@@ -19,6 +19,4 @@ pub is-count-spec : {M : Type 1} → statement M
 is-count-spec =
     tie.close
     (tie.spec
-    returns
-    (λ c. search needs)
-    returns-2)
+    returns (λ c. search needs) returns-2)

@@ -9,4 +9,7 @@ returns : tie.Need-returns
 returns c = sym (proper-word (c .args .x) (search needs))
 
 pub is-proper-spec : {M : Type 1} → statement M
-is-proper-spec = tie.close (tie.spec returns)
+is-proper-spec =
+    tie.close
+    (tie.spec
+    returns)

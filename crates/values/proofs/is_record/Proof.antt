@@ -12,5 +12,4 @@ pub is-record-spec : {M : Type 1} → statement M
 is-record-spec =
     tie.close
     (tie.spec
-    (λ c κs. search needs)
-    returns)
+    (λ c κs. search needs) returns)

@@ -9,4 +9,7 @@ returns-2 : tie.Need-returns-2
 returns-2 c = rw (c .if1 .left)
 
 pub unless-spec : {M : Type 1} → statement M
-unless-spec = tie.close (tie.spec returns returns-2)
+unless-spec =
+    tie.close
+    (tie.spec
+    returns returns-2)

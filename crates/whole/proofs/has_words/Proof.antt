@@ -77,15 +77,5 @@ pub has-words-spec : {M : Type 1} → statement M
 has-words-spec =
     tie.close
     (tie.spec
-    Inv-loop
-    μ-loop
-    loop-holds
-    get-at-requires
-    (λ c. search needs)
-    (λ c. search needs)
-    returns
-    add-p
-    (λ c. search needs)
-    (λ c. search needs)
-    loop-again
-    returns-2)
+    Inv-loop μ-loop loop-holds get-at-requires (λ c. search needs) (λ c. search needs) returns
+    add-p (λ c. search needs) (λ c. search needs) loop-again returns-2)

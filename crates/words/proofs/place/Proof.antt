@@ -14,4 +14,7 @@ returns-2 c =
     let a = c .before .args in omega (arith, slot-round (a .l) (a .s) (a .i) (omega arith))
 
 pub place-spec : {M : Type 1} → statement M
-place-spec = tie.close (tie.spec (λ c. search needs) (λ c. search needs) returns returns-2)
+place-spec =
+    tie.close
+    (tie.spec
+    (λ c. search needs) (λ c. search needs) returns returns-2)

@@ -11,4 +11,7 @@ returns : tie.Need-returns
 returns c = omega (arith, row-end (c .args .w) (c .pre .0))
 
 pub row-at-spec : {M : Type 1} → statement M
-row-at-spec = tie.close (tie.spec mul-result returns)
+row-at-spec =
+    tie.close
+    (tie.spec
+    mul-result returns)

@@ -23,4 +23,6 @@ returns-2 c = no-image (sym (c .before .is-by-form .ensures) ∙ c .if1 .left)
 
 pub image-length-spec : {M : Type 1} → statement M
 image-length-spec =
-    tie.close (tie.spec (λ c κs. search needs) measure-requires returns returns-2)
+    tie.close
+    (tie.spec
+    (λ c κs. search needs) measure-requires returns returns-2)

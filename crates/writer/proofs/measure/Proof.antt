@@ -94,13 +94,6 @@ pub measure-spec : {M : Type 1} → statement M
 measure-spec =
     tie.close
     (tie.spec
-    setting-of-requires
-    (λ c. search needs)
-    link-count-requires
-    boxes-length-requires
-    links-length-requires
-    table-length-requires
-    (λ c. search needs)
-    (λ c. search needs)
-    (λ c. search needs)
-    returns)
+    setting-of-requires (λ c. search needs) link-count-requires boxes-length-requires
+    links-length-requires table-length-requires (λ c. search needs) (λ c. search needs)
+    (λ c. search needs) returns)

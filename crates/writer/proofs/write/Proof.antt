@@ -18,8 +18,4 @@ pub write-spec : {M : Type 1} → statement M
 write-spec =
     tie.close
     (tie.spec
-    (λ c κs. search needs)
-    write-formed-requires
-    (λ c. search needs)
-    returns
-    returns-2)
+    (λ c κs. search needs) write-formed-requires (λ c. search needs) returns returns-2)

@@ -60,11 +60,5 @@ pub write-bodies-spec : {M : Type 1} → statement M
 write-bodies-spec =
     tie.close
     (tie.spec
-    (λ c. search needs)
-    (λ c. search needs)
-    (λ c. search needs)
-    put-words-requires
-    write-boxes-requires
-    write-links-requires
-    (λ c. search needs)
-    returns)
+    (λ c. search needs) (λ c. search needs) (λ c. search needs) put-words-requires
+    write-boxes-requires write-links-requires (λ c. search needs) returns)

@@ -73,9 +73,5 @@ pub write-formed-spec : {M : Type 1} → statement M
 write-formed-spec =
     tie.close
     (tie.spec
-    measure-requires
-    returns
-    write-table-requires
-    write-bodies-requires
-    (λ c. search needs)
+    measure-requires returns write-table-requires write-bodies-requires (λ c. search needs)
     returns-2)

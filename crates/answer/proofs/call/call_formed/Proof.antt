@@ -31,13 +31,5 @@ pub call-formed-spec : {M : Type 1} → statement M
 call-formed-spec =
     tie.close
     (tie.spec
-    (λ c κs. search needs)
-    (λ c κs. search needs)
-    (λ c. search needs)
-    (λ c. search needs)
-    returns
-    put-requires
-    (λ c. search needs)
-    (λ c. search needs)
-    (λ c. search needs)
-    returns-2)
+    (λ c κs. search needs) (λ c κs. search needs) (λ c. search needs) (λ c. search needs) returns
+    put-requires (λ c. search needs) (λ c. search needs) (λ c. search needs) returns-2)

@@ -28,11 +28,5 @@ pub call-on-image-spec : {M : Type 1} → statement M
 call-on-image-spec =
     tie.close
     (tie.spec
-    returns
-    (λ c κs. search needs)
-    returns-2
-    call-served-requires
-    (λ c. search needs)
-    (λ c. search needs)
-    (λ c. search needs)
-    (λ c. search needs))
+    returns (λ c κs. search needs) returns-2 call-served-requires (λ c. search needs)
+    (λ c. search needs) (λ c. search needs) (λ c. search needs))

@@ -73,18 +73,6 @@ pub hold-spec : {M : Type 1} → statement M
 hold-spec =
     tie.close
     (tie.spec
-    Inv-loop
-    μ-loop
-    (λ c κs. search needs)
-    (λ c. search needs)
-    (λ c κs. search needs)
-    loop-holds
-    shared-slice-read-line
-    add-line
-    slice-write-line
-    (λ c. search needs)
-    (λ c. search needs)
-    loop-again
-    add-result
-    same-length
-    returns)
+    Inv-loop μ-loop (λ c κs. search needs) (λ c. search needs) (λ c κs. search needs) loop-holds
+    shared-slice-read-line add-line slice-write-line (λ c. search needs) (λ c. search needs)
+    loop-again add-result same-length returns)

@@ -31,10 +31,5 @@ pub put-answer-spec : {M : Type 1} → statement M
 put-answer-spec =
     tie.close
     (tie.spec
-    (λ c κs. search needs)
-    put-refusal-requires
-    (λ c. search needs)
-    returns
-    put-image-requires
-    (λ c. search needs)
-    returns-2)
+    (λ c κs. search needs) put-refusal-requires (λ c. search needs) returns put-image-requires
+    (λ c. search needs) returns-2)

@@ -36,12 +36,5 @@ pub tell-spec : {M : Type 1} → statement M
 tell-spec =
     tie.close
     (tie.spec
-    (λ c. search needs)
-    (λ c. search needs)
-    (λ c. search needs)
-    part-put-answer-end
-    put-answer-requires
-    (λ c. search needs)
-    (λ c. search needs)
-    returns
-    returns-2)
+    (λ c. search needs) (λ c. search needs) (λ c. search needs) part-put-answer-end
+    put-answer-requires (λ c. search needs) (λ c. search needs) returns returns-2)

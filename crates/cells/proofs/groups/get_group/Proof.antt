@@ -2,7 +2,6 @@
 use borrow.Author.Needs.{needs}
 use mathlib.Core.Path.{_∙_}
 use native.Mathlib.Nat.{add-sub-cancel-left}
-use native.Mathlib.Omega.{arith}
 use Rattle.words.proofs.PartLaws.{length-cut}
 use Rattle.cells.proofs.groups.get_group.Statement.{statement}
 use Rattle.cells.proofs.groups.get_group.Tie as tie
@@ -31,11 +30,5 @@ pub get-group-spec : {M : Type 1} → statement M
 get-group-spec =
     tie.close
     (tie.spec
-    (λ c. search needs)
-    (λ c. search needs)
-    (λ c. search needs)
-    (λ c. search needs)
-    (λ c. search needs)
-    get-words-requires
-    (λ c. search needs)
-    returns)
+    (λ c. search needs) (λ c. search needs) (λ c. search needs) (λ c. search needs)
+    (λ c. search needs) get-words-requires (λ c. search needs) returns)

@@ -34,7 +34,8 @@ rests c =
     let a = s .args in
     take-at (c .fill .last .0) (drop (a .head) (a .row .now)) (a .head) (filled c)
     ∙ c .fill .ensures
-    ∙ ap (λ (k : ℕ). replicate k (a .rest)) (length-take-le (a .head) (a .row .now) (s .pre .1 .0 .1))
+    ∙ ap (λ (k : ℕ). replicate k (a .rest))
+    (length-take-le (a .head) (a .row .now) (s .pre .1 .0 .1))
 
 -- the head that was read
 read : (c : tie.After-get-groups) →
@@ -88,7 +89,8 @@ there : (c : tie.After-get-groups) →
     × (c .get-groups .result + getD v (a .count) 0 * 8 ≤ length (a .src .now))
 there c =
     let s = c .before .before .before .before .before .before .before .before .before in
-    s .pre .1 .1 .1 .room (c .get-groups .last .1 .1 .1 .0) (c .get-groups .result) (read c .0) (read c .1)
+    s .pre .1 .1 .1 .room (c .get-groups .last .1 .1 .1 .0) (c .get-groups .result) (read c .0)
+    (read c .1)
 
 count : (c : tie.After-size) →
     let g = c .before .before .before .before in
@@ -178,20 +180,7 @@ pub get-headed-spec : {M : Type 1} → statement M
 get-headed-spec =
     tie.close
     (tie.spec
-    (λ c. search needs)
-    slice-aggregate-fill
-    (λ c κs. search needs)
-    (λ c. search needs)
-    slice-aggregate-get-groups
-    get-groups-requires
-    (λ c. search needs)
-    slice-read-size
-    (λ c κs. search needs)
-    add-get-words
-    (λ c. search needs)
-    (λ c. search needs)
-    (λ c. search needs)
-    part-get-words-end
-    get-words-requires
-    (λ c. search needs)
-    returns)
+    (λ c. search needs) slice-aggregate-fill (λ c κs. search needs) (λ c. search needs)
+    slice-aggregate-get-groups get-groups-requires (λ c. search needs) slice-read-size
+    (λ c κs. search needs) add-get-words (λ c. search needs) (λ c. search needs)
+    (λ c. search needs) part-get-words-end get-words-requires (λ c. search needs) returns)

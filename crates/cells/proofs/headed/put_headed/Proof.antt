@@ -47,15 +47,6 @@ pub put-headed-spec : {M : Type 1} → statement M
 put-headed-spec =
     tie.close
     (tie.spec
-    put-groups-requires
-    (λ c. search needs)
-    (λ c. search needs)
-    (λ c κs. search needs)
-    (λ c. search needs)
-    (λ c. search needs)
-    (λ c. search needs)
-    (λ c. search needs)
-    (λ c. search needs)
-    put-words-requires
-    (λ c. search needs)
-    returns)
+    put-groups-requires (λ c. search needs) (λ c. search needs) (λ c κs. search needs)
+    (λ c. search needs) (λ c. search needs) (λ c. search needs) (λ c. search needs)
+    (λ c. search needs) put-words-requires (λ c. search needs) returns)

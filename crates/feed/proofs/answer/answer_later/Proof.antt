@@ -35,18 +35,6 @@ pub answer-later-spec : {M : Type 1} → statement M
 answer-later-spec =
     tie.close
     (tie.spec
-    returns
-    (λ c. search needs)
-    (λ c. search needs)
-    (λ c κs. search needs)
-    (λ c. search needs)
-    (λ c κs. search needs)
-    (λ c. search needs)
-    returns-2
-    (λ c. search needs)
-    (λ c. search needs)
-    returns-3
-    (λ c. search needs)
-    (λ c. search needs)
-    returns-4
-    returns-5)
+    returns (λ c. search needs) (λ c. search needs) (λ c κs. search needs) (λ c. search needs)
+    (λ c κs. search needs) (λ c. search needs) returns-2 (λ c. search needs) (λ c. search needs)
+    returns-3 (λ c. search needs) (λ c. search needs) returns-4 returns-5)

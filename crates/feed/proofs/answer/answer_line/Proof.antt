@@ -22,9 +22,5 @@ pub answer-line-spec : {M : Type 1} → statement M
 answer-line-spec =
     tie.close
     (tie.spec
-    (λ c κs. search needs)
-    answer-requires
-    (λ c. search needs)
-    (λ c. search needs)
-    (λ c. search needs)
-    returns)
+    (λ c κs. search needs) answer-requires (λ c. search needs) (λ c. search needs)
+    (λ c. search needs) returns)

@@ -19,8 +19,4 @@ pub open-site-spec : {M : Type 1} → statement M
 open-site-spec =
     tie.close
     (tie.spec
-    returns
-    (λ c κs. search needs)
-    (λ c. search needs)
-    (λ c. search needs)
-    returns-2)
+    returns (λ c κs. search needs) (λ c. search needs) (λ c. search needs) returns-2)

@@ -16,7 +16,4 @@ pub feed-end-spec : {M : Type 1} → statement M
 feed-end-spec =
     tie.close
     (tie.spec
-    returns
-    (λ c κs. search needs)
-    (λ c. search needs)
-    returns-2)
+    returns (λ c κs. search needs) (λ c. search needs) returns-2)

@@ -9,4 +9,7 @@ unfolding hasRoom
 returns c = refl
 
 pub has-room-spec : {M : Type 1} → statement M
-has-room-spec = tie.close (tie.spec returns)
+has-room-spec =
+    tie.close
+    (tie.spec
+    returns)

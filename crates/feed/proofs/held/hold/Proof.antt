@@ -85,19 +85,5 @@ pub hold-spec : {M : Type 1} → statement M
 hold-spec =
     tie.close
     (tie.spec
-    Inv-loop
-    μ-loop
-    least-requires
-    sub-least
-    sub-least-2
-    least-requires-2
-    loop-holds
-    add-next
-    shared-slice-read-next
-    add-next-2
-    array-write-next
-    add-j
-    loop-less
-    loop-again
-    add-t10
-    returns)
+    Inv-loop μ-loop least-requires sub-least sub-least-2 least-requires-2 loop-holds add-next
+    shared-slice-read-next add-next-2 array-write-next add-j loop-less loop-again add-t10 returns)

@@ -58,12 +58,4 @@ pub line-end-spec : {M : Type 1} → statement M
 line-end-spec =
     tie.close
     (tie.spec
-    Inv-loop
-    μ-loop
-    loop-holds
-    shared-slice-read-if1
-    returns
-    add-e
-    loop-less
-    loop-again
-    returns-2)
+    Inv-loop μ-loop loop-holds shared-slice-read-if1 returns add-e loop-less loop-again returns-2)

@@ -27,8 +27,5 @@ pub read-held-spec : {M : Type 1} → statement M
 read-held-spec =
     tie.close
     (tie.spec
-    (λ c κs. search needs)
-    (λ c. search needs)
-    slice-aggregate-read-line
-    (λ c κs. search needs)
+    (λ c κs. search needs) (λ c. search needs) slice-aggregate-read-line (λ c κs. search needs)
     returns)

@@ -20,9 +20,6 @@ abbrev μ-loop : tie.MeasureT-loop
 line-length : (s : tie.Start Inv-loop μ-loop) → length (s .args .f .line) ≡ 65
 line-length s = search needs
 
-line-end-requires : tie.Need-line-end-requires Inv-loop μ-loop
-line-end-requires c κs = search needs
-
 loop-holds : tie.Need-loop-holds Inv-loop μ-loop
 loop-holds c =
     let start = c .before .before .before .before .before in (
@@ -46,9 +43,6 @@ answer-line-requires c κs =
       omega (arith, on .1),
       at-loop .loop .inv .2 .lent,
     )
-
-add-i : tie.Need-add-i Inv-loop μ-loop
-add-i c = search needs
 
 line-end-requires-2 : tie.Need-line-end-requires-2 Inv-loop μ-loop
 line-end-requires-2 c κs =
@@ -111,18 +105,6 @@ pub feed-formed-spec : {M : Type 1} → statement M
 feed-formed-spec =
     tie.close
     (tie.spec
-    Inv-loop
-    μ-loop
-    line-end-requires
-    loop-holds
-    sub-loop
-    answer-line-requires
-    add-i
-    line-end-requires-2
-    loop-less
-    loop-again
-    keep-requires
-    same-length
-    same-length-2
-    same-length-3
-    returns)
+    Inv-loop μ-loop (λ c κs. search needs) loop-holds sub-loop answer-line-requires
+    (λ c. search needs) line-end-requires-2 loop-less loop-again keep-requires same-length
+    same-length-2 same-length-3 returns)

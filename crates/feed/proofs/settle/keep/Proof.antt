@@ -13,5 +13,4 @@ pub keep-spec : {M : Type 1} → statement M
 keep-spec =
     tie.close
     (tie.spec
-    (λ c κs. search needs)
-    returns)
+    (λ c κs. search needs) returns)

@@ -44,14 +44,5 @@ pub put-end-spec : {M : Type 1} → statement M
 put-end-spec =
     tie.close
     (tie.spec
-    returns
-    (λ c. search needs)
-    (λ c κs. search needs)
-    (λ c. search needs)
-    (λ c κs. search needs)
-    (λ c. search needs)
-    (λ c. search needs)
-    returns-2
-    (λ c. search needs)
-    returns-3
-    returns-4)
+    returns (λ c. search needs) (λ c κs. search needs) (λ c. search needs) (λ c κs. search needs)
+    (λ c. search needs) (λ c. search needs) returns-2 (λ c. search needs) returns-3 returns-4)

@@ -67,16 +67,5 @@ pub put-lasts-spec : {M : Type 1} → statement M
 put-lasts-spec =
     tie.close
     (tie.spec
-    Inv-loop
-    μ-loop
-    loop-holds
-    row-at-requires
-    add-put-next
-    mul-put-next
-    shared-slice-read-put-next
-    put-next-requires
-    add-i
-    loop-less
-    loop-again
-    same-length
-    returns)
+    Inv-loop μ-loop loop-holds row-at-requires add-put-next mul-put-next shared-slice-read-put-next
+    put-next-requires add-i loop-less loop-again same-length returns)

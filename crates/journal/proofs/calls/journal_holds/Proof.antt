@@ -10,4 +10,6 @@ returns c = c .answer-number .ensures ∙ ap answerNumber (c .before .holds .ens
 
 pub journal-holds-spec : {M : Type 1} → statement M
 journal-holds-spec =
-    tie.close (tie.spec (λ c κs. search needs) (λ c κs. search needs) returns)
+    tie.close
+    (tie.spec
+    (λ c κs. search needs) (λ c κs. search needs) returns)

@@ -39,10 +39,4 @@ pub journal-links-words-spec : {M : Type 1} → statement M
 journal-links-words-spec =
     tie.close
     (tie.spec
-    (λ c κs. search needs)
-    returns
-    link-width-requires
-    sub-result
-    mul-result
-    mul-result-2
-    returns-2)
+    (λ c κs. search needs) returns link-width-requires sub-result mul-result mul-result-2 returns-2)

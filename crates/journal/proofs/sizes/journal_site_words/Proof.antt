@@ -31,9 +31,4 @@ pub journal-site-words-spec : {M : Type 1} → statement M
 journal-site-words-spec =
     tie.close
     (tie.spec
-    (λ c κs. search needs)
-    returns
-    (λ c κs. search needs)
-    mul-result
-    add-result
-    returns-2)
+    (λ c κs. search needs) returns (λ c κs. search needs) mul-result add-result returns-2)

@@ -17,4 +17,7 @@ returns-2 : tie.Need-returns-2
 returns-2 c = let a = c .before .args in one-more (a .count) (a .last) (c .if1 .left)
 
 pub is-one-more-spec : {M : Type 1} → statement M
-is-one-more-spec = tie.close (tie.spec returns (λ c. search needs) returns-2)
+is-one-more-spec =
+    tie.close
+    (tie.spec
+    returns (λ c. search needs) returns-2)

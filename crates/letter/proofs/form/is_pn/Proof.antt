@@ -1,3 +1,4 @@
+-- `letter::form::is_pn` meets its contract.
 use borrow.Author.Needs.{needs}
 use Rattle.letter.proofs.form.is_pn.Statement.{statement}
 use Rattle.letter.proofs.form.is_pn.Tie as tie
@@ -36,15 +37,6 @@ pub is-pn-spec : {M : Type 1} → statement M
 is-pn-spec =
     tie.close
     (tie.spec
-    (λ c. search needs)
-    (λ c. search needs)
-    (λ c. search needs)
-    (λ c. search needs)
-    (λ c. search needs)
-    (λ c. search needs)
-    returns
-    returns-2
-    returns-3
-    returns-4
-    returns-5
+    (λ c. search needs) (λ c. search needs) (λ c. search needs) (λ c. search needs)
+    (λ c. search needs) (λ c. search needs) returns returns-2 returns-3 returns-4 returns-5
     returns-6)

@@ -1,3 +1,4 @@
+-- `letter::form::is_unagreed` meets its contract.
 use borrow.Author.Needs.{needs}
 use Rattle.letter.proofs.form.is_unagreed.Statement.{statement}
 use Rattle.letter.proofs.form.is_unagreed.Tie as tie
@@ -36,15 +37,6 @@ pub is-unagreed-spec : {M : Type 1} → statement M
 is-unagreed-spec =
     tie.close
     (tie.spec
-    (λ c. search needs)
-    (λ c. search needs)
-    (λ c. search needs)
-    (λ c. search needs)
-    (λ c. search needs)
-    (λ c. search needs)
-    returns
-    returns-2
-    returns-3
-    returns-4
-    returns-5
+    (λ c. search needs) (λ c. search needs) (λ c. search needs) (λ c. search needs)
+    (λ c. search needs) (λ c. search needs) returns returns-2 returns-3 returns-4 returns-5
     returns-6)

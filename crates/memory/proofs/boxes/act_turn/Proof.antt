@@ -23,6 +23,4 @@ pub act-turn-spec : {M : Type 1} → statement M
 act-turn-spec =
     tie.close
     (tie.spec
-    (λ c κs. search needs)
-    act-turn-requires
-    returns)
+    (λ c κs. search needs) act-turn-requires returns)

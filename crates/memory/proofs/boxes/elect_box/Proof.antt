@@ -33,10 +33,5 @@ pub elect-box-spec : {M : Type 1} → statement M
 elect-box-spec =
     tie.close
     (tie.spec
-    (λ c. search needs)
-    number-requires
-    load-requires
-    (λ c κs. search needs)
-    (λ c κs. search needs)
-    (λ c. search needs)
-    returns)
+    (λ c. search needs) number-requires load-requires (λ c κs. search needs) (λ c κs. search needs)
+    (λ c. search needs) returns)

@@ -61,12 +61,4 @@ pub elect-rows-spec : {M : Type 1} → statement M
 elect-rows-spec =
     tie.close
     (tie.spec
-    Inv-loop
-    μ-loop
-    loop-holds
-    add-b
-    elect-row-requires
-    loop-less
-    loop-again
-    same-length
-    returns)
+    Inv-loop μ-loop loop-holds add-b elect-row-requires loop-less loop-again same-length returns)

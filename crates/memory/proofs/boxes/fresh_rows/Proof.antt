@@ -52,12 +52,4 @@ pub fresh-rows-spec : {M : Type 1} → statement M
 fresh-rows-spec =
     tie.close
     (tie.spec
-    Inv-loop
-    μ-loop
-    loop-holds
-    add-b
-    fresh-row-requires
-    loop-less
-    loop-again
-    same-length
-    returns)
+    Inv-loop μ-loop loop-holds add-b fresh-row-requires loop-less loop-again same-length returns)

@@ -17,9 +17,6 @@ Inv-loop links s count k₀ k = (k ≤ count) × (every k (linkTest s links) ≡
 abbrev μ-loop : tie.MeasureT-loop
 μ-loop links s count k₀ k = count - k
 
-link-count-requires : tie.Need-link-count-requires Inv-loop μ-loop
-link-count-requires c κs = search needs
-
 loop-holds : tie.Need-loop-holds Inv-loop μ-loop
 loop-holds c =
     let s = c .before .before in
@@ -67,13 +64,5 @@ pub are-links-by-form-spec : {M : Type 1} → statement M
 are-links-by-form-spec =
     tie.close
     (tie.spec
-    Inv-loop
-    μ-loop
-    link-count-requires
-    loop-holds
-    is-link-by-form-requires
-    returns
-    add-k
-    loop-less
-    loop-again
-    returns-2)
+    Inv-loop μ-loop (λ c κs. search needs) loop-holds is-link-by-form-requires returns add-k
+    loop-less loop-again returns-2)

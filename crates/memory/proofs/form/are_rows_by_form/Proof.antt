@@ -92,14 +92,5 @@ pub are-rows-by-form-spec : {M : Type 1} → statement M
 are-rows-by-form-spec =
     tie.close
     (tie.spec
-    Inv-loop
-    μ-loop
-    loop-holds
-    add-b
-    is-row-by-form-requires
-    returns
-    leader-requires
-    add-leaders
-    loop-less
-    loop-again
-    returns-2)
+    Inv-loop μ-loop loop-holds add-b is-row-by-form-requires returns leader-requires add-leaders
+    loop-less loop-again returns-2)

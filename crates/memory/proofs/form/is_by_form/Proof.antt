@@ -89,12 +89,5 @@ pub is-by-form-spec : {M : Type 1} → statement M
 is-by-form-spec =
     tie.close
     (tie.spec
-    (λ c κs. search needs)
-    returns
-    setting-of-requires
-    has-words-requires
-    returns-2
-    are-rows-by-form-requires
-    returns-3
-    are-links-by-form-requires
-    returns-4)
+    (λ c κs. search needs) returns setting-of-requires has-words-requires returns-2
+    are-rows-by-form-requires returns-3 are-links-by-form-requires returns-4)

@@ -38,15 +38,6 @@ pub is-general-spec : {M : Type 1} → statement M
 is-general-spec =
     tie.close
     (tie.spec
-    returns
-    (λ c. search needs)
-    (λ c. search needs)
-    (λ c. search needs)
-    (λ c κs. search needs)
-    returns-2
-    (λ c. search needs)
-    number-requires
-    (λ c. search needs)
-    (λ c κs. search needs)
-    (λ c. search needs)
-    returns-3)
+    returns (λ c. search needs) (λ c. search needs) (λ c. search needs) (λ c κs. search needs)
+    returns-2 (λ c. search needs) number-requires (λ c. search needs) (λ c κs. search needs)
+    (λ c. search needs) returns-3)

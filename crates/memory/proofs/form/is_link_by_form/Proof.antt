@@ -27,6 +27,4 @@ pub is-link-by-form-spec : {M : Type 1} → statement M
 is-link-by-form-spec =
     tie.close
     (tie.spec
-    (λ c κs. search needs)
-    is-by-form-requires
-    returns)
+    (λ c κs. search needs) is-by-form-requires returns)

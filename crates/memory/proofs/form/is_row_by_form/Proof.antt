@@ -26,6 +26,4 @@ pub is-row-by-form-spec : {M : Type 1} → statement M
 is-row-by-form-spec =
     tie.close
     (tie.spec
-    (λ c κs. search needs)
-    is-by-form-requires
-    returns)
+    (λ c κs. search needs) is-by-form-requires returns)

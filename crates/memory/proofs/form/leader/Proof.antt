@@ -22,7 +22,4 @@ pub leader-spec : {M : Type 1} → statement M
 leader-spec =
     tie.close
     (tie.spec
-    (λ c κs. search needs)
-    shared-slice-read-if1
-    returns
-    returns-2)
+    (λ c κs. search needs) shared-slice-read-if1 returns returns-2)

@@ -19,5 +19,4 @@ pub has-spec : {M : Type 1} → statement M
 has-spec =
     tie.close
     (tie.spec
-    (λ c κs. search needs)
-    returns)
+    (λ c κs. search needs) returns)

@@ -12,9 +12,6 @@ Inv-loop links₀ s count k₀ links k = Cleared s links₀ k links
 abbrev μ-loop : tie.MeasureT-loop
 μ-loop links₀ s count k₀ links k = count - k
 
-link-count-requires : tie.Need-link-count-requires Inv-loop μ-loop
-link-count-requires c κs = search needs
-
 loop-holds : tie.Need-loop-holds Inv-loop μ-loop
 loop-holds c = cleared-none _ _
 
@@ -52,13 +49,5 @@ pub clear-links-spec : {M : Type 1} → statement M
 clear-links-spec =
     tie.close
     (tie.spec
-    Inv-loop
-    μ-loop
-    link-count-requires
-    loop-holds
-    clear-link-requires
-    add-k
-    loop-less
-    loop-again
-    same-length
-    returns)
+    Inv-loop μ-loop (λ c κs. search needs) loop-holds clear-link-requires add-k loop-less
+    loop-again same-length returns)

@@ -27,7 +27,4 @@ pub count-spec : {M : Type 1} → statement M
 count-spec =
     tie.close
     (tie.spec
-    (λ c κs. search needs)
-    (λ c κs. search needs)
-    count-requires
-    returns)
+    (λ c κs. search needs) (λ c κs. search needs) count-requires returns)

@@ -62,12 +62,4 @@ pub has-room-spec : {M : Type 1} → statement M
 has-room-spec =
     tie.close
     (tie.spec
-    Inv-loop
-    μ-loop
-    loop-holds
-    add-b
-    has-room-for-requires
-    returns
-    loop-less
-    loop-again
-    returns-2)
+    Inv-loop μ-loop loop-holds add-b has-room-for-requires returns loop-less loop-again returns-2)

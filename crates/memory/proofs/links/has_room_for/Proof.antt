@@ -32,8 +32,4 @@ pub has-room-for-spec : {M : Type 1} → statement M
 has-room-for-spec =
     tie.close
     (tie.spec
-    has-requires
-    count-requires
-    (λ c. search needs)
-    returns
-    returns-2)
+    has-requires count-requires (λ c. search needs) returns returns-2)

@@ -47,8 +47,4 @@ pub send-spec : {M : Type 1} → statement M
 send-spec =
     tie.close
     (tie.spec
-    (λ c κs. search needs)
-    records-requires
-    send-all-requires
-    (λ c. search needs)
-    returns)
+    (λ c κs. search needs) records-requires send-all-requires (λ c. search needs) returns)

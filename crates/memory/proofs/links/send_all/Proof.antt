@@ -77,12 +77,4 @@ pub send-all-spec : {M : Type 1} → statement M
 send-all-spec =
     tie.close
     (tie.spec
-    Inv-loop
-    μ-loop
-    loop-holds
-    add-b
-    send-to-requires
-    loop-less
-    loop-again
-    same-length
-    returns)
+    Inv-loop μ-loop loop-holds add-b send-to-requires loop-less loop-again same-length returns)

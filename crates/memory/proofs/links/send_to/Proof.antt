@@ -65,14 +65,5 @@ pub send-to-spec : {M : Type 1} → statement M
 send-to-spec =
     tie.close
     (tie.spec
-    has-requires
-    link-start-requires
-    (λ c κs. search needs)
-    (λ c. search needs)
-    (λ c. search needs)
-    (λ c. search needs)
-    (λ c. search needs)
-    push-requires
-    (λ c. search needs)
-    returns
-    returns-2)
+    has-requires link-start-requires (λ c κs. search needs) (λ c. search needs) (λ c. search needs)
+    (λ c. search needs) (λ c. search needs) push-requires (λ c. search needs) returns returns-2)

@@ -36,11 +36,5 @@ pub has-words-spec : {M : Type 1} → statement M
 has-words-spec =
     tie.close
     (tie.spec
-    (λ c. search needs)
-    (λ c κs. search needs)
-    mul-rows
-    (λ c κs. search needs)
-    link-width-requires
-    mul-pairs
-    add-result
-    returns)
+    (λ c. search needs) (λ c κs. search needs) mul-rows (λ c κs. search needs) link-width-requires
+    mul-pairs add-result returns)

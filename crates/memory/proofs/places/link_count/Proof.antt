@@ -16,7 +16,4 @@ pub link-count-spec : {M : Type 1} → statement M
 link-count-spec =
     tie.close
     (tie.spec
-    (λ c. search needs)
-    sub-result
-    mul-result
-    (λ c. search needs))
+    (λ c. search needs) sub-result mul-result (λ c. search needs))

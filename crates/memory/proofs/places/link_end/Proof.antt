@@ -16,6 +16,4 @@ pub link-end-spec : {M : Type 1} → statement M
 link-end-spec =
     tie.close
     (tie.spec
-    link-width-requires
-    add-result
-    (λ c. search needs))
+    link-width-requires add-result (λ c. search needs))

@@ -46,11 +46,5 @@ pub link-index-spec : {M : Type 1} → statement M
 link-index-spec =
     tie.close
     (tie.spec
-    sub-before
-    (λ c. search needs)
-    sub-others
-    (λ c. search needs)
-    mul-result
-    seat-requires
-    add-result
-    returns)
+    sub-before (λ c. search needs) sub-others (λ c. search needs) mul-result seat-requires
+    add-result returns)

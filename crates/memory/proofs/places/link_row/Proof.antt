@@ -24,7 +24,4 @@ pub link-row-spec : {M : Type 1} → statement M
 link-row-spec =
     tie.close
     (tie.spec
-    link-width-requires
-    (λ c κs. search needs)
-    row-at-requires
-    returns)
+    link-width-requires (λ c κs. search needs) row-at-requires returns)

@@ -10,6 +10,4 @@ pub link-start-spec : {M : Type 1} → statement M
 link-start-spec =
     tie.close
     (tie.spec
-    (λ c κs. search needs)
-    (λ c κs. search needs)
-    returns)
+    (λ c κs. search needs) (λ c κs. search needs) returns)

@@ -15,7 +15,4 @@ pub link-width-spec : {M : Type 1} → statement M
 link-width-spec =
     tie.close
     (tie.spec
-    (λ c. search needs)
-    mul-result
-    add-result
-    (λ c. search needs))
+    (λ c. search needs) mul-result add-result (λ c. search needs))

@@ -39,10 +39,5 @@ pub row-start-spec : {M : Type 1} → statement M
 row-start-spec =
     tie.close
     (tie.spec
-    (λ c κs. search needs)
-    sub-before
-    (λ c. search needs)
-    (λ c. search needs)
-    row-at-requires
-    add-result
-    returns)
+    (λ c κs. search needs) sub-before (λ c. search needs) (λ c. search needs) row-at-requires
+    add-result returns)

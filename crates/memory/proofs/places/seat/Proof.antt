@@ -18,9 +18,4 @@ pub seat-spec : {M : Type 1} → statement M
 seat-spec =
     tie.close
     (tie.spec
-    (λ c. search needs)
-    (λ c. search needs)
-    returns
-    sub-result-2
-    (λ c. search needs)
-    returns-2)
+    (λ c. search needs) (λ c. search needs) returns sub-result-2 (λ c. search needs) returns-2)

@@ -143,30 +143,9 @@ pub feed-all-spec : {M : Type 1} → statement M
 feed-all-spec =
     tie.close
     (tie.spec
-    Inv-loop
-    μ-loop
-    loop-holds
-    sub-feed-formed
-    (λ c. search needs)
-    (λ c. search needs)
-    feed-formed-requires
-    slice-reshare-prefix-write
-    slice-aggregate-write
-    (λ c κs. search needs)
-    same-length
-    same-length-2
-    same-length-3
-    returns
-    sub-tell-refused
-    (λ c. search needs)
-    (λ c. search needs)
-    slice-reshare-prefix-tell-refused
-    slice-aggregate-tell-refused
-    (λ c κs. search needs)
-    add-i
-    loop-less
-    loop-again
-    same-length-4
-    same-length-5
-    same-length-6
+    Inv-loop μ-loop loop-holds sub-feed-formed (λ c. search needs) (λ c. search needs)
+    feed-formed-requires slice-reshare-prefix-write slice-aggregate-write (λ c κs. search needs)
+    same-length same-length-2 same-length-3 returns sub-tell-refused (λ c. search needs)
+    (λ c. search needs) slice-reshare-prefix-tell-refused slice-aggregate-tell-refused
+    (λ c κs. search needs) add-i loop-less loop-again same-length-4 same-length-5 same-length-6
     returns-2)

@@ -96,21 +96,6 @@ pub run-spec : {M : Type 1} → statement M
 run-spec =
     tie.close
     (tie.spec
-    Inv-loop
-    μ-loop
-    (λ c κs. search needs)
-    loop-holds
-    read-some-requires
-    same-length
-    same-length-2
-    same-length-3
-    same-length-4
-    (λ c. search needs)
-    (λ c. search needs)
-    (λ c. search needs)
-    loop-again
-    same-length-5
-    same-length-6
-    same-length-7
-    same-length-8
-    (λ c. search needs))
+    Inv-loop μ-loop (λ c κs. search needs) loop-holds read-some-requires same-length same-length-2
+    same-length-3 same-length-4 (λ c. search needs) (λ c. search needs) (λ c. search needs)
+    loop-again same-length-5 same-length-6 same-length-7 same-length-8 (λ c. search needs))

@@ -1,3 +1,4 @@
+-- `row::form::head_fault` meets its contract.
 use Rattle.values.specs.Faults.{faultThen}
 use Rattle.row.specs.Faults.{headFault}
 use borrow.Author.Needs.{needs}
@@ -19,11 +20,5 @@ pub head-fault-spec : {M : Type 1} → statement M
 head-fault-spec =
     tie.close
     (tie.spec
-    (λ c. search needs)
-    (λ c. search needs)
-    (λ c κs. search needs)
-    (λ c κs. search needs)
-    (λ c κs. search needs)
-    (λ c κs. search needs)
-    (λ c κs. search needs)
-    returns)
+    (λ c. search needs) (λ c. search needs) (λ c κs. search needs) (λ c κs. search needs)
+    (λ c κs. search needs) (λ c κs. search needs) (λ c κs. search needs) returns)

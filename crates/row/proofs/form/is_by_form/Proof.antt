@@ -32,10 +32,5 @@ pub is-by-form-spec : {M : Type 1} → statement M
 is-by-form-spec =
     tie.close
     (tie.spec
-    (λ c κs. search needs)
-    (λ c. search needs)
-    records-requires
-    (λ c κs. search needs)
-    (λ c. search needs)
-    returns
-    returns-2)
+    (λ c κs. search needs) (λ c. search needs) records-requires (λ c κs. search needs)
+    (λ c. search needs) returns returns-2)

@@ -20,8 +20,4 @@ pub is-peer-spec : {M : Type 1} → statement M
 is-peer-spec =
     tie.close
     (tie.spec
-    returns
-    (λ c. search needs)
-    (λ c. search needs)
-    (λ c. search needs)
-    returns-2)
+    returns (λ c. search needs) (λ c. search needs) (λ c. search needs) returns-2)

@@ -1,3 +1,4 @@
+-- `row::form::peer_fault` meets its contract.
 use Rattle.values.specs.Faults.{faultThen}
 use borrow.Author.Needs.{needs}
 use Rattle.row.proofs.form.peer_fault.Statement.{statement}
@@ -23,14 +24,6 @@ pub peer-fault-spec : {M : Type 1} → statement M
 peer-fault-spec =
     tie.close
     (tie.spec
-    (λ c κs. search needs)
-    (λ c κs. search needs)
-    (λ c κs. search needs)
-    (λ c κs. search needs)
-    (λ c κs. search needs)
-    (λ c κs. search needs)
-    (λ c κs. search needs)
-    (λ c κs. search needs)
-    (λ c κs. search needs)
-    (λ c κs. search needs)
-    returns)
+    (λ c κs. search needs) (λ c κs. search needs) (λ c κs. search needs) (λ c κs. search needs)
+    (λ c κs. search needs) (λ c κs. search needs) (λ c κs. search needs) (λ c κs. search needs)
+    (λ c κs. search needs) (λ c κs. search needs) returns)

@@ -59,13 +59,5 @@ pub elect-spec : {M : Type 1} → statement M
 elect-spec =
     tie.close
     (tie.spec
-    setting-of-requires
-    (λ c κs. search needs)
-    (λ c. search needs)
-    returns
-    has-requires
-    elect-verdict-requires
-    elect-by-requires
-    (λ c. search needs)
-    (λ c. search needs)
-    returns-2)
+    setting-of-requires (λ c κs. search needs) (λ c. search needs) returns has-requires
+    elect-verdict-requires elect-by-requires (λ c. search needs) (λ c. search needs) returns-2)

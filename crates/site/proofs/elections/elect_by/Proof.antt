@@ -52,15 +52,6 @@ pub elect-by-spec : {M : Type 1} → statement M
 elect-by-spec =
     tie.close
     (tie.spec
-    add-epoch
-    (λ c. search needs)
-    elect-rows-requires
-    clear-links-requires
-    put-general-requires
-    (λ c. search needs)
-    (λ c. search needs)
-    (λ c. search needs)
-    (λ c. search needs)
-    returns
-    returns-2
-    returns-3)
+    add-epoch (λ c. search needs) elect-rows-requires clear-links-requires put-general-requires
+    (λ c. search needs) (λ c. search needs) (λ c. search needs) (λ c. search needs) returns
+    returns-2 returns-3)

@@ -19,4 +19,7 @@ returns-2 : tie.Need-returns-2
 returns-2 c = sym (unformed-held _ _ (sym (c .before .is-by-form .ensures) ∙ c .if1 .left) _ _ _ _)
 
 pub holds-spec : {M : Type 1} → statement M
-holds-spec = tie.close (tie.spec (λ c κs. search needs) holds-formed-requires returns returns-2)
+holds-spec =
+    tie.close
+    (tie.spec
+    (λ c κs. search needs) holds-formed-requires returns returns-2)

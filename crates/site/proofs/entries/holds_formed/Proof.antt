@@ -82,10 +82,5 @@ pub holds-formed-spec : {M : Type 1} → statement M
 holds-formed-spec =
     tie.close
     (tie.spec
-    setting-of-requires
-    (λ c κs. search needs)
-    returns
-    row-of-requires
-    is-agreed-requires
-    returns-2
+    setting-of-requires (λ c κs. search needs) returns row-of-requires is-agreed-requires returns-2
     returns-3)

@@ -48,12 +48,5 @@ pub carry-mail-spec : {M : Type 1} → statement M
 carry-mail-spec =
     tie.close
     (tie.spec
-    (λ c. search needs)
-    add-q
-    add-q-2
-    play-requires
-    pop-requires
-    post-requires
-    (λ c. search needs)
-    (λ c. search needs)
-    returns)
+    (λ c. search needs) add-q add-q-2 play-requires pop-requires post-requires (λ c. search needs)
+    (λ c. search needs) returns)

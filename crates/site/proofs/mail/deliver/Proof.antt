@@ -68,15 +68,6 @@ pub deliver-spec : {M : Type 1} → statement M
 deliver-spec =
     tie.close
     (tie.spec
-    setting-of-requires
-    (λ c κs. search needs)
-    (λ c. search needs)
-    returns
-    count-requires
-    (λ c. search needs)
-    (λ c. search needs)
-    returns-2
-    hand-over-requires
-    (λ c. search needs)
-    (λ c. search needs)
-    returns-3)
+    setting-of-requires (λ c κs. search needs) (λ c. search needs) returns count-requires
+    (λ c. search needs) (λ c. search needs) returns-2 hand-over-requires (λ c. search needs)
+    (λ c. search needs) returns-3)

@@ -123,22 +123,7 @@ pub hand-over-spec : {M : Type 1} → statement M
 hand-over-spec =
     tie.close
     (tie.spec
-    head-start-requires
-    mail-turn-requires
-    (λ c κs. search needs)
-    (λ c. search needs)
-    (λ c. search needs)
-    returns
-    (λ c κs. search needs)
-    pop-requires
-    (λ c. search needs)
-    (λ c. search needs)
-    returns-2
-    has-room-requires
-    (λ c. search needs)
-    (λ c. search needs)
-    returns-3
-    carry-mail-requires
-    (λ c. search needs)
-    (λ c. search needs)
-    returns-4)
+    head-start-requires mail-turn-requires (λ c κs. search needs) (λ c. search needs)
+    (λ c. search needs) returns (λ c κs. search needs) pop-requires (λ c. search needs)
+    (λ c. search needs) returns-2 has-room-requires (λ c. search needs) (λ c. search needs)
+    returns-3 carry-mail-requires (λ c. search needs) (λ c. search needs) returns-4)

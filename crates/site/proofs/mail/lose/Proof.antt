@@ -76,12 +76,5 @@ pub lose-spec : {M : Type 1} → statement M
 lose-spec =
     tie.close
     (tie.spec
-    setting-of-requires
-    (λ c κs. search needs)
-    returns
-    count-requires
-    (λ c. search needs)
-    returns-2
-    pop-requires
-    (λ c. search needs)
-    returns-3)
+    setting-of-requires (λ c κs. search needs) returns count-requires (λ c. search needs) returns-2
+    pop-requires (λ c. search needs) returns-3)

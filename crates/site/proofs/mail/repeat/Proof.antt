@@ -94,15 +94,5 @@ pub repeat-spec : {M : Type 1} → statement M
 repeat-spec =
     tie.close
     (tie.spec
-    setting-of-requires
-    (λ c κs. search needs)
-    returns
-    count-requires
-    (λ c. search needs)
-    returns-2
-    (λ c. search needs)
-    double-requires
-    (λ c. search needs)
-    returns-3
-    (λ c. search needs)
-    returns-4)
+    setting-of-requires (λ c κs. search needs) returns count-requires (λ c. search needs) returns-2
+    (λ c. search needs) double-requires (λ c. search needs) returns-3 (λ c. search needs) returns-4)

@@ -65,13 +65,6 @@ pub come-back-spec : {M : Type 1} → statement M
 come-back-spec =
     tie.close
     (tie.spec
-    setting-of-requires
-    (λ c κs. search needs)
-    (λ c. search needs)
-    returns
-    has-requires
-    return-verdict-requires
-    (λ c κs. search needs)
-    present-as-requires
-    (λ c. search needs)
+    setting-of-requires (λ c κs. search needs) (λ c. search needs) returns has-requires
+    return-verdict-requires (λ c κs. search needs) present-as-requires (λ c. search needs)
     returns-2)

@@ -5,24 +5,6 @@ use borrow.Author.Needs.{needs}
 use Rattle.site.proofs.presence.present_as.Statement.{statement}
 use Rattle.site.proofs.presence.present_as.Tie as tie
 
-raise-requires : tie.Need-raise-requires
-raise-requires c κs = search needs
-
-enum-told : tie.Need-enum-told
-enum-told c = search needs
-
-put-general-requires : tie.Need-put-general-requires
-put-general-requires c κs = search needs
-
-enum-known-v : tie.Need-enum-known-v
-enum-known-v c = search needs
-
-enum-known-v-2 : tie.Need-enum-known-v-2
-enum-known-v-2 c = search needs
-
-same-length : tie.Need-same-length
-same-length c = search needs
-
 returns : tie.Need-returns
 returns c =
     presented-go _ _ _ _ _ _
@@ -40,12 +22,5 @@ pub present-as-spec : {M : Type 1} → statement M
 present-as-spec =
     tie.close
     (tie.spec
-    raise-requires
-    enum-told
-    put-general-requires
-    enum-known-v
-    enum-known-v-2
-    same-length
-    returns
-    returns-2
-    returns-3)
+    (λ c κs. search needs) (λ c. search needs) (λ c κs. search needs) (λ c. search needs)
+    (λ c. search needs) (λ c. search needs) returns returns-2 returns-3)

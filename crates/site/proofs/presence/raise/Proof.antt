@@ -11,4 +11,7 @@ returns-2 : tie.Need-returns-2
 returns-2 c = rw (← c .before .is-even .ensures, c .if1 .left) refl
 
 pub raise-spec : {M : Type 1} → statement M
-raise-spec = tie.close (tie.spec (λ c κs. search needs) (λ c. search needs) returns returns-2)
+raise-spec =
+    tie.close
+    (tie.spec
+    (λ c κs. search needs) (λ c. search needs) returns returns-2)

@@ -65,13 +65,5 @@ pub stop-spec : {M : Type 1} → statement M
 stop-spec =
     tie.close
     (tie.spec
-    setting-of-requires
-    (λ c κs. search needs)
-    (λ c. search needs)
-    returns
-    has-requires
-    stop-verdict-requires
-    (λ c κs. search needs)
-    present-as-requires
-    (λ c. search needs)
-    returns-2)
+    setting-of-requires (λ c κs. search needs) (λ c. search needs) returns has-requires
+    stop-verdict-requires (λ c κs. search needs) present-as-requires (λ c. search needs) returns-2)

@@ -62,12 +62,5 @@ pub time-out-spec : {M : Type 1} → statement M
 time-out-spec =
     tie.close
     (tie.spec
-    setting-of-requires
-    (λ c κs. search needs)
-    (λ c. search needs)
-    returns
-    has-requires
-    timeout-verdict-requires
-    present-as-requires
-    (λ c. search needs)
-    returns-2)
+    setting-of-requires (λ c κs. search needs) (λ c. search needs) returns has-requires
+    timeout-verdict-requires present-as-requires (λ c. search needs) returns-2)

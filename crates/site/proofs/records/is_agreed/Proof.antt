@@ -28,10 +28,5 @@ pub is-agreed-spec : {M : Type 1} → statement M
 is-agreed-spec =
     tie.close
     (tie.spec
-    returns
-    (λ c. search needs)
-    returns-2
-    (λ c. search needs)
-    (λ c. search needs)
-    (λ c. search needs)
-    returns-3)
+    returns (λ c. search needs) returns-2 (λ c. search needs) (λ c. search needs)
+    (λ c. search needs) returns-3)

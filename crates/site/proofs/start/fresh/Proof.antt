@@ -86,16 +86,6 @@ pub fresh-spec : {M : Type 1} → statement M
 fresh-spec =
     tie.close
     (tie.spec
-    (λ c κs. search needs)
-    returns
-    full-set-requires
-    has-words-requires
-    (λ c. search needs)
-    (λ c. search needs)
-    returns-2
-    put-setting-requires
-    fresh-rows-requires
-    clear-links-requires
-    (λ c. search needs)
-    (λ c. search needs)
-    returns-3)
+    (λ c κs. search needs) returns full-set-requires has-words-requires (λ c. search needs)
+    (λ c. search needs) returns-2 put-setting-requires fresh-rows-requires clear-links-requires
+    (λ c. search needs) (λ c. search needs) returns-3)

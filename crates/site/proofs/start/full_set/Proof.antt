@@ -48,4 +48,5 @@ returns c =
 pub full-set-spec : {M : Type 1} → statement M
 full-set-spec =
     tie.close
-    (tie.spec Inv-loop μ-loop loop-holds add-set add-set-2 add-b loop-less loop-again returns)
+    (tie.spec
+    Inv-loop μ-loop loop-holds add-set add-set-2 add-b loop-less loop-again returns)

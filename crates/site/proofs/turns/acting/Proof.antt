@@ -137,19 +137,7 @@ pub acting-spec : {M : Type 1} → statement M
 acting-spec =
     tie.close
     (tie.spec
-    setting-of-requires
-    (λ c κs. search needs)
-    (λ c. search needs)
-    returns
-    act-turn-requires
-    (λ c κs. search needs)
-    (λ c. search needs)
-    returns-2
-    has-room-requires
-    (λ c. search needs)
-    (λ c. search needs)
-    returns-3
-    carry-out-requires
-    (λ c. search needs)
-    (λ c. search needs)
+    setting-of-requires (λ c κs. search needs) (λ c. search needs) returns act-turn-requires
+    (λ c κs. search needs) (λ c. search needs) returns-2 has-room-requires (λ c. search needs)
+    (λ c. search needs) returns-3 carry-out-requires (λ c. search needs) (λ c. search needs)
     returns-4)

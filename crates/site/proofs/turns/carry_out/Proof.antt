@@ -27,4 +27,5 @@ returns c =
 pub carry-out-spec : {M : Type 1} → statement M
 carry-out-spec =
     tie.close
-    (tie.spec play-requires post-requires (λ c. search needs) (λ c. search needs) returns)
+    (tie.spec
+    play-requires post-requires (λ c. search needs) (λ c. search needs) returns)

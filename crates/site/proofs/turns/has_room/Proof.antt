@@ -29,4 +29,6 @@ returns-2 c =
 
 pub has-room-spec : {M : Type 1} → statement M
 has-room-spec =
-    tie.close (tie.spec (λ c. search needs) (λ c. search needs) has-room-requires returns returns-2)
+    tie.close
+    (tie.spec
+    (λ c. search needs) (λ c. search needs) has-room-requires returns returns-2)

@@ -27,9 +27,4 @@ pub post-spec : {M : Type 1} → statement M
 post-spec =
     tie.close
     (tie.spec
-    (λ c. search needs)
-    (λ c. search needs)
-    send-requires
-    returns
-    (λ c. search needs)
-    returns-2)
+    (λ c. search needs) (λ c. search needs) send-requires returns (λ c. search needs) returns-2)

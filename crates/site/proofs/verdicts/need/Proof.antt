@@ -10,4 +10,7 @@ returns-2 : tie.Need-returns-2
 returns-2 c = rw (c .if1 .left) refl
 
 pub need-spec : {M : Type 1} → statement M
-need-spec = tie.close (tie.spec returns returns-2)
+need-spec =
+    tie.close
+    (tie.spec
+    returns returns-2)

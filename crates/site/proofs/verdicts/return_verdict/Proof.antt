@@ -4,12 +4,6 @@ use borrow.Author.Needs.{needs}
 use Rattle.site.proofs.verdicts.return_verdict.Statement.{statement}
 use Rattle.site.proofs.verdicts.return_verdict.Tie as tie
 
-need-requires : tie.Need-need-requires
-need-requires c κs = search needs
-
-need-requires-2 : tie.Need-need-requires-2
-need-requires-2 c κs = search needs
-
 returns : tie.Need-returns
 unfolding verdictOf
 returns c =
@@ -20,4 +14,7 @@ returns c =
     )
 
 pub return-verdict-spec : {M : Type 1} → statement M
-return-verdict-spec = tie.close (tie.spec need-requires need-requires-2 returns)
+return-verdict-spec =
+    tie.close
+    (tie.spec
+    (λ c κs. search needs) (λ c κs. search needs) returns)

@@ -122,19 +122,6 @@ pub store-boxes-spec : {M : Type 1} → statement M
 store-boxes-spec =
     tie.close
     (tie.spec
-    Inv-loop
-    μ-loop
-    (λ c κs. search needs)
-    loop-holds
-    row-at-requires
-    add-store-box
-    mul-store-box
-    (λ c. search needs)
-    (λ c. search needs)
-    part-store-box-end
-    store-box-requires
-    (λ c. search needs)
-    (λ c. search needs)
-    loop-again
-    (λ c. search needs)
-    returns)
+    Inv-loop μ-loop (λ c κs. search needs) loop-holds row-at-requires add-store-box mul-store-box
+    (λ c. search needs) (λ c. search needs) part-store-box-end store-box-requires
+    (λ c. search needs) (λ c. search needs) loop-again (λ c. search needs) returns)

@@ -27,15 +27,18 @@ get-headed-requires c κs =
     (λ y g. omega (arith, letter-few (letter-says g), s .pre .0 .words)) (s .pre .1)
 
 returns : tie.Need-returns
-returns c = λ q f.
-    let s = c .before .before .before .before .before .before .before .before in
+returns c =
+    let at-get-headed = c .before .before in
+    let at-letter-groups = at-get-headed .before .before .before in
+    let s = at-letter-groups .before .before .before in
+    λ q f.
     let a = s .args in
-    let groups = c .before .before .before .before .before .letter-groups in
-    let got = c .before .before .get-headed in
+    let groups = at-letter-groups .letter-groups in
+    let got = at-get-headed .get-headed in
     let e = headed-read (letter-headed (a .j) (s .pre .0 .most)) (a .src .now) (a .at)
-    (groups .result) (groups .ensures .0) (got .ensures) q f in
-    (
-      subst (λ (r : List ℕ). HoldsLetter (a .j) r (f .thing)) (sym (e .0)) (letter-held (a .j) (f .thing) _ (letter-few (letter-says (f .good)))),
+    (groups .result) (groups .ensures .0) (got .ensures) q f in (
+      subst (λ (r : List ℕ). HoldsLetter (a .j) r (f .thing)) (sym (e .0))
+          (letter-held (a .j) (f .thing) _ (letter-few (letter-says (f .good)))),
       e .1,
     )
 
@@ -43,8 +46,4 @@ pub store-letter-spec : {M : Type 1} → statement M
 store-letter-spec =
     tie.close
     (tie.spec
-    (λ c κs. search needs)
-    (λ c. search needs)
-    get-headed-requires
-    (λ c. search needs)
-    returns)
+    (λ c κs. search needs) (λ c. search needs) get-headed-requires (λ c. search needs) returns)

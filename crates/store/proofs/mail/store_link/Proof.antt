@@ -92,16 +92,6 @@ pub store-link-spec : {M : Type 1} → statement M
 store-link-spec =
     tie.close
     (tie.spec
-    (λ c. search needs)
-    get-words-requires
-    (λ c. search needs)
-    (λ c κs. search needs)
-    slice-write-row
-    (λ c. search needs)
-    slice-write-row-2
-    (λ c. search needs)
-    (λ c. search needs)
-    (λ c. search needs)
-    store-letters-requires
-    same-length
-    returns)
+    (λ c. search needs) get-words-requires (λ c. search needs) (λ c κs. search needs)
+    slice-write-row (λ c. search needs) slice-write-row-2 (λ c. search needs) (λ c. search needs)
+    (λ c. search needs) store-letters-requires same-length returns)

@@ -117,19 +117,6 @@ pub store-links-spec : {M : Type 1} → statement M
 store-links-spec =
     tie.close
     (tie.spec
-    Inv-loop
-    μ-loop
-    (λ c κs. search needs)
-    loop-holds
-    row-at-requires
-    add-store-link
-    mul-store-link
-    (λ c. search needs)
-    (λ c. search needs)
-    part-store-link-end
-    store-link-requires
-    (λ c. search needs)
-    (λ c. search needs)
-    loop-again
-    (λ c. search needs)
-    returns)
+    Inv-loop μ-loop (λ c κs. search needs) loop-holds row-at-requires add-store-link mul-store-link
+    (λ c. search needs) (λ c. search needs) part-store-link-end store-link-requires
+    (λ c. search needs) (λ c. search needs) loop-again (λ c. search needs) returns)

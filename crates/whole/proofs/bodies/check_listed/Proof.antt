@@ -130,23 +130,7 @@ pub check-listed-spec : {M : Type 1} → statement M
 check-listed-spec =
     tie.close
     (tie.spec
-    (λ c. search needs)
-    returns
-    (λ c. search needs)
-    (λ c κs. search needs)
-    (λ c. search needs)
-    (λ c κs. search needs)
-    returns-2
-    (λ c. search needs)
-    number-requires
-    (λ c. search needs)
-    number-requires-2
-    (λ c. search needs)
-    number-requires-3
-    (λ c. search needs)
-    (λ c. search needs)
-    (λ c. search needs)
-    enter-requires
-    check-rest-requires
-    same-length
-    returns-3)
+    (λ c. search needs) returns (λ c. search needs) (λ c κs. search needs) (λ c. search needs)
+    (λ c κs. search needs) returns-2 (λ c. search needs) number-requires (λ c. search needs)
+    number-requires-2 (λ c. search needs) number-requires-3 (λ c. search needs) (λ c. search needs)
+    (λ c. search needs) enter-requires check-rest-requires same-length returns-3)

@@ -65,14 +65,5 @@ pub check-mail-spec : {M : Type 1} → statement M
 check-mail-spec =
     tie.close
     (tie.spec
-    sub-check-links
-    mul-check-links
-    check-links-requires
-    (λ c. search needs)
-    (λ c. search needs)
-    (λ c. search needs)
-    enter-requires
-    (λ c. search needs)
-    (λ c. search needs)
-    returns
-    returns-2)
+    sub-check-links mul-check-links check-links-requires (λ c. search needs) (λ c. search needs)
+    (λ c. search needs) enter-requires (λ c. search needs) (λ c. search needs) returns returns-2)

@@ -62,11 +62,5 @@ pub check-rest-spec : {M : Type 1} → statement M
 check-rest-spec =
     tie.close
     (tie.spec
-    check-boxes-requires
-    (λ c. search needs)
-    check-mail-requires
-    (λ c. search needs)
-    (λ c. search needs)
-    returns
-    (λ c. search needs)
-    returns-2)
+    check-boxes-requires (λ c. search needs) check-mail-requires (λ c. search needs)
+    (λ c. search needs) returns (λ c. search needs) returns-2)

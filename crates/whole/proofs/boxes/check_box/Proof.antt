@@ -1,6 +1,6 @@
 -- `whole::boxes::check_box` meets its contract: its words, and then the records' own answer.
 use borrow.Author.Needs.{needs}
-use mathlib.Core.Path.{_≡_, refl, sym, ap, _∙_, subst}
+use mathlib.Core.Path.{refl, sym, ap, _∙_, subst}
 use Prim.Native.Nat.{_+_, _*_, _≤_}
 use native.Mathlib.Omega.{arith}
 use mathlib.Core.List.{List}
@@ -41,7 +41,8 @@ get-groups-requires c κs =
 read : (c : tie.After-get-groups) →
     let a = c .before .before .before .before .before .before .args in
     GroupedWords (boxGroups (a .n)) headWords unknown (c .get-groups .last .1 .1 .1 .0)
-    × Stands (groupsBytes (boxGroups (a .n)) (c .get-groups .last .1 .1 .1 .0)) (a .src .now) (a .at)
+    × Stands (groupsBytes (boxGroups (a .n)) (c .get-groups .last .1 .1 .1 .0)) (a .src .now)
+    (a .at)
     (c .get-groups .result)
 read c =
     let groups = c .before .before .before .box-groups in
@@ -51,44 +52,36 @@ read c =
 
 returns-2 : tie.Need-returns-2
 returns-2 c =
-    let c7 = c .before .before .before .before .before .before .before in
+    let at-head-fault = c .before .before .before in
+    let at-size = at-head-fault .before .before in
+    let c7 = at-size .before .before in
     let s = c7 .before .before .before .before .before .before in
     let a = s .args in
-    let e = sym (c .before .before .before .head-fault .ensures) ∙ c .before .enum-told .given .1 in
-    let size = c .before .before .before .before .before .size in
-    headed-then (box-headed (a .n) (a .j) (s .pre .1 .0) (s .pre .1 .1)) (box-judged (a .n) (a .j) (a .b) (s .pre .1 .0) (s .pre .1 .1)) (a .src .now)
-    (a .at) (c7 .get-groups .result) (c7 .get-groups .last .1 .1 .1 .0) (read c7 .0) (read c7 .1)
+    let e = sym (at-head-fault .head-fault .ensures) ∙ c .before .enum-told .given .1 in
+    let size = at-size .size in
+    headed-then (box-headed (a .n) (a .j) (s .pre .1 .0) (s .pre .1 .1))
+    (box-judged (a .n) (a .j) (a .b) (s .pre .1 .0) (s .pre .1 .1)) (a .src .now) (a .at)
+    (c7 .get-groups .result) (c7 .get-groups .last .1 .1 .1 .0) (read c7 .0) (read c7 .1)
     (ap isWhole e) (size .result) (size .ensures) (c .check-records .result)
     (c .check-records .ensures)
 
 returns-3 : tie.Need-returns-3
 returns-3 c =
-    let c6 = c .before .before .before .before .before .before in
+    let at-head-fault = c .before .before in
+    let c6 = at-head-fault .before .before .before .before in
     let s = c6 .before .before .before .before .before .before in
     let a = s .args in
-    let e = sym (c .before .before .head-fault .ensures) ∙ c .enum-told2 .given .1 in
-    headed-none (box-headed (a .n) (a .j) (s .pre .1 .0) (s .pre .1 .1)) (box-judged (a .n) (a .j) (a .b) (s .pre .1 .0) (s .pre .1 .1)) (a .src .now)
-    (a .at) (c6 .get-groups .result) (c6 .get-groups .last .1 .1 .1 .0) (read c6 .0) (read c6 .1)
+    let e = sym (at-head-fault .head-fault .ensures) ∙ c .enum-told2 .given .1 in
+    headed-none (box-headed (a .n) (a .j) (s .pre .1 .0) (s .pre .1 .1))
+    (box-judged (a .n) (a .j) (a .b) (s .pre .1 .0) (s .pre .1 .1)) (a .src .now) (a .at)
+    (c6 .get-groups .result) (c6 .get-groups .last .1 .1 .1 .0) (read c6 .0) (read c6 .1)
     (ap isWhole e)
 
 pub check-box-spec : {M : Type 1} → statement M
 check-box-spec =
     tie.close
     (tie.spec
-    (λ c. search needs)
-    (λ c. search needs)
-    (λ c. search needs)
-    returns
-    (λ c κs. search needs)
-    (λ c. search needs)
-    (λ c. search needs)
-    get-groups-requires
-    (λ c. search needs)
-    (λ c κs. search needs)
-    (λ c. search needs)
-    (λ c κs. search needs)
-    (λ c. search needs)
-    (λ c κs. search needs)
-    (λ c. search needs)
-    returns-2
-    returns-3)
+    (λ c. search needs) (λ c. search needs) (λ c. search needs) returns (λ c κs. search needs)
+    (λ c. search needs) (λ c. search needs) get-groups-requires (λ c. search needs)
+    (λ c κs. search needs) (λ c. search needs) (λ c κs. search needs) (λ c. search needs)
+    (λ c κs. search needs) (λ c. search needs) returns-2 returns-3)

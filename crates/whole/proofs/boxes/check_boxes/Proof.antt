@@ -146,25 +146,7 @@ pub check-boxes-spec : {M : Type 1} → statement M
 check-boxes-spec =
     tie.close
     (tie.spec
-    Inv-loop
-    μ-loop
-    loop-holds
-    (λ c. search needs)
-    (λ c κs. search needs)
-    (λ c. search needs)
-    get-at-requires
-    add-leaders
-    (λ c. search needs)
-    (λ c. search needs)
-    (λ c. search needs)
-    enter-requires
-    (λ c. search needs)
-    (λ c. search needs)
-    loop-again
-    (λ c. search needs)
-    (λ c. search needs)
-    returns
-    (λ c. search needs)
-    returns-2
-    (λ c. search needs)
-    returns-3)
+    Inv-loop μ-loop loop-holds (λ c. search needs) (λ c κs. search needs) (λ c. search needs)
+    get-at-requires add-leaders (λ c. search needs) (λ c. search needs) (λ c. search needs)
+    enter-requires (λ c. search needs) (λ c. search needs) loop-again (λ c. search needs)
+    (λ c. search needs) returns (λ c. search needs) returns-2 (λ c. search needs) returns-3)

@@ -10,4 +10,7 @@ returns-2 : tie.Need-returns-2
 returns-2 c = search tests
 
 pub choose-spec : {M : Type 1} → statement M
-choose-spec = tie.close (tie.spec returns returns-2)
+choose-spec =
+    tie.close
+    (tie.spec
+    returns returns-2)

@@ -11,7 +11,4 @@ pub last-spec : {M : Type 1} → statement M
 last-spec =
     tie.close
     (tie.spec
-    returns
-    (λ c. search needs)
-    (λ c. search needs)
-    (λ c. search needs))
+    returns (λ c. search needs) (λ c. search needs) (λ c. search needs))

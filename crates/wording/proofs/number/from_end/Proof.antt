@@ -21,7 +21,4 @@ pub from-end-spec : {M : Type 1} → statement M
 from-end-spec =
     tie.close
     (tie.spec
-    returns
-    returns-2
-    (λ c. search needs)
-    returns-3)
+    returns returns-2 (λ c. search needs) returns-3)

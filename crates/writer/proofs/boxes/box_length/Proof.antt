@@ -27,7 +27,8 @@ returns c =
     let s = c .before .before .before in
     let a = s .args in
     let f = s .pre in (
-      ap (λ (k : ℕ). 72 + 4 * a .n + 8 * k) (c .size .ensures) ∙ sym (box-long (a .n) (a .j) (a .row .now) f),
+      ap (λ (k : ℕ). 72 + 4 * a .n + 8 * k) (c .size .ensures)
+          ∙ sym (box-long (a .n) (a .j) (a .row .now) f),
       omega (arith, count c, f .loads, f .boxes),
     )
 
@@ -35,10 +36,5 @@ pub box-length-spec : {M : Type 1} → statement M
 box-length-spec =
     tie.close
     (tie.spec
-    (λ c. search needs)
-    (λ c. search needs)
-    (λ c. search needs)
-    (λ c κs. search needs)
-    mul-result-2
-    add-result-2
-    returns)
+    (λ c. search needs) (λ c. search needs) (λ c. search needs) (λ c κs. search needs) mul-result-2
+    add-result-2 returns)

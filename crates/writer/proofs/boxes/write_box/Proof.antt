@@ -43,8 +43,4 @@ pub write-box-spec : {M : Type 1} → statement M
 write-box-spec =
     tie.close
     (tie.spec
-    (λ c κs. search needs)
-    (λ c. search needs)
-    put-headed-requires
-    (λ c. search needs)
-    returns)
+    (λ c κs. search needs) (λ c. search needs) put-headed-requires (λ c. search needs) returns)

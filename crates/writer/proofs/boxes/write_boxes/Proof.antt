@@ -102,20 +102,7 @@ pub write-boxes-spec : {M : Type 1} → statement M
 write-boxes-spec =
     tie.close
     (tie.spec
-    Inv-loop
-    μ-loop
-    (λ c. search needs)
-    loop-holds
-    (λ c κs. search needs)
-    (λ c. search needs)
-    (λ c. search needs)
-    (λ c. search needs)
-    (λ c. search needs)
-    (λ c. search needs)
-    (λ c. search needs)
-    write-box-requires
-    (λ c. search needs)
-    (λ c. search needs)
-    loop-again
-    (λ c. search needs)
-    returns)
+    Inv-loop μ-loop (λ c. search needs) loop-holds (λ c κs. search needs) (λ c. search needs)
+    (λ c. search needs) (λ c. search needs) (λ c. search needs) (λ c. search needs)
+    (λ c. search needs) write-box-requires (λ c. search needs) (λ c. search needs) loop-again
+    (λ c. search needs) returns)

@@ -35,8 +35,4 @@ pub letter-length-spec : {M : Type 1} → statement M
 letter-length-spec =
     tie.close
     (tie.spec
-    (λ c. search needs)
-    (λ c κs. search needs)
-    mul-result
-    add-result
-    returns)
+    (λ c. search needs) (λ c κs. search needs) mul-result add-result returns)

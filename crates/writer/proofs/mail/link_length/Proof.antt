@@ -21,6 +21,4 @@ pub link-length-spec : {M : Type 1} → statement M
 link-length-spec =
     tie.close
     (tie.spec
-    (λ c κs. search needs)
-    (λ c. search needs)
-    returns)
+    (λ c κs. search needs) (λ c. search needs) returns)

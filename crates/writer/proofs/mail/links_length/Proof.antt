@@ -131,19 +131,6 @@ pub links-length-spec : {M : Type 1} → statement M
 links-length-spec =
     tie.close
     (tie.spec
-    Inv-loop
-    μ-loop
-    link-width-requires
-    loop-holds
-    row-at-requires
-    add-link-length
-    mul-link-length
-    sub-link-length
-    part-link-length-start
-    part-link-length-end
-    link-length-requires
-    add-total
-    (λ c. search needs)
-    (λ c. search needs)
-    loop-again
-    returns)
+    Inv-loop μ-loop link-width-requires loop-holds row-at-requires add-link-length mul-link-length
+    sub-link-length part-link-length-start part-link-length-end link-length-requires add-total
+    (λ c. search needs) (λ c. search needs) loop-again returns)

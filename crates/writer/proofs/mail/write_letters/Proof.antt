@@ -101,21 +101,7 @@ pub write-letters-spec : {M : Type 1} → statement M
 write-letters-spec =
     tie.close
     (tie.spec
-    Inv-loop
-    μ-loop
-    (λ c. search needs)
-    (λ c. search needs)
-    (λ c κs. search needs)
-    loop-holds
-    (λ c κs. search needs)
-    (λ c. search needs)
-    (λ c. search needs)
-    (λ c. search needs)
-    (λ c. search needs)
-    (λ c. search needs)
-    write-letter-requires
-    (λ c. search needs)
-    (λ c. search needs)
-    loop-again
-    (λ c. search needs)
-    returns)
+    Inv-loop μ-loop (λ c. search needs) (λ c. search needs) (λ c κs. search needs) loop-holds
+    (λ c κs. search needs) (λ c. search needs) (λ c. search needs) (λ c. search needs)
+    (λ c. search needs) (λ c. search needs) write-letter-requires (λ c. search needs)
+    (λ c. search needs) loop-again (λ c. search needs) returns)

@@ -48,10 +48,5 @@ pub write-link-spec : {M : Type 1} → statement M
 write-link-spec =
     tie.close
     (tie.spec
-    (λ c. search needs)
-    (λ c. search needs)
-    (λ c. search needs)
-    put-words-requires
-    write-letters-requires
-    (λ c. search needs)
-    returns)
+    (λ c. search needs) (λ c. search needs) (λ c. search needs) put-words-requires
+    write-letters-requires (λ c. search needs) returns)

@@ -144,19 +144,6 @@ pub write-links-spec : {M : Type 1} → statement M
 write-links-spec =
     tie.close
     (tie.spec
-    Inv-loop
-    μ-loop
-    link-width-requires
-    loop-holds
-    row-at-requires
-    add-write-link
-    mul-write-link
-    sub-write-link
-    part-write-link-start
-    part-write-link-end
-    write-link-requires
-    (λ c. search needs)
-    (λ c. search needs)
-    loop-again
-    (λ c. search needs)
-    returns)
+    Inv-loop μ-loop link-width-requires loop-holds row-at-requires add-write-link mul-write-link
+    sub-write-link part-write-link-start part-write-link-end write-link-requires
+    (λ c. search needs) (λ c. search needs) loop-again (λ c. search needs) returns)
