@@ -27,6 +27,8 @@ use Rattle.trace.specs.Replay.{Told, refused, told, traceSizes, opened, played,
 use Rattle.trace.specs.Stops.{opens, plays}
 use Rattle.feed.specs.State.{toldSite}
 use Rattle.feed.specs.Says.{Answers}
+use Rattle.letter.specs.Place.{headWords as letterHead}
+use Rattle.row.specs.Row.{headWords}
 
 -- a line that is not done leaves the words, and one that is done holds what it left
 held-by : (a : Answer) (t : Told) (xs ls xs' ls' : List ℕ) → told a (siteOf xs' ls') ≡ t
@@ -179,14 +181,15 @@ open-large n J L xs ls h =
 -- there are words enough for every site of a trace
 rows-enough : (n J m : ℕ) → n ≤ 5 → J ≤ 32 → siteWords 5 32 ≤ m → siteWords n J ≤ m
 rows-enough n J m hn hj h =
-    let rows : n * (20 + J) ≤ 5 * 52 = mul-le-mul {n₂ = 5} {m₂ = 52} hn (omega arith) in omega arith
+    let rows : n * (headWords + J) ≤ 5 * 52 = mul-le-mul {n₂ = 5} {m₂ = 52} hn
+    (omega arith) in omega arith
 
 links-enough : (n J L m : ℕ) → n ≤ 5 → J ≤ 32 → L ≤ 8 → linksWords 5 32 8 ≤ m
     → linksWords n J L ≤ m
 links-enough n J L m hn hj hl h =
     let pairs : n * (n - 1) ≤ 5 * 4 = mul-le-mul {n₂ = 5} {m₂ = 4} hn (omega arith) in
-    let places : L * (5 + J) ≤ 8 * 37 = mul-le-mul {n₂ = 8} {m₂ = 37} hl (omega arith) in
-    let all : n * (n - 1) * (2 + L * (5 + J)) ≤ 20 * 298 =
+    let places : L * (letterHead + J) ≤ 8 * 37 = mul-le-mul {n₂ = 8} {m₂ = 37} hl (omega arith) in
+    let all : n * (n - 1) * (2 + L * (letterHead + J)) ≤ 20 * 298 =
     mul-le-mul {n₂ = 20} {m₂ = 298} pairs (omega arith) in omega arith
 
 -- the words after `fresh` of sizes in and out of range

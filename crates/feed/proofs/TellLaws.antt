@@ -10,7 +10,7 @@ use lib.Seq.{getD-take, getD-drop}
 use Rattle.rules.specs.Site.{freshBox}
 use Rattle.laws.proofs.Logic.{In}
 use Rattle.laws.proofs.FormLaws.{box-is}
-use Rattle.row.specs.Row.{boxOf}
+use Rattle.row.specs.Row.{boxOf, headWords}
 use Rattle.memory.specs.Memory.{rowStart, rowAt, boxIn, siteOf}
 use Rattle.print.specs.Decimal.{decimal, spaced}
 use Rattle.print.specs.Text.{Wrote, doneText}
@@ -66,19 +66,19 @@ map-same (suc n) f g same =
     ∙ sym (map-append g (upTo n) (suc n ∷ []))))
 
 last-is : (n J b : ℕ) (xs : List ℕ) → In b n
-    → boxIn n J xs b .head .kept .last ≡ getD xs ((b - 1) * (20 + J) + 9) 0
+    → boxIn n J xs b .head .kept .last ≡ getD xs ((b - 1) * (headWords + J) + 9) 0
 last-is n J b xs h =
-    let e : 5 + (b - 1) * (20 + J) + 4 ≡ (b - 1) * (20 + J) + 9 = omega arith in
+    let e : 5 + (b - 1) * (headWords + J) + 4 ≡ (b - 1) * (headWords + J) + 9 = omega arith in
     ap (λ t. cond t (boxOf n (rowAt J xs b)) freshBox .head .kept .last) (box-is h)
-    ∙ (getD-take (20 + J) (drop (rowStart J b) xs) 4 0 (omega arith)
+    ∙ (getD-take (headWords + J) (drop (rowStart J b) xs) 4 0 (omega arith)
     ∙ (getD-drop (rowStart J b) xs 4 0 ∙ ap (λ (i : ℕ). getD xs i 0) e))
 
 pub lasts-are : (xs : List ℕ)
-    → lastsAt xs (20 + getD xs 1 0) (getD xs 0 0) ≡ lasts (siteOf xs [])
+    → lastsAt xs (headWords + getD xs 1 0) (getD xs 0 0) ≡ lasts (siteOf xs [])
 unfolding siteOf
 lasts-are xs =
     map-same (getD xs 0 0)
-    (λ b. getD xs ((b - 1) * (20 + getD xs 1 0) + 9) 0)
+    (λ b. getD xs ((b - 1) * (headWords + getD xs 1 0) + 9) 0)
     (λ b. boxIn (getD xs 0 0) (getD xs 1 0) xs b .head .kept .last)
     (λ b h. sym (last-is (getD xs 0 0) (getD xs 1 0) b xs h))
 
@@ -92,21 +92,22 @@ lasts-done xs w n i {a} {b} {at} {p} lo hi v =
 -- ---- the whole answer
 
 pub rows-fit : (xs : List ℕ) (n j : ℕ) → n ≡ getD xs 0 0 → j ≡ getD xs 1 0 → Rowed xs
-    → 5 + n * (20 + j) ≤ length xs
+    → 5 + n * (headWords + j) ≤ length xs
 rows-fit xs n j e f w =
-    subst (λ (x : ℕ). 5 + x * (20 + j) ≤ length xs) (sym e)
+    subst (λ (x : ℕ). 5 + x * (headWords + j) ≤ length xs) (sym e)
     (subst (λ (x : ℕ). 5 + getD xs 0 0 * (20 + x) ≤ length xs) (sym f) (w .rows))
 
 pub done-is : (xs : List ℕ) (k n j : ℕ) {a b : List ℕ} {at p : ℕ} → n ≡ getD xs 0 0
     → j ≡ getD xs 1 0 → n ≤ 5
     → Wrote (20 + (21 + (21 * n + 1))) a b at p
-    (decimal k ++ ((32 ∷ decimal (getD xs 3 0)) ++ (spaced (lastsAt xs (20 + j) n) ++ (10 ∷ []))))
+    (decimal k ++ ((32 ∷ decimal
+    (getD xs 3 0)) ++ (spaced (lastsAt xs (headWords + j) n) ++ (10 ∷ []))))
     → Wrote answerMost a b at p (doneText k (siteOf xs [] .epoch) (lasts (siteOf xs [])))
 unfolding doneText siteOf
 done-is xs k n j e f h v =
     let front : List ℕ = 32 ∷ decimal (getD xs 3 0) in
-    let same : lastsAt xs (20 + j) n ≡ lasts (siteOf xs []) =
-    ap (λ (x : ℕ). lastsAt xs (20 + j) x) e
+    let same : lastsAt xs (headWords + j) n ≡ lasts (siteOf xs []) =
+    ap (λ (x : ℕ). lastsAt xs (headWords + j) x) e
     ∙ (ap (λ (x : ℕ). lastsAt xs (20 + x) (getD xs 0 0)) f ∙ lasts-are xs) in
     at-most (omega arith)
     (spelled (ap (λ (t : List ℕ). decimal k ++ (front ++ (spaced t ++ (10 ∷ [])))) same) v)

@@ -9,11 +9,11 @@ use Rattle.words.specs.Ring.{ring}
 use Rattle.rules.specs.Every.{all, each}
 use Rattle.rules.specs.Box.{Letter}
 use Rattle.rules.specs.Form.{formLetter}
-use Rattle.letter.specs.Place.{letterAt, placeFits}
+use Rattle.letter.specs.Place.{letterAt, placeFits, headWords as letterHead}
 
 -- five words of a mail and its records' room; the whole link
 abbrev pub placeWidth : ℕ → ℕ
-placeWidth J = 5 + J
+placeWidth J = letterHead + J
 
 abbrev pub linkWidth : ℕ → ℕ → ℕ
 linkWidth J L = 2 + L * placeWidth J

@@ -12,7 +12,7 @@ use Rattle.rules.specs.declared.model.Setting.{Setting}
 use Rattle.laws.proofs.Logic.{Or, left, right, In, same?}
 use Rattle.laws.proofs.FormLaws.{is-box, box-is}
 use Rattle.row.specs.Row.{boxOf, rowFits}
-use Rattle.memory.specs.Memory.{siteWords, pastSite, rowAt}
+use Rattle.memory.specs.Memory.{siteWords, pastSite, rowAt, generalWords}
 use Rattle.memory.specs.After.{RowSet, RowsPut}
 
 -- the rows up to b hold what f says, the later ones are as they were
@@ -21,7 +21,7 @@ pub record UpTo (s : Setting) (f : ℕ → Box) (xs₀ : List ℕ) (b : ℕ) (xs
   pub boxes : (c : ℕ) → In c b → boxOf (s .n) (rowAt (s .j) xs c) ≡ f c
   pub fits : (c : ℕ) → In c b → rowFits (s .j) (rowAt (s .j) xs c) ≡ true
   pub later : (c : ℕ) → isBox (s .n) c ≡ true → b < c → rowAt (s .j) xs c ≡ rowAt (s .j) xs₀ c
-  pub general : take 5 xs ≡ take 5 xs₀
+  pub general : take generalWords xs ≡ take generalWords xs₀
   pub past : pastSite (s .n) (s .j) xs ≡ pastSite (s .n) (s .j) xs₀
   pub words : length xs ≡ length xs₀
 

@@ -25,6 +25,7 @@ use Rattle.link.specs.Link.{linkForm}
 use Rattle.link.proofs.TestLaws.{same-test, not-yes, or-else}
 use Rattle.link.proofs.LinkLaws.{fits-says, length-link}
 use Rattle.memory.specs.Memory.{siteWords, linksWords, rowAt, linkIndex, siteOf, memoryForm}
+use Rattle.memory.specs.Memory.{generalWords}
 use Rattle.memory.specs.After.{settingAt, GeneralLent, boxesOf, linksOf, RowsLent, LinksLent}
 use Rattle.memory.specs.After.{linkRow}
 use Rattle.memory.specs.Parts.{generalForm, wordsForm, rowTest, leadsTest, rowsForm, linkTest}
@@ -38,7 +39,7 @@ use Rattle.memory.proofs.LinkLaws.{link-letters, link-length}
 -- ---- the general words
 
 pub record General (xs : List ℕ) : Type 0 where
-  pub words : 5 ≤ length xs
+  pub words : generalWords ≤ length xs
   pub sizes : sizesForm (getD xs 0 0) (getD xs 1 0) (getD xs 2 0) ≡ true
   pub epoch : within 1 mostEpoch (getD xs 3 0) ≡ true
   pub present : setForm (getD xs 0 0) (getD xs 4 0) ≡ true
@@ -66,7 +67,8 @@ module _ (xs : List ℕ) where
   no-sizes f = not-yes (generalForm xs) (λ e. both-no (general-says e .sizes) f)
 
   -- the epoch and the present set are left
-  pub general-rest : 5 ≤ length xs → sizesForm (getD xs 0 0) (getD xs 1 0) (getD xs 2 0) ≡ true
+  pub general-rest : generalWords ≤ length xs
+      → sizesForm (getD xs 0 0) (getD xs 1 0) (getD xs 2 0) ≡ true
       → (n : ℕ) (p : Bool) → n ≡ getD xs 0 0 → p ≡ setForm n (getD xs 4 0)
       → (within 1 mostEpoch (getD xs 3 0) && p) ≡ generalForm xs
   unfolding generalForm all

@@ -13,18 +13,20 @@ use Rattle.laws.proofs.Logic.{Or, left, right, In, same?, or-left, or-right, pa
 use Rattle.laws.proofs.Logic.{made, every-at, every-made}
 use Rattle.laws.proofs.FormLaws.{is-box, box-is, is-link}
 use Rattle.link.specs.Link.{linkFits}
-use Rattle.memory.specs.Memory.{linkAt, siteOf, roomy, readable, memoryForm}
+use Rattle.memory.specs.Memory.{linkAt, siteOf, roomy, readable, memoryForm, generalWords}
 use Rattle.memory.specs.After.{settingAt, RowsLent, LinksLent}
 use Rattle.memory.proofs.SizeLaws.{link-is}
 
 -- ---- the general words
 
-pub general-same : (xs xs' : List ℕ) → take 5 xs' ≡ take 5 xs → (i : ℕ) → i < 5
+pub general-same : (xs xs' : List ℕ) → take generalWords xs' ≡ take generalWords xs → (i : ℕ)
+    → i < 5
     → getD xs' i 0 ≡ getD xs i 0
 general-same xs xs' e i h =
-    sym (getD-take 5 xs' i 0 h) ∙ ap (λ (l : List ℕ). getD l i 0) e ∙ getD-take 5 xs i 0 h
+    sym (getD-take generalWords xs' i 0 h) ∙ ap (λ (l : List ℕ). getD l i 0) e
+    ∙ getD-take generalWords xs i 0 h
 
-pub setting-same : (xs xs' : List ℕ) (c : ℕ) → take 5 xs' ≡ take 5 xs
+pub setting-same : (xs xs' : List ℕ) (c : ℕ) → take generalWords xs' ≡ take generalWords xs
     → settingAt xs' c ≡ settingAt xs c
 setting-same xs xs' c e =
     rw (

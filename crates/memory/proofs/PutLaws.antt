@@ -21,6 +21,7 @@ use Rattle.row.specs.Row.{boxOf, rowFits}
 use Rattle.link.specs.Link.{linkWidth, linkOf, linkFits}
 use Rattle.link.specs.Holds.{Holds}
 use Rattle.memory.specs.Memory.{rowWidth, siteWords, linksWords, rowStart, rowAt, linkIndex}
+use Rattle.memory.specs.Memory.{generalWords}
 use Rattle.memory.specs.After.{boxesOf, linksOf, RowsLent, LinksLent, linkRow, RowSet}
 use Rattle.memory.specs.After.{LinkSet, RowsPut, LinksPut}
 use Rattle.memory.proofs.SizeLaws.{row-within, index-below, index-same}
@@ -58,11 +59,11 @@ module _ (s : Setting) (b : ℕ) (xs ys : List ℕ) (h : isBox (s .n) b ≡ true
       let w = rowWidth (s .j) in
       let hb : In b (s .n) = is-box h in
       let hc : In c (s .n) = is-box g in
-      let rows : s .n * w ≤ length (drop 5 xs) = rw length-drop (omega arith) in
+      let rows : s .n * w ≤ length (drop generalWords xs) = rw length-drop (omega arith) in
       sym (part-drop 5 ((c - 1) * w) w row-after)
       ∙ ap (λ (l : List ℕ). part l ((c - 1) * w) w)
       (drop-splice 5 ((b - 1) * w) w xs ys (omega (arith, row-inside)))
-      ∙ part-other w (s .n) (b - 1) (c - 1) (drop 5 xs) ys (omega (arith, hb .0, hb .1))
+      ∙ part-other w (s .n) (b - 1) (c - 1) (drop generalWords xs) ys (omega (arith, hb .0, hb .1))
       (omega (arith, hc .0, hc .1)) (omega (arith, hb .0, hc .0)) rows e
       ∙ part-drop 5 ((c - 1) * w) w xs
 

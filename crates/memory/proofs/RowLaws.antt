@@ -21,7 +21,7 @@ use Rattle.rules.specs.declared.model.Turn.{Turn}
 use Rattle.laws.proofs.Logic.{left, right, passed, _&_, none, made}
 use Rattle.laws.proofs.FormLaws.{Peer, sizes-says, box-says}
 use Rattle.letter.specs.Place.{letterAt}
-use Rattle.row.specs.Row.{headOf, boxOf, rowFits, rowForm, wordsOf}
+use Rattle.row.specs.Row.{headOf, boxOf, rowFits, rowForm, wordsOf, countAt, headWords}
 use Rattle.row.specs.Lent.{RowSized, RowByForm, Plays, Played}
 use Rattle.row.proofs.PeerLaws.{peers-at, peer-above}
 use Rattle.row.proofs.StoreLaws.{box-stored, fits-stored}
@@ -53,11 +53,11 @@ module _ (s : Setting) (b : ℕ) (xs : List ℕ) (h : isBox (s .n) b ≡ true) w
       }
 
   module _ (lent : RowsLent s xs) where
-    count-few : getD (rowAt (s .j) xs b) 19 0 ≤ s .j
+    count-few : getD (rowAt (s .j) xs b) countAt 0 ≤ s .j
     unfolding rowFits
     count-few = leb-true _ _ (passed _ (lent .fits b h) .1 .1 .1 .0)
 
-    pub row-room : 20 + getD (rowAt (s .j) xs b) 19 0 ≤ length (rowAt (s .j) xs b)
+    pub row-room : headWords + getD (rowAt (s .j) xs b) countAt 0 ≤ length (rowAt (s .j) xs b)
     row-room = omega (arith, count-few, row-sized (lent .sizes) (lent .words) .words)
 
     pub row-form : formBox (s .n) (s .j) b (boxesOf s xs b) ≡ true
@@ -141,32 +141,33 @@ module _ (s : Setting) (xs place : List ℕ) (t : Turn) {p e : ℕ}
 -- ---- a head is stored in a row
 
 -- r becomes q, the head h with so many of its records
-module _ (n J : ℕ) (h : BoxState) (count : ℕ) (r : List ℕ) (room : length r ≡ 20 + J)
+module _ (n J : ℕ) (h : BoxState) (count : ℕ) (r : List ℕ) (room : length r ≡ headWords + J)
     (few : count ≤ J) (five : length (h .peers) ≡ mostBoxes)
     (above : (k : ℕ) → n < k → k ≤ mostBoxes → getD (h .peers) (k - 1) 0 ≡ unknown) where
-  row-stored : (q : List ℕ) → q ≡ wordsOf h count ++ drop 20 r
-      → RowHolds n J (record { head = h; records = take count (drop 20 r) }) r q
+  row-stored : (q : List ℕ) → q ≡ wordsOf h count ++ drop headWords r
+      → RowHolds n J (record { head = h; records = take count (drop headWords r) }) r q
   row-stored q e =
       rw e
       (record {
-        box = box-stored n h count (drop 20 r) five above;
-        fits = fits-stored J h count (drop 20 r) few;
+        box = box-stored n h count (drop headWords r) five above;
+        fits = fits-stored J h count (drop headWords r) few;
         words = simp (length-append, length-drop) (omega (arith, room));
       })
 
 -- the head of the elected
 pub elect-law : (s : Setting) (c : ℕ) (r : List ℕ) → RowByForm s r
     → (head next : BoxState) (held : ℕ) (q : List ℕ)
-    → head ≡ headOf (s .n) r → next ≡ elected head s c → held ≡ getD r 19 0
-    → q ≡ wordsOf next held ++ drop 20 r
+    → head ≡ headOf (s .n) r → next ≡ elected head s c → held ≡ getD r countAt 0
+    → q ≡ wordsOf next held ++ drop headWords r
     → RowHolds (s .n) (s .j) (electedBox s c (boxOf (s .n) r)) r q
 unfolding elected
 elect-law s c r ok head next held q eh en ec eq =
     let f = row-formed s r ok in
-    row-stored (s .n) (s .j) (elected (headOf (s .n) r) s c) (getD r 19 0) r (ok .size .words)
+    row-stored (s .n) (s .j) (elected (headOf (s .n) r) s c) (getD r countAt 0) r (ok .size .words)
     (f .says .count) refl
     (λ k a m. peers-at (s .n) r k (omega arith) m ∙ peer-above (s .n) r k a) q
-    (eq ∙ (λ i. wordsOf ((en ∙ ap (λ (h : BoxState). elected h s c) eh) i) (ec i) ++ drop 20 r))
+    (eq ∙ (λ i. wordsOf ((en
+    ∙ ap (λ (h : BoxState). elected h s c) eh) i) (ec i) ++ drop headWords r))
 
 -- r is the row of box b of s
 pub elect-there : (s : Setting) (b c : ℕ) {r r' q : List ℕ} → r ≡ r'
@@ -179,12 +180,12 @@ elect-there s b c e holds = record {
 }
 
 -- a fresh head
-pub fresh-law : (n J : ℕ) (r : List ℕ) → length r ≡ 20 + J → (h : BoxState) (q : List ℕ)
-    → h ≡ freshHead → q ≡ wordsOf h 0 ++ drop 20 r → RowHolds n J freshBox r q
+pub fresh-law : (n J : ℕ) (r : List ℕ) → length r ≡ headWords + J → (h : BoxState) (q : List ℕ)
+    → h ≡ freshHead → q ≡ wordsOf h 0 ++ drop headWords r → RowHolds n J freshBox r q
 unfolding freshHead
 fresh-law n J r room h q eh eq =
     row-stored n J freshHead 0 r room (omega arith) refl unknown-all q
-    (eq ∙ ap (λ (x : BoxState). wordsOf x 0 ++ drop 20 r) eh)
+    (eq ∙ ap (λ (x : BoxState). wordsOf x 0 ++ drop headWords r) eh)
   where
     unknown-all : (k : ℕ) → n < k → k ≤ mostBoxes → getD allUnknown (k - 1) 0 ≡ unknown
     unknown-all zero a m = refl

@@ -20,6 +20,7 @@ use Rattle.letter.specs.Place.{letterAt, placeForm}
 use Rattle.row.specs.Row.{boxOf, rowFits}
 use Rattle.link.specs.Link.{placeWidth, linkWidth, linkOf, linkFits}
 use Rattle.memory.specs.Memory.{siteWords, linksWords, pastSite, pastLinks, rowAt, linkAt}
+use Rattle.memory.specs.Memory.{generalWords}
 use Rattle.memory.specs.Memory.{boxIn, linkIn}
 
 -- what box c knows of the site that the words hold
@@ -35,7 +36,7 @@ settingAt xs c = record {
 
 -- the general words are there, as numbers of 32 bits
 pub record GeneralLent (xs : List ℕ) : Type 0 where
-  pub words : 5 ≤ length xs
+  pub words : generalWords ≤ length xs
   pub n : getD xs 0 0 < 2 ^ 32
   pub j : getD xs 1 0 < 2 ^ 32
   pub l : getD xs 2 0 < 2 ^ 32
@@ -82,7 +83,7 @@ pub record RowSet (s : Setting) (b : ℕ) (x : Box) (xs xs' : List ℕ) : Type 0
   pub fits : rowFits (s .j) (rowAt (s .j) xs' b) ≡ true
   pub others : (c : ℕ) → isBox (s .n) c ≡ true → (c ≡ b → ⊥)
       → rowAt (s .j) xs' c ≡ rowAt (s .j) xs c
-  pub general : take 5 xs' ≡ take 5 xs
+  pub general : take generalWords xs' ≡ take generalWords xs
   pub past : pastSite (s .n) (s .j) xs' ≡ pastSite (s .n) (s .j) xs
   pub words : length xs' ≡ length xs
 
@@ -97,7 +98,7 @@ pub record LinkSet (s : Setting) (k : ℕ) (ys : List Letter) (ls ls' : List ℕ
 -- the boxes are f now; the general words and those past the rows are as they were
 pub record RowsPut (s : Setting) (f : ℕ → Box) (xs xs' : List ℕ) : Type 0 where
   pub boxes : boxesOf s xs' ≡ f
-  pub general : take 5 xs' ≡ take 5 xs
+  pub general : take generalWords xs' ≡ take generalWords xs
   pub past : pastSite (s .n) (s .j) xs' ≡ pastSite (s .n) (s .j) xs
   pub words : length xs' ≡ length xs
   pub lent : RowsLent s xs'

@@ -14,8 +14,8 @@ use Rattle.laws.proofs.Logic.{In, and-yes}
 use Rattle.laws.proofs.FormLaws.{sizes-says, is-box, box-is, is-link}
 use Rattle.laws.specs.Frames.{ActFits}
 use Rattle.laws.proofs.TurnForm.{EventFits}
-use Rattle.letter.specs.Place.{letterAt}
-use Rattle.row.specs.Row.{boxOf}
+use Rattle.letter.specs.Place.{letterAt, headWords as letterHead}
+use Rattle.row.specs.Row.{boxOf, headWords}
 use Rattle.row.specs.Lent.{RowByForm, PlaceByForm}
 use Rattle.own.specs.Entry.{ownBox, ownLetter, rowReads, placeReads}
 use Rattle.own.specs.Entry.{ownOn, actOn, mailOn, Owned}
@@ -94,11 +94,11 @@ module _ (s : Setting) (r : List ℕ) (ok : Passed s r) where
   own-of : OwnRow s r
   own-of = own-row s r (ok .sizes) (ok .row)
 
-  pub row-long : 20 + s .j ≤ length r
+  pub row-long : headWords + s .j ≤ length r
   row-long = own-of .long
 
   -- The code cuts the row at `end`.
-  pub row-by-form : (end : ℕ) → end ≡ 20 + s .j → RowByForm s (take end r)
+  pub row-by-form : (end : ℕ) → end ≡ headWords + s .j → RowByForm s (take end r)
   row-by-form end e =
       rw e (own-of .by-form (omega (arith, ok .me .1, sizes-says (ok .sizes) .few-boxes)))
 
@@ -120,7 +120,7 @@ module _ (s : Setting) (r : List ℕ) (ok : Passed s r) where
 
 -- A step of its own takes no mail.
 module _ (s : Setting) (r : List ℕ) (ok : Passed s r) (a : Act) (t : Turn) (end : ℕ)
-    (ee : end ≡ 20 + s .j) (et : t ≡ turnOf s (boxOf (s .n) (take end r)) (own a)) where
+    (ee : end ≡ headWords + s .j) (et : t ≡ turnOf s (boxOf (s .n) (take end r)) (own a)) where
   act-turn : t ≡ turnOf s (ownBox s r) (own a)
   act-turn = rw ee at et
 
@@ -140,13 +140,13 @@ module _ (s : Setting) (r p : List ℕ) (sender : ℕ) (ok : MailPassed s r p se
   place-of : OwnPlace s p
   place-of = own-place s p (ok .letter)
 
-  pub place-long : 5 + s .j ≤ length p
+  pub place-long : letterHead + s .j ≤ length p
   place-long = place-of .long
 
-  pub place-by-form : (stop : ℕ) → stop ≡ 5 + s .j → PlaceByForm s (take stop p)
+  pub place-by-form : (stop : ℕ) → stop ≡ letterHead + s .j → PlaceByForm s (take stop p)
   place-by-form stop e = rw e (place-of .by-form)
 
-  module _ (t : Turn) (end stop : ℕ) (ee : end ≡ 20 + s .j) (es : stop ≡ 5 + s .j)
+  module _ (t : Turn) (end stop : ℕ) (ee : end ≡ headWords + s .j) (es : stop ≡ letterHead + s .j)
       (et : t ≡ turnOf s (boxOf (s .n) (take end r)) (mail sender (letterAt (take stop p)))) where
     abbrev event : Event
     event = mail sender (ownLetter s p)

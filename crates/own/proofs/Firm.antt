@@ -13,6 +13,7 @@ use Rattle.laws.proofs.Logic.{both-no}
 use Rattle.laws.proofs.StepLaws.{by-needs}
 use Rattle.rules.specs.Answers.{isRefusal, isAccepted}
 use Rattle.own.specs.Entry.{ownBox, buffered, ownOn, lettersIn, Owned}
+use Rattle.letter.specs.Place.{headWords as letterHead}
 
 -- a row, a place, an answer and a set that show the same
 pub record Alike (s : Setting) (r out : List ℕ) (a : Answer) (to : ℕ)
@@ -66,7 +67,7 @@ unfolding ownOn buffered
 silent s x reads e out =
     let o = ownStep s x e in
     one-silent (reads || not (sizesForm (s .n) (s .j) (s .l))) (buffered s x out o) _
-    (one-silent (isAccepted (o .answer) && ltb (length out) (5 + s .j)) _ o
+    (one-silent (isAccepted (o .answer) && ltb (length out) (letterHead + s .j)) _ o
     (still-silent x (Answer.Refused Refusal.Buffer)) (step-silent s x e))
     (still-silent x (Answer.Refused Refusal.Form))
 

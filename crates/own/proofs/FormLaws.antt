@@ -16,9 +16,9 @@ use Rattle.rules.specs.Own.{formOwn}
 use Rattle.laws.proofs.Types.{Act, Setting}
 use Rattle.laws.proofs.Logic.{and-yes, passed, _&_, none, made}
 use Rattle.laws.proofs.FormLaws.{FormedBox, FormedLetter, sizes-says, box-says, letter-says}
-use Rattle.letter.specs.Place.{placeForm}
+use Rattle.letter.specs.Place.{placeForm, headWords as letterHead}
 use Rattle.letter.specs.Lent.{PlaceSized}
-use Rattle.row.specs.Row.{rowFits, rowForm}
+use Rattle.row.specs.Row.{rowFits, rowForm, countAt, headWords}
 use Rattle.row.specs.Lent.{RowSized, RowByForm, PlaceByForm}
 use Rattle.own.specs.Entry.{rowOf, placeOf, ownBox, ownLetter, rowReads, placeReads}
 
@@ -55,37 +55,38 @@ module _ (s : Setting) where
   abbrev pub placeTest : List ℕ → Bool
   placeTest p = placeReads (s .j) p && formLetter (s .j) (ownLetter s p)
 
-  pub row-tested : (t : Bool) (r : List ℕ) → 20 + s .j ≤ length r
+  pub row-tested : (t : Bool) (r : List ℕ) → headWords + s .j ≤ length r
       → t ≡ rowForm (s .n) (s .j) (s .me) (rowOf (s .j) r) → t ≡ rowTest r
   unfolding rowForm rowReads
-  row-tested t r h e = long-tested (20 + s .j) r _ _ t h e
+  row-tested t r h e = long-tested (headWords + s .j) r _ _ t h e
 
-  pub row-short : (r : List ℕ) → length r < 20 + s .j → false ≡ rowTest r
+  pub row-short : (r : List ℕ) → length r < headWords + s .j → false ≡ rowTest r
   unfolding rowReads
-  row-short r h = short-tested (20 + s .j) r _ _ h
+  row-short r h = short-tested (headWords + s .j) r _ _ h
 
-  pub row-sized : (r : List ℕ) → sizesForm (s .n) (s .j) (s .l) ≡ true → 20 + s .j ≤ length r
+  pub row-sized : (r : List ℕ) → sizesForm (s .n) (s .j) (s .l) ≡ true → headWords + s .j ≤ length r
       → RowSized (s .n) (s .j) (rowOf (s .j) r)
   row-sized r sizes h = let z = sizes-says sizes in
       record {
-        words = length-take-le (20 + s .j) r h;
+        words = length-take-le (headWords + s .j) r h;
         boxes = z .few-boxes;
         loads = z .few-loads;
       }
 
-  pub place-tested : (t : Bool) (p : List ℕ) → 5 + s .j ≤ length p
+  pub place-tested : (t : Bool) (p : List ℕ) → letterHead + s .j ≤ length p
       → t ≡ placeForm (s .j) (placeOf (s .j) p) → t ≡ placeTest p
   unfolding placeForm placeReads
-  place-tested t p h e = long-tested (5 + s .j) p _ _ t h e
+  place-tested t p h e = long-tested (letterHead + s .j) p _ _ t h e
 
-  pub place-short : (p : List ℕ) → length p < 5 + s .j → false ≡ placeTest p
+  pub place-short : (p : List ℕ) → length p < letterHead + s .j → false ≡ placeTest p
   unfolding placeReads
-  place-short p h = short-tested (5 + s .j) p _ _ h
+  place-short p h = short-tested (letterHead + s .j) p _ _ h
 
-  pub place-sized : (p : List ℕ) → sizesForm (s .n) (s .j) (s .l) ≡ true → 5 + s .j ≤ length p
+  pub place-sized : (p : List ℕ) → sizesForm (s .n) (s .j) (s .l) ≡ true
+      → letterHead + s .j ≤ length p
       → PlaceSized (s .j) (placeOf (s .j) p)
   place-sized p sizes h =
-      record { words = length-take-le (5 + s .j) p h; most = sizes-says sizes .few-loads }
+      record { words = length-take-le (letterHead + s .j) p h; most = sizes-says sizes .few-loads }
 
 -- ---- the tests together
 
@@ -129,8 +130,8 @@ module _ (s : Setting) (r : List ℕ) where
 
 -- a box's own row by form
 pub record OwnRow (s : Setting) (r : List ℕ) : Type 0 where
-  pub long : 20 + s .j ≤ length r
-  pub count : getD (rowOf (s .j) r) 19 0 ≤ s .j
+  pub long : headWords + s .j ≤ length r
+  pub count : getD (rowOf (s .j) r) countAt 0 ≤ s .j
   pub box : FormedBox (s .n) (s .j) (s .me) (ownBox s r)
   pub by-form : s .me ≤ mostBoxes → RowByForm s (rowOf (s .j) r)
 
@@ -138,10 +139,10 @@ pub own-row : (s : Setting) (r : List ℕ) → sizesForm (s .n) (s .j) (s .l) �
     → rowTest s r ≡ true → OwnRow s r
 unfolding rowReads rowFits rowForm
 own-row s r sizes e =
-    let p = tested (20 + s .j) r _ _ e in
+    let p = tested (headWords + s .j) r _ _ e in
     record {
       long = p .0;
-      count = leb-true (getD (rowOf (s .j) r) 19 0) (s .j) (passed _ (p .1) .1 .1 .1 .0);
+      count = leb-true (getD (rowOf (s .j) r) countAt 0) (s .j) (passed _ (p .1) .1 .1 .1 .0);
       box = box-says (p .2);
       by-form = λ me. record {
         size = row-sized s r sizes (p .0);
@@ -152,19 +153,19 @@ own-row s r sizes e =
 
 -- a letter by form in its place
 pub record OwnPlace (s : Setting) (p : List ℕ) : Type 0 where
-  pub long : 5 + s .j ≤ length p
+  pub long : letterHead + s .j ≤ length p
   pub letter : FormedLetter (s .j) (ownLetter s p)
   pub by-form : PlaceByForm s (placeOf (s .j) p)
 
 pub own-place : (s : Setting) (p : List ℕ) → placeTest s p ≡ true → OwnPlace s p
 unfolding placeReads placeForm
 own-place s p e =
-    let q = tested (5 + s .j) p _ _ e in
+    let q = tested (letterHead + s .j) p _ _ e in
     record {
       long = q .0;
       letter = letter-says (q .2);
       by-form = record {
-        words = length-take-le (5 + s .j) p (q .0);
+        words = length-take-le (letterHead + s .j) p (q .0);
         form = made (q .1 & q .2 & none);
       };
     }

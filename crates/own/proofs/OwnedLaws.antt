@@ -13,11 +13,12 @@ use Rattle.rules.specs.Own.{OwnOutcome, unmoved, receivers, lettersOf, ownTurn}
 use Rattle.laws.proofs.Types.{Answer, Refusal, Setting, Turn}
 use Rattle.laws.proofs.Logic.{both-no, and-both}
 use Rattle.laws.proofs.StepLaws.{accepted-kept}
-use Rattle.letter.specs.Place.{letterAt}
+use Rattle.letter.specs.Place.{letterAt, headWords as letterHead}
 use Rattle.own.specs.Entry.{rowOf, placeOf, ownBox, rowReads, placeReads}
 use Rattle.rules.specs.Answers.{isAccepted}
 use Rattle.own.specs.Entry.{buffered, Owned}
 use Rattle.own.specs.Lent.{Carries, Carried, Concludes, concluded, StillReads}
+use Rattle.row.specs.Row.{headWords}
 
 -- Nothing has changed, and nothing is sent.
 pub nothing-done : (s : Setting) (r out : List ℕ) (o : OwnOutcome) (a : Answer)
@@ -105,28 +106,29 @@ front-back w xs ys e = rw e (take-append-drop w xs)
 -- ---- the turn t is concluded, with the answer a
 
 pub has-room : (s : Setting) (out : List ℕ) (b a : Answer)
-    → a ≡ answerIn b (ltb (length out) (5 + s .j)) → isAccepted a ≡ true → 5 + s .j ≤ length out
-has-room s out b a e h = ltb-false (length out) (5 + s .j) (went-on b _ (rw e at h))
+    → a ≡ answerIn b (ltb (length out) (letterHead + s .j)) → isAccepted a ≡ true
+    → letterHead + s .j ≤ length out
+has-room s out b a e h = ltb-false (length out) (letterHead + s .j) (went-on b _ (rw e at h))
 
 module _ (s : Setting) (r p out : List ℕ) (t : Turn) (a : Answer)
-    (e : a ≡ answerIn (t .answer) (ltb (length out) (5 + s .j))) where
+    (e : a ≡ answerIn (t .answer) (ltb (length out) (letterHead + s .j))) where
   pub stopped : isAccepted a ≡ false → Owned s (concluded s r p t out) r out r out a 0
   unfolding buffered
   stopped h = rw e (nothing-done s r out _ _ (stops (ownBox s r) t _ (t .answer) _ (rw e at h)))
 
   module _ (h : isAccepted a ≡ true) where
-    long : 5 + s .j ≤ length out
+    long : letterHead + s .j ≤ length out
     long = has-room s out (t .answer) a e h
 
     -- The code cuts the row at `end` and the place at `room`.
-    module _ (ok : Concludes s r p t) (end room : ℕ) (ee : end ≡ 20 + s .j)
-        (er : room ≡ 5 + s .j) where
+    module _ (ok : Concludes s r p t) (end room : ℕ) (ee : end ≡ headWords + s .j)
+        (er : room ≡ letterHead + s .j) where
       pub can-carry : Carries (s .n) (take end r) p (take room out) t
       can-carry =
           rw (ee, er)
           (record {
             plays = ok .plays;
-            posts = ok .posts (placeOf (s .j) out) (length-take-le (5 + s .j) out long);
+            posts = ok .posts (placeOf (s .j) out) (length-take-le (letterHead + s .j) out long);
           })
 
       module _ (q w : List ℕ) (to : ℕ)
@@ -135,16 +137,16 @@ module _ (s : Setting) (r p out : List ℕ) (t : Turn) (a : Answer)
         done = rw (ee, er) at c
 
         row-is : rowOf (s .j) (q ++ drop end r) ≡ q
-        row-is = rw ee (front-is (20 + s .j) r q (ok .words) (done .played .words))
+        row-is = rw ee (front-is (headWords + s .j) r q (ok .words) (done .played .words))
 
         place-is : placeOf (s .j) (w ++ drop room out) ≡ w
-        place-is = rw er (front-is (5 + s .j) out w long (done .posted .words))
+        place-is = rw er (front-is (letterHead + s .j) out w long (done .posted .words))
 
         row-words : length (q ++ drop end r) ≡ length r
-        row-words = rw ee (length-front r q (20 + s .j) (done .played .words))
+        row-words = rw ee (length-front r q (headWords + s .j) (done .played .words))
 
         place-words : length (w ++ drop room out) ≡ length out
-        place-words = rw er (length-front out w (5 + s .j) (done .posted .words))
+        place-words = rw er (length-front out w (letterHead + s .j) (done .posted .words))
 
         outcome : concluded s r p t out ≡ wentOn a (ownBox s r) t (letterAt p .records)
         unfolding buffered
@@ -160,9 +162,10 @@ module _ (s : Setting) (r p out : List ℕ) (t : Turn) (a : Answer)
               receivers = done .posted .set;
               letter = rw place-is (done .posted .letter);
               kept = λ f. absurd (both-no f (accepted-kept a h));
-              quiet = λ z. rw er (front-back (5 + s .j) out w (done .posted .quiet z));
-              past-row = rw ee (front-past (20 + s .j) r q (ok .words) (done .played .words));
-              past-out = rw er (front-past (5 + s .j) out w long (done .posted .words));
+              quiet = λ z. rw er (front-back (letterHead + s .j) out w (done .posted .quiet z));
+              past-row = rw ee (front-past (headWords + s .j) r q (ok .words)
+                  (done .played .words));
+              past-out = rw er (front-past (letterHead + s .j) out w long (done .posted .words));
               row-words = row-words;
               out-words = place-words;
             })
@@ -171,9 +174,11 @@ module _ (s : Setting) (r p out : List ℕ) (t : Turn) (a : Answer)
         unfolding rowReads placeReads
         reads-again = record {
           row = λ f.
-              and-both (le-leb (20 + s .j) _ (omega (arith, ok .words, row-words)))
-              (rw row-is (done .played .fits (s .j) (length-take-le (20 + s .j) r (ok .words))));
+              and-both (le-leb (headWords + s .j) _ (omega (arith, ok .words, row-words)))
+              (rw row-is (done .played .fits (s .j)
+              (length-take-le (headWords + s .j) r (ok .words))));
           letter = λ f.
-              and-both (le-leb (5 + s .j) _ (omega (arith, long, place-words)))
-              (rw place-is (done .posted .fits f (s .j) (length-take-le (5 + s .j) out long)));
+              and-both (le-leb (letterHead + s .j) _ (omega (arith, long, place-words)))
+              (rw place-is (done .posted .fits f (s .j)
+              (length-take-le (letterHead + s .j) out long)));
         }

@@ -10,7 +10,7 @@ use Rattle.rules.specs.Box.{Box, Letter}
 use Rattle.laws.proofs.Types.{Mail, Out, Turn}
 use Rattle.laws.proofs.Logic.{passed}
 use Rattle.letter.specs.Lent.{Enclosed}
-use Rattle.row.specs.Row.{rowFits}
+use Rattle.row.specs.Row.{rowFits, countAt, headWords}
 use Rattle.row.specs.Lent.{recordsOf, Plays, Played}
 use Rattle.own.specs.Lent.{Posted, Carried, recordsAfter}
 
@@ -48,12 +48,18 @@ module _ (p rs : List ℕ) where
 module _ (n : ℕ) (r p : List ℕ) (t : Turn) (ok : Plays n r p t)
     (q : List ℕ) (done : Played n r p t q) where
   -- The records that the row then holds lie within it ..
-  pub held-within : 20 + getD q 19 0 ≤ length q
+  pub held-within : headWords + getD q countAt 0 ≤ length q
   unfolding rowFits
   held-within =
       let J = ok .writes .J in
       let fits = passed _ (done .fits J (ok .writes .words)) in
-      omega (arith, leb-true (getD q 19 0) J (fits .1 .1 .1 .0), done .words, ok .writes .words)
+      omega (
+        arith,
+        leb-true
+            (getD q countAt 0) J (fits .1 .1 .1 .0),
+        done .words,
+        ok .writes .words,
+      )
 
   -- .. and are those after the turn.
   pub held-after : recordsOf q ≡ recordsAfter n r p t

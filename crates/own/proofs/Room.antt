@@ -10,8 +10,9 @@ use borrow.Author.Tests.{leb-true, leb-false, le-leb, lt-leb, lt-ltb, le-ltb}
 use Rattle.rules.specs.Sizes.{unknown}
 use Rattle.rules.specs.Box.{own, mail}
 use Rattle.laws.proofs.Types.{Act, Setting}
-use Rattle.letter.specs.Place.{kindOf, letterAt, placeFits}
-use Rattle.row.specs.Row.{stateOf, phaseOf, flagOf, peerOf, boxOf, rowFits}
+use Rattle.letter.specs.Place.{kindOf, letterAt, placeFits, headWords as letterHead}
+use Rattle.row.specs.Row.{stateOf, phaseOf, flagOf, peerOf, boxOf, rowFits, beforePeers, countAt}
+use Rattle.row.specs.Row.{headWords}
 use Rattle.row.specs.Lent.{recordsOf}
 use Rattle.own.specs.Entry.{rowOf, placeOf, ownBox, ownLetter, rowReads, placeReads}
 use Rattle.own.specs.Entry.{buffered, ownOn, actOn, mailOn}
@@ -36,29 +37,39 @@ module _ (s : Setting) where
 
   -- of the place for the letter, only whether it is long enough
   abbrev pub AsLong : List ℕ → List ℕ → Type 0
-  AsLong out out' = leb (5 + s .j) (length out) ≡ leb (5 + s .j) (length out')
+  AsLong out out' = leb (letterHead + s .j) (length out) ≡ leb (letterHead + s .j) (length out')
 
   pub act-room : (a : Act) (r r' out out' : List ℕ) → RowsAlike r r' → AsLong out out'
       → actOn s r a out ≡ actOn s r' a out'
   unfolding ownOn buffered
   act-room a r r' out out' e f =
       (λ i. ownOn s (e .box i) (e .reads i) (own a) out)
-      ∙ rw (less-not (length out) (5 + s .j), less-not (length out') (5 + s .j), f)
+      ∙ rw (
+        less-not (length out) (letterHead + s .j),
+        less-not
+            (length out') (letterHead + s .j),
+        f,
+      )
 
   pub mail-room : (sender : ℕ) (r r' p p' out out' : List ℕ) → RowsAlike r r' → PlacesAlike p p'
       → AsLong out out' → mailOn s r sender p out ≡ mailOn s r' sender p' out'
   unfolding ownOn buffered
   mail-room sender r r' p p' out out' e g f =
       (λ i. ownOn s (e .box i) (e .reads i && g .reads i) (mail sender (g .letter i)) out)
-      ∙ rw (less-not (length out) (5 + s .j), less-not (length out') (5 + s .j), f)
+      ∙ rw (
+        less-not (length out) (letterHead + s .j),
+        less-not
+            (length out') (letterHead + s .j),
+        f,
+      )
 
 -- ---- the words that are read
 
 -- of a row: the fields, the lasts of n peers, the count of records and the records held
 pub record SameRow (n : ℕ) (r r' : List ℕ) : Type 0 where
   pub fields : (k : ℕ) → k < 14 → getD r k 0 ≡ getD r' k 0
-  pub peers : (k : ℕ) → k ≤ n → getD r (13 + k) 0 ≡ getD r' (13 + k) 0
-  pub count : getD r 19 0 ≡ getD r' 19 0
+  pub peers : (k : ℕ) → k ≤ n → getD r (beforePeers + k) 0 ≡ getD r' (beforePeers + k) 0
+  pub count : getD r countAt 0 ≡ getD r' 19 0
   pub records : recordsOf r ≡ recordsOf r'
 
 module _ (n : ℕ) (r r' : List ℕ) (e : SameRow n r r') where
@@ -69,7 +80,8 @@ module _ (n : ℕ) (r r' : List ℕ) (e : SameRow n r r') where
   peer k = go (leb k n) refl
     where
       go : (t : Bool) → leb k n ≡ t
-          → cond t (getD r (13 + k) 0) unknown ≡ cond t (getD r' (13 + k) 0) unknown
+          → cond t (getD r (beforePeers + k) 0) unknown
+          ≡ cond t (getD r' (beforePeers + k) 0) unknown
       go true h = e .peers k (leb-true k n h)
       go false h = refl
 
@@ -123,7 +135,8 @@ module _ (p p' : List ℕ) (e : SamePlace p p') where
   same-room J = rw (word 0 refl, word 4 refl)
 
 module _ (s : Setting) where
-  pub used-row : (r r' : List ℕ) → leb (20 + s .j) (length r) ≡ leb (20 + s .j) (length r')
+  pub used-row : (r r' : List ℕ)
+      → leb (headWords + s .j) (length r) ≡ leb (headWords + s .j) (length r')
       → SameRow (s .n) (rowOf (s .j) r) (rowOf (s .j) r') → RowsAlike s r r'
   unfolding rowReads
   used-row r r' long e = record {
@@ -157,10 +170,17 @@ module _ (s : Setting) where
   pub first-row : (r r' : List ℕ) → rowOf (s .j) r ≡ rowOf (s .j) r' → RowsAlike s r r'
   unfolding rowReads
   first-row r r' e = record {
-    reads = rw (enough (20 + s .j) r r' e, e);
+    reads = rw (enough (headWords + s .j) r r' e, e);
     box = ap (boxOf (s .n)) e;
   }
 
   pub first-place : (p p' : List ℕ) → placeOf (s .j) p ≡ placeOf (s .j) p' → PlacesAlike s p p'
   unfolding placeReads
-  first-place p p' e = record { reads = rw (enough (5 + s .j) p p' e, e); letter = ap letterAt e }
+  first-place p p' e = record {
+    reads = rw (
+      enough
+          (letterHead + s .j) p p' e,
+      e,
+    );
+    letter = ap letterAt e;
+  }

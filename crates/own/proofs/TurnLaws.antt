@@ -17,11 +17,12 @@ use Rattle.laws.proofs.Logic.{Or, left, right, In, All, All-head, decide}
 use Rattle.laws.proofs.FormLaws.{Proper, proper-some, Peer, FormedBox, FormedKind}
 use Rattle.laws.proofs.FormLaws.{sizes-says}
 use Rattle.laws.proofs.TurnForm.{OutFits, Fits, EventFits, turn-fits}
-use Rattle.letter.specs.Place.{letterAt}
+use Rattle.letter.specs.Place.{letterAt, headWords as letterHead}
 use Rattle.letter.specs.Lent.{enclosedFrom, enclosedCount}
 use Rattle.own.specs.Entry.{ownBox}
 use Rattle.own.specs.Lent.{Posts, Concludes}
 use Rattle.own.proofs.FormLaws.{OwnRow}
+use Rattle.row.specs.Row.{headWords}
 
 -- ---- the row
 
@@ -63,7 +64,8 @@ module _ (J pn last unagreed : ℕ) (rs : List ℕ) (room : last ≤ J) where
       (omega arith, room)
   enclosed-held Kind.Lease f p = (omega arith, omega arith)
 
-posts : (n J : ℕ) (o : Out) (rs : List ℕ) → OutFits n J rs o → (q : List ℕ) → length q ≡ 5 + J
+posts : (n J : ℕ) (o : Out) (rs : List ℕ) → OutFits n J rs o → (q : List ℕ)
+    → length q ≡ letterHead + J
     → Posts q o rs
 posts n J Out.Nothing rs h q e = tt
 posts n J (Out.To set m) rs h q e =
@@ -87,7 +89,7 @@ concludes s r p e sizes own me present fits same =
       plays = record {
         writes = record {
           J = s .j;
-          words = length-take-le (20 + s .j) r (own .long);
+          words = length-take-le (headWords + s .j) r (own .long);
           loads = z .few-loads;
           count = own .count;
           book = f .book;

@@ -14,15 +14,15 @@ use Rattle.rules.specs.declared.model.Act.{Act}
 use Rattle.rules.specs.declared.model.Answer.{Answer}
 use Rattle.rules.specs.declared.model.Refusal.{Refusal}
 use Rattle.rules.specs.declared.model.Setting.{Setting}
-use Rattle.letter.specs.Place.{letterAt, placeFits}
-use Rattle.row.specs.Row.{boxOf, rowFits}
+use Rattle.letter.specs.Place.{letterAt, placeFits, headWords as letterHead}
+use Rattle.row.specs.Row.{boxOf, rowFits, headWords}
 
 -- the words of a box's row and of a letter's place; what follows them is unused room
 abbrev pub rowOf : ℕ → List ℕ → List ℕ
-rowOf J r = take (20 + J) r
+rowOf J r = take (headWords + J) r
 
 abbrev pub placeOf : ℕ → List ℕ → List ℕ
-placeOf J p = take (5 + J) p
+placeOf J p = take (letterHead + J) p
 
 -- the box that a lent row holds, the letter that a lent place holds
 abbrev pub ownBox : Setting → List ℕ → Box
@@ -33,15 +33,15 @@ ownLetter s p = letterAt (placeOf (s .j) p)
 
 -- the words can be read: there are enough of them, and they fit
 unfoldable pub rowReads : ℕ → List ℕ → Bool
-rowReads J r = leb (20 + J) (length r) && rowFits J (rowOf J r)
+rowReads J r = leb (headWords + J) (length r) && rowFits J (rowOf J r)
 
 unfoldable pub placeReads : ℕ → List ℕ → Bool
-placeReads J p = leb (5 + J) (length p) && placeFits J (placeOf J p)
+placeReads J p = leb (letterHead + J) (length p) && placeFits J (placeOf J p)
 
 -- refusal 12 where the lent place for the letter is too short for any letter of the site
 unfoldable pub buffered : Setting → Box → List ℕ → OwnOutcome → OwnOutcome
 buffered s x out o =
-    cond (isAccepted (o .answer) && ltb (length out) (5 + s .j))
+    cond (isAccepted (o .answer) && ltb (length out) (letterHead + s .j))
     (unmoved x (Answer.Refused Refusal.Buffer))
     o
 
@@ -76,7 +76,7 @@ pub record Owned (s : Setting) (o : OwnOutcome) (r out r' out' : List ℕ) (a : 
   pub letter : lettersIn s to out' ≡ o .letters
   pub kept : isRefusal a ≡ true → r' ≡ r
   pub quiet : to ≡ 0 → out' ≡ out
-  pub past-row : drop (20 + s .j) r' ≡ drop (20 + s .j) r
-  pub past-out : drop (5 + s .j) out' ≡ drop (5 + s .j) out
+  pub past-row : drop (headWords + s .j) r' ≡ drop (headWords + s .j) r
+  pub past-out : drop (letterHead + s .j) out' ≡ drop (letterHead + s .j) out
   pub row-words : length r' ≡ length r
   pub out-words : length out' ≡ length out

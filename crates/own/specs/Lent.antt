@@ -10,9 +10,9 @@ use Rattle.rules.specs.Own.{OwnOutcome, receivers, lettersOf, ownTurn}
 use Rattle.rules.specs.declared.model.Out.{Out}
 use Rattle.rules.specs.declared.model.Setting.{Setting}
 use Rattle.rules.specs.declared.model.Turn.{Turn}
-use Rattle.letter.specs.Place.{letterAt, placeFits}
+use Rattle.letter.specs.Place.{letterAt, placeFits, headWords as letterHead}
 use Rattle.letter.specs.Lent.{Encloses}
-use Rattle.row.specs.Row.{boxOf}
+use Rattle.row.specs.Row.{boxOf, headWords}
 use Rattle.row.specs.Lent.{Plays, Played}
 use Rattle.own.specs.Entry.{rowOf, ownBox, rowReads, placeReads, buffered}
 
@@ -27,7 +27,7 @@ pub record Posted (p : List ℕ) (o : Out) (rs q : List ℕ) (to : ℕ) : Type 0
   pub letter : cond (eqb to 0) [] (letterAt q ∷ []) ≡ lettersOf o rs
   pub quiet : to ≡ 0 → q ≡ p
   pub words : length q ≡ length p
-  pub fits : (to ≡ 0 → ⊥) → (J : ℕ) → length p ≡ 5 + J → placeFits J q ≡ true
+  pub fits : (to ≡ 0 → ⊥) → (J : ℕ) → length p ≡ letterHead + J → placeFits J q ≡ true
 
 -- the records that the row r holds after the turn t, p the place of the mail that it took
 abbrev pub recordsAfter : ℕ → List ℕ → List ℕ → Turn → List ℕ
@@ -45,9 +45,9 @@ pub record Carried (n : ℕ) (r p out : List ℕ) (t : Turn) (r' out' : List ℕ
 
 -- a box's own row r can take the turn t, and any place of the site what it sends
 pub record Concludes (s : Setting) (r p : List ℕ) (t : Turn) : Type 0 where
-  pub words : 20 + s .j ≤ length r
+  pub words : headWords + s .j ≤ length r
   pub plays : Plays (s .n) (rowOf (s .j) r) p t
-  pub posts : (q : List ℕ) → length q ≡ 5 + s .j
+  pub posts : (q : List ℕ) → length q ≡ letterHead + s .j
       → Posts q (t .out) (recordsAfter (s .n) (rowOf (s .j) r) p t)
 
 -- what comes of the turn t, with a place out for its letter

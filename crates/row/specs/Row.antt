@@ -74,6 +74,10 @@ countAt = 19
 abbrev pub headWords : ℕ
 headWords = 20
 
+-- the record of number k stands k places behind this
+abbrev pub beforeRecords : ℕ
+beforeRecords = 19
+
 -- ---- what they say
 
 -- states 0 to this are by form

@@ -15,7 +15,7 @@ use Rattle.rules.specs.declared.model.Refusal.{Refusal}
 use Rattle.rules.specs.declared.model.Turn.{Turn}
 use Rattle.laws.proofs.Logic.{true≠false, both-no}
 use Rattle.laws.proofs.StepLaws.{changed}
-use Rattle.memory.specs.Memory.{pastSite, pastLinks, siteOf, readable}
+use Rattle.memory.specs.Memory.{pastSite, pastLinks, siteOf, readable, generalWords}
 use Rattle.memory.specs.After.{settingAt, boxesOf, linksOf, RowsPut, LinksPut}
 use Rattle.memory.proofs.LentLaws.{general-same, setting-same, readable-rows, readable-made}
 use Rattle.rules.specs.Answers.{isRefusal, isAccepted}
@@ -43,7 +43,8 @@ need-not refuse why b ks a e = rw e refl
 
 -- where the general words stay, the site has other boxes and other links
 pub site-changed : (xs ls xs' ls' : List ℕ) (c : ℕ) (f : ℕ → Box) (g : ℕ → ℕ → List Letter)
-    → take 5 xs' ≡ take 5 xs → boxesOf (settingAt xs c) xs' ≡ f → linksOf (settingAt xs c) ls' ≡ g
+    → take generalWords xs' ≡ take generalWords xs → boxesOf (settingAt xs c) xs' ≡ f
+    → linksOf (settingAt xs c) ls' ≡ g
     → siteOf xs' ls' ≡ changed (siteOf xs ls) f g
 unfolding siteOf
 site-changed xs ls xs' ls' c f g e p q =

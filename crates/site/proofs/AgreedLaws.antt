@@ -10,7 +10,7 @@ use borrow.Author.Tests.{le-leb, lt-leb}
 use Rattle.words.specs.Rows.{part}
 use Rattle.words.proofs.PartLaws.{getD-part}
 use Rattle.rules.specs.Step.{agreedAs}
-use Rattle.row.specs.Row.{boxOf}
+use Rattle.row.specs.Row.{boxOf, beforeRecords, countAt, headWords}
 use Rattle.site.specs.Records.{AgreedLie}
 
 module _ (n : ℕ) (r : List ℕ) (k left right : ℕ) where
@@ -23,12 +23,13 @@ module _ (n : ℕ) (r : List ℕ) (k left right : ℕ) where
   agreed-above h = rw (le-leb 1 k (omega arith), lt-leb k (getD r 4 0) h) refl
 
   pub agreed-here : 1 ≤ k → k ≤ getD r 4 0 → AgreedLie r
-      → (eqb (getD r (19 + k) 0 / 4294967296) left && eqb (getD r (19 + k) 0 % 4294967296) right)
+      → (eqb (getD r (beforeRecords + k) 0 / 4294967296) left
+      && eqb (getD r (beforeRecords + k) 0 % 4294967296) right)
       ≡ agreedAs (boxOf n r) k left right
   unfolding agreedAs
   agreed-here h l a = rw (le-leb 1 k h, le-leb k (getD r 4 0) l, here) refl
     where
-      here : getD (part r 20 (getD r 19 0)) (k - 1) 0 ≡ getD r (19 + k) 0
+      here : getD (part r headWords (getD r countAt 0)) (k - 1) 0 ≡ getD r (beforeRecords + k) 0
       here =
-          getD-part 20 (getD r 19 0) (k - 1) 0 r (omega (arith, a .held))
+          getD-part headWords (getD r countAt 0) (k - 1) 0 r (omega (arith, a .held))
           ∙ ap (λ (i : ℕ). getD r i 0) (omega arith)

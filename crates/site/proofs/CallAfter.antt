@@ -14,7 +14,7 @@ use Rattle.rules.specs.declared.model.Refusal.{Refusal}
 use Rattle.rules.specs.declared.model.Setting.{Setting}
 use Rattle.rules.specs.declared.model.Verdict.{Verdict}
 use Rattle.laws.proofs.Logic.{true≠false}
-use Rattle.memory.specs.Memory.{rowWidth, pastSite, pastLinks, siteOf, readable}
+use Rattle.memory.specs.Memory.{rowWidth, pastSite, pastLinks, siteOf, readable, generalWords}
 use Rattle.memory.specs.Memory.{memoryForm}
 use Rattle.memory.specs.After.{settingAt, linksBy, RowsPut, LinksPut}
 use Rattle.memory.proofs.LentLaws.{form-readable, setting-same, readable-rows, readable-made}
@@ -40,7 +40,7 @@ module _ (xs ls : List ℕ) (f : memoryForm xs ls ≡ true) where
   needs-refused o r ks v why e p q =
       refused-after xs ls why o (e ∙ verdict-refuse (refused s) r ks why (sym p ∙ q))
 
-  five : 5 ≤ length xs
+  five : generalWords ≤ length xs
   five = omega (arith, readable-rows xs ls 0 (form-readable xs ls f) .words)
 
   -- ---- the epoch and the present set

@@ -18,6 +18,7 @@ use Rattle.laws.proofs.FormKept.{fresh-form}
 use Rattle.laws.proofs.FormLaws.{sizes-says}
 use Rattle.laws.proofs.SetLaws.{set-small, set-up, set-full}
 use Rattle.memory.specs.Memory.{rowWidth, siteWords, linksWords, boxIn, linkIn, siteOf, readable}
+use Rattle.memory.specs.Memory.{generalWords}
 use Rattle.memory.specs.Memory.{pastSite, pastLinks, memoryForm}
 use Rattle.memory.specs.After.{settingAt, RowsPut, LinksPut}
 use Rattle.memory.proofs.FormLaws.{words-say}
@@ -127,7 +128,7 @@ module _ (xs ls : List ℕ) (n J L : ℕ) where
   pub links-room : enough ≡ true → linksWords n J L ≤ length ls
   links-room e = words-say (knowing 0) xs ls e .1
 
-  pub five-room : enough ≡ true → 5 ≤ length xs
+  pub five-room : enough ≡ true → generalWords ≤ length xs
   five-room e = omega (arith, rows-room e)
 
   pub rows-room-put : (w : ℕ) (ys : List ℕ) → ys ≡ settingPut (knowing w) xs → enough ≡ true

@@ -12,7 +12,7 @@ use Rattle.rules.specs.declared.model.Answer.{Answer}
 use Rattle.rules.specs.declared.model.Setting.{Setting}
 use Rattle.rules.specs.declared.model.Verdict.{Verdict}
 use Rattle.row.specs.Row.{boxOf}
-use Rattle.memory.specs.Memory.{rowWidth, rowAt, boxIn, linkIn, siteOf, readable}
+use Rattle.memory.specs.Memory.{rowWidth, rowAt, boxIn, linkIn, siteOf, readable, generalWords}
 use Rattle.memory.specs.After.{settingAt}
 use Rattle.memory.proofs.LentLaws.{readable-rows, readable-links, readable-made}
 use Rattle.site.specs.General.{generalPut, settingPut, withGeneral, Presented}
@@ -32,12 +32,12 @@ module _ (xs : List ℕ) (epoch present : ℕ) where
       getD-set-other (set xs 3 epoch) 4 i present 0 (omega arith)
       ∙ getD-set-other xs 3 i epoch 0 (omega arith)
 
-  is-epoch : 5 ≤ length xs → getD (generalPut epoch present xs) 3 0 ≡ epoch
+  is-epoch : generalWords ≤ length xs → getD (generalPut epoch present xs) 3 0 ≡ epoch
   is-epoch l =
       getD-set-other (set xs 3 epoch) 4 3 present 0 (omega arith)
       ∙ getD-set-same xs 3 epoch 0 (omega arith)
 
-  is-present : 5 ≤ length xs → getD (generalPut epoch present xs) 4 0 ≡ present
+  is-present : generalWords ≤ length xs → getD (generalPut epoch present xs) 4 0 ≡ present
   is-present l = getD-set-same (set xs 3 epoch) 4 present 0 (simp length-set (omega arith))
 
   -- the rows stand behind the general words
@@ -62,7 +62,7 @@ module _ (xs : List ℕ) (epoch present : ℕ) where
       ∙ (λ t b. cond (isBox (getD xs 0 0) b) (boxOf (getD xs 0 0) (same-row (getD xs 1 0) b t))
       freshBox)
 
-  pub general-put : (ls : List ℕ) → 5 ≤ length xs
+  pub general-put : (ls : List ℕ) → generalWords ≤ length xs
       → siteOf (generalPut epoch present xs) ls ≡ withGeneral epoch present (siteOf xs ls)
   unfolding siteOf
   general-put ls l = λ t. record {
@@ -117,7 +117,7 @@ module _ (s : Setting) (xs : List ℕ) where
       ∙ drop-set-lt (5 + m) (set xs 0 (s .n)) 1 (s .j) (omega arith)
       ∙ drop-set-lt (5 + m) xs 0 (s .n) (omega arith)
 
-  pub setting-put : 5 ≤ length xs → settingAt (settingPut s xs) (s .me) ≡ s
+  pub setting-put : generalWords ≤ length xs → settingAt (settingPut s xs) (s .me) ≡ s
   setting-put h =
       let l : 5 ≤ length sized = omega (arith, sized-length) in
       let ones = set xs 0 (s .n) in

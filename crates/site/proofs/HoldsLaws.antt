@@ -16,7 +16,7 @@ use Rattle.rules.specs.declared.model.Refusal.{Refusal}
 use Rattle.rules.specs.declared.model.Setting.{Setting}
 use Rattle.laws.proofs.Logic.{passed}
 use Rattle.laws.proofs.FormLaws.{FormedBox, box-says}
-use Rattle.row.specs.Row.{boxOf, rowFits}
+use Rattle.row.specs.Row.{boxOf, rowFits, countAt, headWords}
 use Rattle.memory.specs.Memory.{rowAt, rowWidth, siteOf, memoryForm}
 use Rattle.memory.specs.After.{settingAt, boxesOf, BoxLent}
 use Rattle.site.specs.Records.{AgreedLie}
@@ -25,14 +25,14 @@ use Rattle.site.proofs.CallLaws.{holds-true, holds-untrue}
 use Rattle.site.proofs.TurnKnown.{box-lent}
 
 -- a row that fits and holds a box by form
-lie : (n J c : ℕ) (r : List ℕ) → length r ≡ 20 + J → rowFits J r ≡ true
+lie : (n J c : ℕ) (r : List ℕ) → length r ≡ headWords + J → rowFits J r ≡ true
     → FormedBox n J c (boxOf n r) → AgreedLie r
 unfolding rowFits
 lie n J c r w fits f =
     let p = passed _ fits in
-    let count : getD r 19 0 ≤ J = leb-true (getD r 19 0) J (p .1 .1 .1 .0) in
+    let count : getD r countAt 0 ≤ J = leb-true (getD r countAt 0) J (p .1 .1 .1 .0) in
     record {
-      held = omega (arith, f .held .all, length-take (getD r 19 0) (drop 20 r));
+      held = omega (arith, f .held .all, length-take (getD r countAt 0) (drop headWords r));
       room = omega arith;
     }
 

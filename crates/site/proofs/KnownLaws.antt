@@ -18,7 +18,7 @@ use Rattle.rules.specs.declared.model.Verdict.{Verdict}
 use Rattle.laws.proofs.Logic.{In}
 use Rattle.laws.proofs.SetLaws.{set-small, set-up}
 use Rattle.laws.proofs.FormLaws.{Formed, form-says, is-box}
-use Rattle.memory.specs.Memory.{siteOf, memoryForm}
+use Rattle.memory.specs.Memory.{siteOf, memoryForm, generalWords}
 use Rattle.memory.specs.After.{settingAt, GeneralLent, RowsLent, LinksLent}
 use Rattle.memory.proofs.LentLaws.{form-site, form-readable, readable-rows, readable-links}
 use Rattle.site.specs.Entries.{After}
@@ -37,7 +37,7 @@ module _ (xs ls : List ℕ) (f : memoryForm xs ls ≡ true) where
   pub formed : Formed (siteOf xs ls)
   formed = form-says (form-site xs ls f)
 
-  pub five-words : 5 ≤ length xs
+  pub five-words : generalWords ≤ length xs
   five-words = omega (arith, readable-rows xs ls 0 (form-readable xs ls f) .words)
 
   -- the general words fit 32 bits

@@ -24,7 +24,7 @@ use Rattle.laws.proofs.Logic.{In, All, All-head}
 use Rattle.laws.proofs.FormLaws.{FormedLetter, letter-made, is-link, box-is}
 use Rattle.laws.proofs.Receivers.{Foreign}
 use Rattle.laws.proofs.TurnForm.{EventFits}
-use Rattle.letter.specs.Place.{letterAt, placeForm}
+use Rattle.letter.specs.Place.{letterAt, placeForm, headWords as letterHead}
 use Rattle.link.specs.Link.{placeWidth}
 use Rattle.memory.specs.Memory.{siteOf, memoryForm}
 use Rattle.memory.specs.After.{settingAt, boxesOf, linksOf, linksBy, RowsPut, LinksPut}
@@ -246,7 +246,7 @@ module _ {s : Setting} {a p : ℕ} {xs ls : List ℕ} {t : Turn} (k : TakesMail 
   pub mail-some : 0 < length (linksOf s ls a (s .me))
   mail-some = subst (λ (l : List Letter). 0 < length l) (sym (k .head .letters)) (omega arith)
 
-  module _ (q : ℕ) (e : q ≡ p + (5 + s .j)) where
+  module _ (q : ℕ) (e : q ≡ p + (letterHead + s .j)) where
     pub mail-playable : Playable s xs (there (q - p)) t
     mail-playable =
         subst (λ (l : List ℕ). Playable s xs (letterAt l .records) t)

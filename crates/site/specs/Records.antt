@@ -2,8 +2,9 @@
 use Prim.Native.Nat.{ℕ, _+_, _≤_}
 use mathlib.Core.List.{List}
 use lib.ListN.{length, getD}
+use Rattle.row.specs.Row.{countAt, headWords}
 
 -- the agreed numbers are held, and the records lie within the row
 pub record AgreedLie (r : List ℕ) : Type 0 where
-  pub held : getD r 4 0 ≤ getD r 19 0
-  pub room : 20 + getD r 19 0 ≤ length r
+  pub held : getD r 4 0 ≤ getD r countAt 0
+  pub room : headWords + getD r countAt 0 ≤ length r

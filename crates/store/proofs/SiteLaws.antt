@@ -19,6 +19,7 @@ use Rattle.row.specs.Row.{boxOf, rowFits}
 use Rattle.link.specs.Link.{linkWidth, linkOf}
 use Rattle.link.specs.Holds.{Holds}
 use Rattle.memory.specs.Memory.{rowWidth, siteWords, linksWords, rowAt, linkAt, linkIndex, siteOf}
+use Rattle.memory.specs.Memory.{generalWords}
 use Rattle.memory.specs.Memory.{pastLinks, memoryForm}
 use Rattle.memory.specs.After.{settingAt, GeneralLent, RowsLent, LinksLent}
 use Rattle.memory.proofs.LentLaws.{readable-made, form-both}
@@ -53,7 +54,7 @@ general-there src at x =
 
 -- .. and there is room for them.
 pub general-room : (src : List ℕ) (at : ℕ) (xs ls : List ℕ) → Has listedBytes GoodListed src at
-    → RoomFor src at xs ls → 5 ≤ length xs
+    → RoomFor src at xs ls → generalWords ≤ length xs
 general-room src at xs ls x lent = let f = x .found in
     omega (arith, lent .words (f .thing) (x .place) (f .good) (f .stands) .0)
 
@@ -185,7 +186,7 @@ module _ (n J L d e : ℕ) (ds ks : List ℕ) (bs : List Box) (lks : List (List 
     row-at : (i : ℕ) → rowAt J words (i + 1) ≡ part ds (i * rowWidth J) (rowWidth J)
     row-at i =
         let same : i + 1 - 1 ≡ i = omega arith in
-        ap (λ (k : ℕ). part words (5 + k * rowWidth J) (rowWidth J)) same
+        ap (λ (k : ℕ). part words (generalWords + k * rowWidth J) (rowWidth J)) same
         ∙ sym (part-drop 5 (i * rowWidth J) (rowWidth J) words)
 
     boxes-same : boxesOf (siteOf words ks) ≡ bs
@@ -249,7 +250,7 @@ module _ (n J L d e : ℕ) (ds ks : List ℕ) (bs : List Box) (lks : List (List 
 
     pub site-held : (xs ls : List ℕ) → siteWords n J ≤ length xs → linksWords n J L ≤ length ls
         → length ds ≡ length xs - 5 → length ks ≡ length ls
-        → drop (n * rowWidth J) ds ≡ drop (n * rowWidth J) (drop 5 xs)
+        → drop (n * rowWidth J) ds ≡ drop (n * rowWidth J) (drop generalWords xs)
         → pastLinks n J L ks ≡ pastLinks n J L ls
         → HoldsSite xs ls words ks held
     site-held xs ls room wide lds lks rest rest' = record {
@@ -268,7 +269,7 @@ module _ (src : List ℕ) (at p : ℕ) (w : List ℕ) (five : length w ≡ 5) (g
     (em : m ≡ n * (n - 1)) where
   -- Row by row, and behind them what was there.
   rows-held : (xs ls ds ks : List ℕ) (t : Listed) → GoodListed t → w ≡ t .general
-      → HoldsRows (HoldsBox n J) (rowWidth J) n (boxOf n []) (drop 5 xs) ds (t .boxes)
+      → HoldsRows (HoldsBox n J) (rowWidth J) n (boxOf n []) (drop generalWords xs) ds (t .boxes)
       → HoldsRows (Holds J L) (linkWidth J L) (n * (n - 1)) [] ls ks (t .links)
       → siteWords n J ≤ length xs → linksWords n J L ≤ length ls
       → length ds ≡ length xs - 5 → length ks ≡ length ls
@@ -314,11 +315,11 @@ module _ (src : List ℕ) (at p : ℕ) (w : List ℕ) (five : length w ≡ 5) (g
         → length ks ≡ length ls
         → StoredIs (chain (boxBody n)) (Many (λ i. SomeBox n J) n) src p
         (HoldsRows (HoldsBox n J) (rowWidth J) n (boxOf n [])
-        (take (e - 5) (drop 5 (w ++ drop 5 xs))) ds) r
+        (take (e - 5) (drop 5 (w ++ drop generalWords xs))) ds) r
         → StoredIs (chain linkBytes) (Many (λ i. GoodLink J L) m) src r
         (HoldsRows (Holds J L) (linkWidth J L) m [] ls ks) u
         → (q : ℕ) (f : Found listedBytes GoodListed src at q)
-        → HoldsSite xs ls (splice (w ++ drop 5 xs) 5 (e - 5) ds) ks (f .thing)
+        → HoldsSite xs ls (splice (w ++ drop generalWords xs) 5 (e - 5) ds) ks (f .thing)
     site-stored ds ks r u e ee lds lks got got' q f =
         let t = f .thing in
         let b = bodies-are src at p w five g n J L en eJ eL t q (f .good) (f .stands) in
@@ -330,8 +331,8 @@ module _ (src : List ℕ) (at p : ℕ) (w : List ℕ) (five : length w ≡ 5) (g
           stands = subst (λ (k : ℕ). Stands (chain linkBytes (t .links)) src k q) (sym (z .1))
               (b .rest);
         }) in
-        let tail = drop 5 xs in
-        let size : e - 5 ≡ length tail = omega (arith, length-drop 5 xs) in
+        let tail = drop generalWords xs in
+        let size : e - 5 ≡ length tail = omega (arith, length-drop generalWords xs) in
         let behind : drop 5 (w ++ tail) ≡ tail = drop-at w tail 5 five in
         let same : take (e - 5) (drop 5 (w ++ tail)) ≡ tail =
         (λ i. take (size i) (behind i)) ∙ take-length tail in

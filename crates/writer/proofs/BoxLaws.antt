@@ -11,10 +11,10 @@ use borrow.Author.Tests.{le-leb}
 use Rattle.words.specs.Rows.{part}
 use Rattle.words.proofs.PartLaws.{length-part, gets, gets-part, cut-at}
 use Rattle.rules.specs.Sizes.{mostBoxes, unknown}
-use Rattle.row.specs.Row.{peerOf, headOf, boxOf, headWords, countAt}
+use Rattle.row.specs.Row.{peerOf, headOf, boxOf, headWords, countAt, beforePeers}
 use Rattle.row.proofs.NumberLaws.{flag-number-back, state-number-back, phase-number-back}
 use Rattle.row.proofs.FormLaws.{fits-says}
-use Rattle.memory.specs.Memory.{rowWidth}
+use Rattle.memory.specs.Memory.{rowWidth, generalWords}
 use Rattle.cells.specs.Cells.{cells, Each, All}
 use Rattle.cells.specs.Groups.{Cut, headedBytes}
 use Rattle.cells.proofs.GroupLaws.{SameIn, groups-as, cut-more}
@@ -27,8 +27,8 @@ use Rattle.writer.specs.Fits.{BoxFits, boxRow, BoxesFit, boxesIn}
 
 module _ (n : ℕ) (r : List ℕ) where
   -- The first n peers of a box are their words.
-  peer-is : (k : ℕ) → k ≤ n → peerOf n r k ≡ getD r (13 + k) 0
-  peer-is k h = ap (λ (t : Bool). cond t (getD r (13 + k) 0) unknown) (le-leb k n h)
+  peer-is : (k : ℕ) → k ≤ n → peerOf n r k ≡ getD r (beforePeers + k) 0
+  peer-is k h = ap (λ (t : Bool). cond t (getD r (beforePeers + k) 0) unknown) (le-leb k n h)
 
   peers-at : (i : ℕ) → i < mostBoxes
       → getD (headOf n r .peers) i 0 ≡ peerOf n r (i + 1)
@@ -122,7 +122,7 @@ module _ (n J : ℕ) (xs : List ℕ) where
       → (boxOf n (take (a + w - a) (drop a xs)) ≡ getD (boxesIn n J xs) i (boxOf n []))
       × BoxFits n J (take (a + w - a) (drop a xs))
   box-cut f i b a w h e s u =
-      let start : a ≡ 5 + i * rowWidth J = s ∙ ap (λ (x : ℕ). 5 + x)
+      let start : a ≡ generalWords + i * rowWidth J = s ∙ ap (λ (x : ℕ). 5 + x)
       (e ∙ ap (λ (x : ℕ). i * x) u) in
       let same = cut-at xs start u in
       (ap (boxOf n) same ∙ sym (boxes-in-at i h), subst (BoxFits n J) (sym same) (f .each i h))

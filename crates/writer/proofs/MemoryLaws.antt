@@ -23,6 +23,7 @@ use Rattle.letter.specs.Place.{placeFits}
 use Rattle.row.specs.Row.{boxOf, rowFits}
 use Rattle.link.specs.Link.{placeWidth, linkWidth, places, linkOf, linkFits}
 use Rattle.memory.specs.Memory.{rowWidth, siteWords, linksWords, rowAt, linkAt, siteOf}
+use Rattle.memory.specs.Memory.{generalWords}
 use Rattle.memory.specs.Memory.{roomy, memoryForm}
 use Rattle.memory.proofs.SizeLaws.{link-sizes}
 use Rattle.cells.specs.Cells.{Each}
@@ -125,7 +126,7 @@ module _ (xs ls : List ℕ) (e : memoryForm xs ls ≡ true) where
             record {
               boxes = z .few-boxes;
               loads = z .few-loads;
-              width = length-part (5 + i * rowWidth JIn) (rowWidth JIn) xs
+              width = length-part (generalWords + i * rowWidth JIn) (rowWidth JIn) xs
                   (omega (arith, site-words, row-end (rowWidth JIn) h));
               fits = subst (λ (k : ℕ). rowFits JIn (boxRow JIn xs k) ≡ true) (same i)
                   (row-at-fits (i + 1) (omega arith, omega arith));
@@ -201,7 +202,7 @@ module _ (xs ls : List ℕ) (e : memoryForm xs ls ≡ true) where
 
   pub memory-listed : listed (siteOf xs ls)
       ≡ record {
-        general = part xs 0 5;
+        general = part xs 0 generalWords;
         boxes = boxesIn nIn JIn xs;
         links = linksIn links JIn LIn ls;
       }

@@ -16,7 +16,7 @@ use Rattle.rules.specs.Sizes.{sizesForm}
 use Rattle.rules.specs.Form.{form}
 use Rattle.rules.specs.declared.model.Setting.{Setting}
 use Rattle.laws.proofs.Logic.{passed}
-use Rattle.memory.specs.Memory.{siteOf, memoryForm}
+use Rattle.memory.specs.Memory.{siteOf, memoryForm, generalWords}
 use Rattle.memory.specs.After.{settingAt, GeneralLent}
 use Rattle.memory.proofs.FormLaws.{general-lent}
 use Rattle.image.specs.Image.{boxBody, linkBytes, contents, tableOf}
@@ -32,7 +32,7 @@ use Rattle.writer.proofs.MemoryLaws.{memory-boxes, memory-links, memory
 
 -- What the code reads of words by form.
 module _ (xs ls : List ℕ) (e : memoryForm xs ls ≡ true) where
-  pub long-enough : 5 ≤ length xs
+  pub long-enough : generalWords ≤ length xs
   long-enough = let w = memory-boxes xs ls e .width in omega arith
 
   pub general-words : GeneralLent xs
@@ -59,7 +59,11 @@ module _ (xs ls : List ℕ) (e : memoryForm xs ls ≡ true) (n J L m : ℕ) (en 
   links-fit = rw (em, en, eJ, eL) (memory-links xs ls e)
 
   abbrev held : Listed
-  held = record { general = part xs 0 5; boxes = boxesIn n J xs; links = linksIn m J L ls }
+  held = record {
+    general = part xs 0 generalWords;
+    boxes = boxesIn n J xs;
+    links = linksIn m J L ls;
+  }
 
   held-is : listed (siteOf xs ls) ≡ held
   held-is = rw (em, en, eJ, eL) (memory-listed xs ls e)
@@ -73,14 +77,14 @@ module _ (xs ls : List ℕ) (e : memoryForm xs ls ≡ true) (n J L m : ℕ) (en 
       ∙ ap (λ (t : Listed). tableOf (bodiesIn t) ++ listedBytes t) held-is
       ∙ (λ i. tables i ++ bodies i)
     where
-      first : getD (part xs 0 5) 0 0 ≡ n
-      first = getD-take 5 xs 0 0 (omega arith) ∙ sym en
+      first : getD (part xs 0 generalWords) 0 0 ≡ n
+      first = getD-take generalWords xs 0 0 (omega arith) ∙ sym en
 
-      bodies : listedBytes held ≡ cells 4 (part xs 0 5)
+      bodies : listedBytes held ≡ cells 4 (part xs 0 generalWords)
           ++ (chain (boxBody n) (boxesIn n J xs) ++ chain linkBytes (linksIn m J L ls))
       bodies =
           ap (λ (k : ℕ).
-          cells 4 (part xs 0 5)
+          cells 4 (part xs 0 generalWords)
           ++ (chain (boxBody k) (boxesIn n J xs) ++ chain linkBytes (linksIn m J L ls)))
           first
 
@@ -153,7 +157,7 @@ module _ (n J : ℕ) (xs : List ℕ) (mail : ℕ) where
       (entriesFrom (sym e i) ++ lastEntry (sym e i))
 
 pub bodies-are : (n J L m : ℕ) (xs ls : List ℕ)
-    → bodiesOf n J L m xs ls ≡ cells 4 (part xs 0 5)
+    → bodiesOf n J L m xs ls ≡ cells 4 (part xs 0 generalWords)
     ++ (chain (boxBody n) (boxesIn n J xs) ++ chain linkBytes (linksIn m J L ls))
 unfolding bodiesOf
 bodies-are n J L m xs ls = refl

@@ -13,7 +13,7 @@ use Rattle.letter.specs.Place.{letterAt, placeFits}
 use Rattle.row.specs.Row.{boxOf, rowFits}
 use Rattle.link.specs.Link.{placeWidth, linkWidth, linkOf}
 use Rattle.link.specs.Holds.{LinkSizes}
-use Rattle.memory.specs.Memory.{rowWidth}
+use Rattle.memory.specs.Memory.{rowWidth, generalWords}
 use Rattle.cells.specs.Cells.{chain, cells}
 use Rattle.image.specs.Image.{numbersFrom, boxBody, linkBytes, contents}
 
@@ -63,12 +63,12 @@ pub record BoxFits (n J : ℕ) (r : List ℕ) : Type 0 where
 
 -- n rows behind the general words
 abbrev pub boxRow : ℕ → List ℕ → ℕ → List ℕ
-boxRow J xs i = part xs (5 + i * rowWidth J) (rowWidth J)
+boxRow J xs i = part xs (generalWords + i * rowWidth J) (rowWidth J)
 
 pub record BoxesFit (n J : ℕ) (xs : List ℕ) : Type 0 where
   pub boxes : n ≤ mostBoxes
   pub loads : J ≤ mostLoads
-  pub width : 5 + n * rowWidth J ≤ length xs
+  pub width : generalWords + n * rowWidth J ≤ length xs
   pub each : (i : ℕ) → i < n → BoxFits n J (boxRow J xs i)
 
 unfoldable pub boxesIn : ℕ → ℕ → List ℕ → List Box
@@ -86,6 +86,6 @@ tableIn n J xs mail =
 -- general body, boxes and mail
 unfoldable pub bodiesOf : ℕ → ℕ → ℕ → ℕ → List ℕ → List ℕ → List ℕ
 bodiesOf n J L m xs ls =
-    cells 4 (part xs 0 5)
+    cells 4 (part xs 0 generalWords)
     ++ (chain (boxBody n) (boxesIn n J xs)
     ++ chain linkBytes (linksIn m J L ls))

@@ -16,6 +16,7 @@ use Rattle.store.proofs.SiteLaws.{links-has, general-read}
 use Rattle.store.proofs.SiteLaws.{n-read, j-read, l-read, rows-room, links-room, site-stored}
 use Rattle.store.proofs.store_site.Statement.{statement}
 use Rattle.store.proofs.store_site.Tie as tie
+use Rattle.memory.specs.Memory.{generalWords}
 
 -- the general words, and that there are rows behind them
 general : (s : tie.Start) → 5 ≤ length (s .args .site .now)
@@ -82,7 +83,7 @@ behind c =
     let xs = c5 .args .site .now in
     let long = length-append (read c) (rest c) in
     length-part 5 (length xs - 5) (read c ++ rest c)
-    (omega (arith, five c, length-drop 5 xs, general c5))
+    (omega (arith, five c, length-drop generalWords xs, general c5))
 
 get-words-requires : tie.Need-get-words-requires
 get-words-requires c κs =

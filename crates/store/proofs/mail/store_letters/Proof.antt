@@ -6,7 +6,7 @@ use native.Mathlib.Omega.{arith}
 use mathlib.Core.List.{[]}
 use lib.ListN.{length, take, drop}
 use Rattle.words.proofs.PartLaws.{length-cut, length-put}
-use Rattle.letter.specs.Place.{letterAt}
+use Rattle.letter.specs.Place.{letterAt, headWords as letterHead}
 use Rattle.image.specs.Image.{letterBytes}
 use Rattle.image.specs.Parts.{GoodLetter}
 use Rattle.store.specs.Store.{HoldsLetter}
@@ -31,7 +31,7 @@ cut : (c : tie.After-row-at Inv-loop μ-loop) →
 cut c =
     let s = c .before .before .before .before .before in
     let l = c .before .before .loop .inv .1 in
-    length-cut (c .row-at .result) (5 + s .args .j) (c .before .before .loop .places)
+    length-cut (c .row-at .result) (letterHead + s .args .j) (c .before .before .loop .places)
     (omega (arith, c .row-at .ensures .1, s .pre .1 .0))
 
 loop-holds : tie.Need-loop-holds Inv-loop μ-loop
@@ -39,7 +39,7 @@ loop-holds c =
     let a = c .before .before .args in (
       omega arith,
       refl,
-      stored-none letterBytes (GoodLetter (a .j)) (HoldsLetter (a .j)) (5 + a .j) (a .n)
+      stored-none letterBytes (GoodLetter (a .j)) (HoldsLetter (a .j)) (letterHead + a .j) (a .n)
           (letterAt []) (a .src .now) (a .at) (a .places .now),
     )
 
@@ -50,7 +50,7 @@ store-letter-requires c κs =
     let a = s .args in
     let l = c3 .loop in (
       record { words = cut (c .before); most = s .pre .0 },
-      next-has letterBytes (GoodLetter (a .j)) (HoldsLetter (a .j)) (5 + a .j) (a .n)
+      next-has letterBytes (GoodLetter (a .j)) (HoldsLetter (a .j)) (letterHead + a .j) (a .n)
           (letterAt []) (a .src .now) (a .at) (a .places .now) (l .places) (s .pre .1 .1)
           (c .before .before .loop-test .taken) (l .inv .2),
     )
@@ -70,11 +70,12 @@ loop-again c =
     let end = row .ensures .1 in
     let room = s .pre .1 .0 in (
       omega (arith, c5 .loop-test .taken),
-      length-put (row .result) (5 + a .j) (l .places) (call .last .1 .1 .1 .0) (omega arith) wide
+      length-put (row .result) (letterHead + a .j) (l .places) (call .last .1 .1 .1 .0)
+          (omega arith) wide
           ∙ kept,
-      stored-more letterBytes (GoodLetter (a .j)) (HoldsLetter (a .j)) (5 + a .j) (a .n)
+      stored-more letterBytes (GoodLetter (a .j)) (HoldsLetter (a .j)) (letterHead + a .j) (a .n)
           (letterAt []) (a .src .now) (a .at) (a .places .now) (l .places)
-          (call .last .1 .1 .1 .0) (l .i) (l .p) (call .result) (row .result) (5 + a .j)
+          (call .last .1 .1 .1 .0) (l .i) (l .p) (call .result) (row .result) (letterHead + a .j)
           (c5 .loop-test .taken) (omega arith) (row .ensures .0) refl wide (l .inv .2)
           (call .ensures),
     )
@@ -85,7 +86,7 @@ returns c =
     let a = c4 .args in
     let l = c .before .loop in
     let few = l .inv .0 in
-    stored-all letterBytes (GoodLetter (a .j)) (HoldsLetter (a .j)) (5 + a .j) (a .n)
+    stored-all letterBytes (GoodLetter (a .j)) (HoldsLetter (a .j)) (letterHead + a .j) (a .n)
     (letterAt []) (a .src .now) (a .at) (a .places .now) (l .places) (l .i) (l .p)
     (omega (arith, c .loop-test .left)) (l .inv .2)
 

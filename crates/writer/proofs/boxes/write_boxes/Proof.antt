@@ -6,7 +6,7 @@ use native.Mathlib.Omega.{arith}
 use mathlib.Core.List.{[]}
 use lib.ListN.{length, take, drop, getD}
 use Rattle.rules.specs.Box.{Box}
-use Rattle.row.specs.Row.{boxOf}
+use Rattle.row.specs.Row.{boxOf, headWords}
 use Rattle.cells.specs.Cells.{chain, Room, Wrote}
 use Rattle.cells.proofs.WriteLaws.{wrote-none, room-next, wrote-next, wrote-all, wrote-length}
 use Rattle.image.specs.Image.{boxBody}
@@ -46,7 +46,7 @@ cut c =
     let a = c5 .args in
     box-cut (a .n) (a .j) (a .site .now) (c5 .pre .0) (c .before .before .loop .i)
     (c .row-at .result)
-    (5 + c .row-at .result) (20 + a .j) (c .before .loop-test .taken)
+    (5 + c .row-at .result) (headWords + a .j) (c .before .loop-test .taken)
     (c .row-at .ensures .0) refl refl
 
 loop-holds : tie.Need-loop-holds Inv-loop μ-loop

@@ -7,7 +7,7 @@ use mathlib.Core.List.{[]}
 use lib.ListN.{length, take, drop, getD}
 use Rattle.rules.specs.Sizes.{mostLoads}
 use Rattle.rules.specs.Box.{Letter}
-use Rattle.letter.specs.Place.{letterAt}
+use Rattle.letter.specs.Place.{letterAt, headWords as letterHead}
 use Rattle.link.specs.Link.{linkOf}
 use Rattle.cells.specs.Cells.{chain}
 use Rattle.cells.proofs.ChainLaws.{length-none, length-next, length-all}
@@ -39,7 +39,7 @@ cut c =
     let c6 = c .before .before .before .before .before .before in
     let a = c6 .args in
     place-cut (a .j) (a .l) (a .link .now) (c .before .before .loop .i) (c .letter-at .result)
-    (5 + a .j)
+    (letterHead + a .j)
     (c .letter-at .ensures) refl
 
 loop-holds : tie.Need-loop-holds Inv-loop μ-loop

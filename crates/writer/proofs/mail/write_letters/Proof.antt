@@ -6,7 +6,7 @@ use native.Mathlib.Omega.{arith}
 use mathlib.Core.List.{[]}
 use lib.ListN.{length, take, drop, getD}
 use Rattle.rules.specs.Box.{Letter}
-use Rattle.letter.specs.Place.{letterAt}
+use Rattle.letter.specs.Place.{letterAt, headWords as letterHead}
 use Rattle.link.specs.Link.{linkOf}
 use Rattle.cells.specs.Cells.{chain, Room, Wrote}
 use Rattle.cells.proofs.WriteLaws.{wrote-none, room-next, wrote-next, wrote-all, wrote-length}
@@ -45,7 +45,7 @@ cut c =
     let c7 = c .before .before .before .before .before .before .before in
     let a = c7 .args in
     place-cut (a .j) (a .l) (a .link .now) (c .before .before .loop .i) (c .letter-at .result)
-    (5 + a .j)
+    (letterHead + a .j)
     (c .letter-at .ensures) refl
 
 loop-holds : tie.Need-loop-holds Inv-loop μ-loop
