@@ -112,25 +112,7 @@ pub serve-spec : {M : Type 1} → statement M
 serve-spec =
     tie.close
     (tie.spec
-    Inv-loop
-    μ-loop
-    loop-holds
-    read-piece-requires
-    (λ c κs. search needs)
-    same-length
-    same-length-2
-    same-length-3
-    same-length-4
-    same-length-5
-    same-length-6
-    returns
-    (λ c. search needs)
-    (λ c. search needs)
-    loop-again
-    same-length-7
-    same-length-8
-    same-length-9
-    same-length-10
-    same-length-11
-    same-length-12
-    returns-2)
+    Inv-loop μ-loop loop-holds read-piece-requires (λ c κs. search needs) same-length same-length-2
+    same-length-3 same-length-4 same-length-5 same-length-6 returns (λ c. search needs)
+    (λ c. search needs) loop-again same-length-7 same-length-8 same-length-9 same-length-10
+    same-length-11 same-length-12 returns-2)

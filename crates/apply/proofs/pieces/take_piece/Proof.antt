@@ -135,28 +135,7 @@ pub take-piece-spec : {M : Type 1} → statement M
 take-piece-spec =
     tie.close
     (tie.spec
-    Inv-loop
-    μ-loop
-    loop-holds
-    find-requires
-    sub-take-part
-    part-take-part-start
-    part-take-part-end
-    take-part-requires
-    (λ c κs. search needs)
-    (λ c κs. search needs)
-    same-length
-    same-length-2
-    same-length-3
-    same-length-4
-    same-length-5
-    returns
-    add-i
-    loop-less
-    loop-again
-    same-length-6
-    same-length-7
-    same-length-8
-    same-length-9
-    same-length-10
-    returns-2)
+    Inv-loop μ-loop loop-holds find-requires sub-take-part part-take-part-start part-take-part-end
+    take-part-requires (λ c κs. search needs) (λ c κs. search needs) same-length same-length-2
+    same-length-3 same-length-4 same-length-5 returns add-i loop-less loop-again same-length-6
+    same-length-7 same-length-8 same-length-9 same-length-10 returns-2)

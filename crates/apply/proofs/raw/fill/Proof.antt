@@ -98,22 +98,6 @@ pub fill-spec : {M : Type 1} → statement M
 fill-spec =
     tie.close
     (tie.spec
-    Inv-loop
-    μ-loop
-    loop-holds
-    (λ c. search needs)
-    (λ c. search needs)
-    (λ c. search needs)
-    (λ c κs. search needs)
-    (λ c. search needs)
-    add-k
-    loop-less
-    loop-again
-    (λ c. search needs)
-    same-length
-    returns
-    (λ c. search needs)
-    same-length-2
-    returns-2
-    same-length-3
-    returns-3)
+    Inv-loop μ-loop loop-holds (λ c. search needs) (λ c. search needs) (λ c. search needs)
+    (λ c κs. search needs) (λ c. search needs) add-k loop-less loop-again (λ c. search needs)
+    same-length returns (λ c. search needs) same-length-2 returns-2 same-length-3 returns-3)
