@@ -1,5 +1,5 @@
 # make: proves and builds the programs and the C library. make test: the tests beside the proofs.
-# make install PREFIX=.. [DESTDIR=..]: commands, library, header and man pages; make uninstall: away with them.
+# make install PREFIX=.. DESTDIR=..: commands, library, header and manuals; make uninstall undoes it.
 PREFIX = /usr/local
 DESTDIR =
 goal = "$(DESTDIR)$(PREFIX)"

@@ -1,5 +1,5 @@
-# For the scripts that try commands: a room of their own that they work in, the repository as here, and
-# checks that are counted. Sourced from the repository's root.
+# For the scripts that try commands: a room of their own that they work in, the repository as here,
+# and checks that are counted. Sourced from the repository's root.
 set -u
 export LC_ALL=C
 here=$PWD room=$(mktemp -d) || exit 2
