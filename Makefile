@@ -1,5 +1,5 @@
 # make: proves and builds the programs and the C library. make test: the tests beside the proofs.
-# make install PREFIX=.. DESTDIR=..: commands, library, header and manuals; make uninstall undoes it.
+# make install PREFIX=.. DESTDIR=..: commands, library, header, manuals; make uninstall undoes it.
 PREFIX = /usr/local
 DESTDIR =
 goal = "$(DESTDIR)$(PREFIX)"
