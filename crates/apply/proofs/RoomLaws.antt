@@ -57,9 +57,8 @@ too-long {line} {xs} {ls} {o} {p} {m = m} r e w q =
 
 -- ---- what was read
 
-pub got-some : (xs : List ℕ) {g : Got} {m : ℕ} → GotFrom g xs → g ≡ Got.Bytes m
-    → (0 < m) × (m ≤ length xs)
-got-some xs w e = let h = subst (λ (k : Got). GotFrom k xs) e w in (h .0, h .1 .0)
+pub some-read : (xs : List ℕ) {g : Got} {n : ℕ} → g ≡ Got.Bytes n → GotFrom g xs → 0 < n
+some-read xs e h = subst (λ (d : Got). GotFrom d xs) e h .0
 
 pub whole-within : (m : ℕ) {f : Filled} {k : ℕ} → FilledIn m f → f ≡ Filled.Whole k → k ≤ m
 whole-within m h e = subst (λ (g : Filled). FilledIn m g) e h

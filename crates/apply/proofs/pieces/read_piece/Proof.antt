@@ -1,13 +1,13 @@
 -- `apply::pieces::read_piece` meets its contract.
-use Rattle.apply.proofs.RoomLaws.{got-some}
+use Rattle.streams.proofs.GotLaws.{counted}
 use borrow.Author.Needs.{needs}
 use Rattle.apply.proofs.pieces.read_piece.Statement.{statement}
 use Rattle.apply.proofs.pieces.read_piece.Tie as tie
 
 part-take-piece-end : tie.Need-part-take-piece-end
 part-take-piece-end c =
-    got-some _ (c .before .before .before .before .before .before .receive .ensures)
-    (c .before .before .n .given .1) .1
+    counted _ (c .before .before .n .given .1)
+    (c .before .before .before .before .before .before .receive .ensures) .0
 
 take-piece-requires : tie.Need-take-piece-requires
 take-piece-requires c κs =

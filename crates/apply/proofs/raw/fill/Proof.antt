@@ -5,7 +5,8 @@ use mathlib.Core.Path.{_≡_, refl, _∙_}
 use native.Mathlib.Omega.{arith}
 use lib.ListN.{length}
 use borrow.Author.Needs.{needs}
-use Rattle.apply.proofs.RoomLaws.{got-some}
+use Rattle.streams.proofs.GotLaws.{counted}
+use Rattle.apply.proofs.RoomLaws.{some-read}
 use Rattle.apply.proofs.raw.fill.Statement.{statement}
 use Rattle.apply.proofs.raw.fill.Tie as tie
 
@@ -24,11 +25,11 @@ add-k c =
     let at-loop = at-receive .before .before .before in
     let image = at-loop .loop .image in
     let k = at-loop .loop .k in
-    let got = got-some (at-receive .receive .last .1 .0) (at-receive .receive .ensures)
-    (c .before .m .given .1) in
+    let got = counted (at-receive .receive .last .1 .0) (c .before .m .given .1)
+    (at-receive .receive .ensures) in
     omega (
       arith,
-      got .1,
+      got .0,
       at-receive .receive .kept .1 .0,
       mid-len k (length image) image (omega arith),
     )
@@ -36,12 +37,9 @@ add-k c =
 loop-less : tie.Need-loop-less Inv-loop μ-loop
 loop-less c =
     let at-receive = c .before .before .before .before .before in
-    let at-loop = at-receive .before .before .before in
-    let image = at-loop .loop .image in
-    let k = at-loop .loop .k in
-    let got = got-some (at-receive .receive .last .1 .0) (at-receive .receive .ensures)
-    (c .before .m .given .1) in
-    omega (arith, got .0)
+    let got = some-read (at-receive .receive .last .1 .0) (c .before .m .given .1)
+    (at-receive .receive .ensures) in
+    omega arith
 
 loop-again : tie.Need-loop-again Inv-loop μ-loop
 loop-again c =
