@@ -161,14 +161,16 @@ pub fn unhex(text: &[u8]) -> Option<Vec<u8>> {
         b'A'..=b'F' => Some(d - b'A' + 10),
         _ => None,
     };
-    if text.is_empty() || text.len() % 2 == 1 || text.len() > 2 * LONGEST_IMAGE {
+    if text.is_empty() || text.len() % 2 == 1 {
         return None;
     }
     text.chunks(2).map(|pair| Some(digit(pair[0])? << 4 | digit(pair[1])?)).collect()
 }
 
 fn apply_line(line: Option<&[u8]>, fault: Fault) -> Result<String, Refusal> {
-    let line = line.ok_or(11u32)?;
+    // a line is no longer than its image in hex, the space and the call may be together
+    let line =
+        line.filter(|line| line.len() <= 2 * LONGEST_IMAGE + 1 + LONGEST_LINE).ok_or(11u32)?;
     let space = line.iter().position(|byte| *byte == b' ').ok_or(11u32)?;
     let bytes = unhex(&line[..space]).ok_or(11u32)?;
     let words = read_line(&line[space + 1..]).ok_or(11u32)?;
