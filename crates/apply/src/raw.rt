@@ -1,7 +1,7 @@
 // One call on one image, both raw: the image in and out, the call as an argument.
 ghost use mathlib.Core.Path.{_≡_};
 ghost use mathlib.Core.Bool.{true};
-ghost use Prim.Native.Nat.{_<_};
+ghost use Prim.Native.Nat.{_≤_, _<_};
 ghost use lib.ListN.{length};
 ghost use Rattle.image.specs.Longest.{longestOfAll};
 ghost use Rattle.lines.specs.Printed.{inRange};
@@ -26,6 +26,8 @@ use rules::numbers;
 use streams::Got;
 use wording::Place;
 use wording::fault;
+
+const TEXT: usize = 128;
 
 // What was read: the whole input, or as much as there is room for.
 pub enum Filled {
@@ -210,10 +212,23 @@ fn call_small(l: Line, text: &[u8], image: &mut [u8], site: &mut [u64], links: &
     }
 }
 
-// Argument 3 is the call.
+// Argument 3 is the call; of one that is longer than the buffer the first bytes are enough.
+fn call_text(text: &mut [u8]) -> usize
+    ensures { λ r. ⌜ r ≤ length (now (text .exit)) ⌝ }
+{
+    let n = os::arg(3, text);
+    if os::errno() == libc::ENAMETOOLONG {
+        return text.len();
+    }
+    n
+}
+
+fn call_as_asked(text: &[u8], image: &mut [u8], site: &mut [u64], links: &mut [u64]) -> u8 {
+    call_small(lines::read_line(text), text, image, site, links)
+}
+
 pub(crate) fn serve_call(image: &mut [u8], site: &mut [u64], links: &mut [u64]) -> u8 {
-    let mut text = io::buffer();
-    let n = os::arg(3, &mut text);
-    let l = lines::read_line(&text[..n]);
-    call_small(l, &text[..n], image, site, links)
+    let mut text = [0u8; TEXT];
+    let n = call_text(&mut text);
+    call_as_asked(&text[0..n], image, site, links)
 }

@@ -14,45 +14,29 @@ fn call_of(line: &[u8]) -> &[u8] {
     &line[e + 1..n]
 }
 
+fn say_why(text: &[u8], k: u64, why: &[u8]) {
+    wording::refuse(b"apply", Place::Line(k), text, 11, why);
+}
+
+fn say_fault(text: &[u8], k: u64, why: Fault) {
+    wording::refuse_unreadable(b"apply", Place::Line(k), text, why);
+}
+
 // A call of more than 64 bytes is too long; of a shorter one it is not plain what is wrong.
 fn say_call(call: &[u8], k: u64) {
     if 64 < call.len() {
-        wording::refuse_unreadable(b"apply", Place::Line(k), call, Fault::Long);
+        say_fault(call, k, Fault::Long);
     } else {
-        wording::refuse_unreadable(b"apply", Place::Line(k), call, Fault::Other);
+        say_fault(call, k, Fault::Other);
     }
 }
 
 // The line has an image, a space and this call.
 fn say_parted(call: &[u8], k: u64) {
     match lines::read_line(call) {
-        Line::Site(_, _, _) => {
-            wording::refuse(
-                b"apply",
-                Place::Line(k),
-                call,
-                11,
-                b"a site line asks nothing of an image",
-            );
-        }
-        Line::Call(_) => {
-            wording::refuse(
-                b"apply",
-                Place::Line(k),
-                call,
-                11,
-                b"the image is not in hex",
-            );
-        }
-        Line::Holds(_, _, _, _) => {
-            wording::refuse(
-                b"apply",
-                Place::Line(k),
-                call,
-                11,
-                b"the image is not in hex",
-            );
-        }
+        Line::Site(_, _, _) => say_why(call, k, b"a site line asks nothing of an image"),
+        Line::Call(_) => say_why(call, k, b"the image is not in hex"),
+        Line::Holds(_, _, _, _) => say_why(call, k, b"the image is not in hex"),
         Line::Unreadable => say_call(call, k),
     }
 }
@@ -62,13 +46,7 @@ fn say_parts(line: &[u8], k: u64) {
     let n = line.len();
     let e = bytes::scan::find(line, 0, n, 32);
     if e == n {
-        wording::refuse(
-            b"apply",
-            Place::Line(k),
-            line,
-            11,
-            b"no space parts an image from a call",
-        );
+        say_why(line, k, b"no space parts an image from a call");
         return;
     }
     say_parted(&line[e + 1..n], k);
@@ -93,7 +71,7 @@ fn is_plain(f: Fault) -> bool {
 pub(crate) fn say_unreadable(line: &[u8], ended: bool, k: u64) {
     let f = fault::fault_of(line, ended);
     if is_plain(f) {
-        wording::refuse_unreadable(b"apply", Place::Line(k), call_of(line), f);
+        say_fault(call_of(line), k, f);
         return;
     }
     say_parts(line, k);
