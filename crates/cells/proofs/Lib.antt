@@ -4,4 +4,5 @@ pub mod WriteLaws
 pub mod StandLaws
 pub mod CodeLaws
 pub mod WalkLaws
+pub mod StoreLaws
 pub mod GroupLaws

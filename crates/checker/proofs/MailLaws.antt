@@ -95,37 +95,38 @@ module _ (J : ℕ) (loads : J ≤ mostLoads) where
 
 -- ---- a link
 
-module _ (J L : ℕ) (loads : J ≤ mostLoads) (mails : L ≤ mostMails) (src : List ℕ) (at p : ℕ)
-    (w : List ℕ) (wide : length w ≡ 1) (g : Read 4 src at w p) where
-  link-told : (ys : List Letter) (q : ℕ) → GoodLink J L ys → Stands (linkBytes ys) src at q
-      → (w ≡ countWord ys) × Stands (chain letterBytes ys) src p q
-  link-told ys q h v =
-      told (link-parts J L loads mails) w (record { width = wide; below = g .below })
-      (g .stands) ys q
-      h v
+-- w holds the count that was read at `at`.
+pub record CountRead (src : List ℕ) (at p : ℕ) (w : List ℕ) (count : ℕ) : Type 0 where
+  pub one : length w ≡ 1
+  pub read : Read 4 src at w p
+  pub said : count ≡ getD w 0 0
 
-  pub link-none : (count : ℕ) → count ≡ getD w 0 0 → L < count → NoneAt linkBytes
-      (GoodLink J L) src at
-  link-none count c over ys q h v =
-      let n = ap (λ (u : List ℕ). getD u 0 0) (link-told ys q h v .0) in
-      let room = h .room in
-      omega arith
+module _ {J L : ℕ} (loads : J ≤ mostLoads) (mails : L ≤ mostMails) {src : List ℕ} {at p : ℕ}
+    {w : List ℕ} {count : ℕ} (g : CountRead src at p w count) where
+  -- Any link that stands there has so many letters, and they stand behind.
+  pub link-told : {ys : List Letter} {q : ℕ} → GoodLink J L ys → Stands (linkBytes ys) src at q
+      → (length ys ≡ count) × Stands (chain letterBytes ys) src p q
+  link-told {ys} {q} h v =
+      let t = told (link-parts J L loads mails) w
+      (record { width = g .one; below = g .read .below }) (g .read .stands) ys q h v in
+      (sym (g .said ∙ ap (λ (u : List ℕ). getD u 0 0) (t .0)), t .1)
 
-  pub link-then : (count : ℕ) → count ≡ getD w 0 0 → count ≤ L → (r : Walk)
+  pub link-none : L < count → NoneAt linkBytes (GoodLink J L) src at
+  link-none over ys q h v = let room = h .room in omega (arith, link-told h v .0)
+
+  pub link-then : count ≤ L → (r : Walk)
       → WalkIs (chain letterBytes) (Many (λ i. GoodLetter J) count) src p r
       → WalkIs linkBytes (GoodLink J L) src at r
-  link-then count c few (Walk.Next q) f =
+  link-then few (Walk.Next q) f =
       let n = f .good .count in
       let e : w ≡ countWord (f .thing) =
-      sym (gets-all 0 w 1 wide) ∙ ap (λ (k : ℕ). k ∷ []) (sym (n ∙ c)) in
+      sym (gets-all 0 w 1 (g .one)) ∙ ap (λ (k : ℕ). k ∷ []) (sym (n ∙ g .said)) in
       record {
         thing = f .thing;
         good = record { room = omega arith; letters = f .good .each };
         stands = stands-as (sym (link-split (f .thing)))
-            (stands-seq (stands-as (ap (cells 4) e) (g .stands)) (f .stands));
+            (stands-seq (stands-as (ap (cells 4) e) (g .read .stands)) (f .stands));
       }
-  link-then count c few Walk.Bad none = λ ys q h v.
-      let e = link-told ys q h v in
-      none ys q
-      (record { count = sym (c ∙ ap (λ (u : List ℕ). getD u 0 0) (e .0)); each = h .letters })
-      (e .1)
+  link-then few Walk.Bad none = λ ys q h v.
+      let t = link-told h v in
+      none ys q (record { count = t .0; each = h .letters }) (t .1)

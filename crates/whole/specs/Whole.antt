@@ -10,8 +10,9 @@ use Rattle.rules.specs.Form.{form}
 use Rattle.cells.specs.declared.Walk.{Walk}
 use Rattle.cells.specs.Cells.{chain, cells, Below, Stands, Found, NoneAt}
 use Rattle.image.specs.Image.{boxBody, linkBytes, contents, imageOf}
+use Rattle.image.specs.Longest.{tableLong}
 use Rattle.image.specs.Parts.{GoodLinks, nIn, bodiesIn, listedBytes, GoodListed}
-use Rattle.whole.specs.Boxes.{LedBoxes}
+use Rattle.whole.specs.Boxes.{mailEntry, tableWords, LedBoxes}
 
 -- ---- the mail
 
@@ -19,8 +20,8 @@ use Rattle.whole.specs.Boxes.{LedBoxes}
 -- boxes, which are among the words ws, their own has come into the words vs
 pub record MailFound (n J L : ℕ) (src : List ℕ) (at : ℕ) (ws vs : List ℕ) (p : ℕ) : Type 0 where
   pub found : Found (chain linkBytes) (GoodLinks n J L) src at p
-  pub entry : take (5 + 2 * n) vs
-      ≡ take (3 + 2 * n) ws ++ (at ∷ length (chain linkBytes (found .thing)) ∷ [])
+  pub entry : take (tableWords n) vs
+      ≡ take (mailEntry n) ws ++ (at ∷ length (chain linkBytes (found .thing)) ∷ [])
 
 abbrev pub MailIs : ℕ → ℕ → ℕ → List ℕ → ℕ → List ℕ → List ℕ → Walk → Type 0
 MailIs n J L src at ws vs (Walk.Next p) = MailFound n J L src at ws vs p
@@ -46,7 +47,7 @@ restEntries n at c =
 
 pub record RestFound (n J L : ℕ) (src : List ℕ) (at : ℕ) (front ws : List ℕ) (p : ℕ) : Type 0 where
   pub found : Found (restBytes n) (GoodRest n J L) src at p
-  pub entries : take (5 + 2 * n) ws ≡ front ++ restEntries n at (found .thing)
+  pub entries : take (tableWords n) ws ≡ front ++ restEntries n at (found .thing)
 
 abbrev pub RestIs : ℕ → ℕ → ℕ → List ℕ → ℕ → List ℕ → List ℕ → Walk → Type 0
 RestIs n J L src at front ws (Walk.Next p) = RestFound n J L src at front ws p
@@ -58,7 +59,7 @@ RestIs n J L src at front ws Walk.Bad = NoneAt (restBytes n) (GoodRest n J L) sr
 -- contents
 pub record ListedFound (src : List ℕ) (at : ℕ) (ws : List ℕ) (p : ℕ) : Type 0 where
   pub found : Found listedBytes GoodListed src at p
-  pub table : take (5 + 2 * nIn (found .thing)) ws
+  pub table : take (tableWords (nIn (found .thing))) ws
       ≡ (nIn (found .thing) + 2) ∷ contents at (bodiesIn (found .thing))
 
 abbrev pub ListedIs : List ℕ → ℕ → List ℕ → Walk → Type 0
@@ -78,7 +79,7 @@ pub record ImageFound (src : List ℕ) (at : ℕ) : Type 0 where
   pub site : Site
   pub by-form : form site ≡ true
   pub image : imageOf site ≡ src
-  pub place : at ≡ 4 + 8 * (site .n + 2)
+  pub place : at ≡ tableLong (site .n)
 
 -- what `check_image` answers: where the general body is, or that no site by form has this image
 abbrev pub ImageIs : List ℕ → Walk → Type 0
