@@ -5,4 +5,5 @@ pub mod StandLaws
 pub mod CodeLaws
 pub mod WalkLaws
 pub mod StoreLaws
+pub mod FindLaws
 pub mod GroupLaws

@@ -15,7 +15,7 @@ use Rattle.image.specs.Parts.{Listed, nIn, JIn, LIn, listed, bodiesIn, listedBy
 use Rattle.image.proofs.TableLaws.{image-in}
 use Rattle.whole.specs.Whole.{ImageFound}
 use Rattle.whole.proofs.ImageLaws.{image-has}
-use Rattle.whole.proofs.BodiesLaws.{GeneralRead, n-is, J-is, L-is}
+use Rattle.image.proofs.GeneralLaws.{GeneralRead, n-is, J-is, L-is}
 use Rattle.store.specs.Store.{RoomFor, SiteStored}
 use Rattle.reader.specs.Reader.{enoughFor, Holds}
 

@@ -22,9 +22,8 @@ use Rattle.cells.specs.Cells.{chain, Found, Many, Has}
 use Rattle.cells.specs.Stored.{HoldsRows, StoredIs}
 use Rattle.image.specs.Image.{letterWords, letterBytes, linkBytes}
 use Rattle.image.specs.Parts.{GoodLetter, GoodLink}
-use Rattle.image.proofs.LetterLaws.{mail-back}
+use Rattle.image.proofs.LetterLaws.{mail-back, CountRead, link-told}
 use Rattle.image.proofs.Lengths as lengths
-use Rattle.checker.proofs.MailLaws.{CountRead, link-told}
 use Rattle.store.specs.Store.{HoldsLetter}
 
 -- ---- a letter

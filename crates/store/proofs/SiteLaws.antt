@@ -1,7 +1,7 @@
 -- All bodies, as they stand in an image and as the lent words hold them.
 use mathlib.Core.Path.{_≡_, sym, ap, _∙_, subst, subst₂, subst₃}
 use mathlib.Core.Bool.{Bool, true, cond}
-use Prim.Native.Nat.{ℕ, _+_, _-_, _*_, _^_, _≤_, _<_}
+use Prim.Native.Nat.{ℕ, _+_, _-_, _*_, _≤_, _<_}
 use native.Mathlib.Omega.{arith}
 use mathlib.Core.List.{List, [], _∷_, _++_, append-nil}
 use lib.ListN.{length, take, drop, getD, length-drop}
@@ -11,21 +11,19 @@ use Rattle.words.proofs.PartLaws.{gets-all, part-drop}
 use Rattle.rules.specs.Sizes.{sizesForm}
 use Rattle.rules.specs.Box.{Box, Letter}
 use Rattle.rules.specs.Site.{freshBox}
-use Rattle.rules.specs.declared.model.Setting.{Setting}
 use Rattle.laws.proofs.Logic.{In}
 use Rattle.laws.proofs.FormLaws.{is-box, box-is}
 use Rattle.row.specs.Row.{boxOf, rowFits}
 use Rattle.link.specs.Link.{linkWidth, linkOf}
 use Rattle.link.specs.Holds.{Holds}
 use Rattle.memory.specs.Memory.{rowWidth, siteWords, linksWords, rowAt, linkAt, linkIndex, siteOf}
-use Rattle.memory.specs.Memory.{nAt, JAt, LAt, epochAt, presentAt, generalWords}
-use Rattle.memory.specs.Memory.{pastLinks, memoryForm}
-use Rattle.memory.specs.After.{settingAt, GeneralLent, RowsLent, LinksLent}
+use Rattle.memory.specs.Memory.{epochAt, presentAt, generalWords}
+use Rattle.memory.specs.After.{settingAt, RowsLent, LinksLent}
 use Rattle.memory.proofs.LentLaws.{readable-made, form-both}
 use Rattle.memory.proofs.SizeLaws.{link-is, index-below}
-use Rattle.cells.specs.Cells.{chain, Stands, Read, Found, Many, Has}
+use Rattle.cells.specs.Cells.{chain, Stands, Found, Many, Has}
 use Rattle.cells.specs.Stored.{HoldsRows, StoredIs}
-use Rattle.cells.proofs.ChainLaws.{each-at, each-map}
+use Rattle.cells.proofs.ChainLaws.{each-map}
 use Rattle.cells.proofs.StandLaws.{stands-first, stands-rest}
 use Rattle.image.specs.Image.{boxesOf, linksOf, boxBody, linkBytes}
 use Rattle.image.specs.Longest.{generalLong}
@@ -33,7 +31,7 @@ use Rattle.image.specs.Parts.{GoodBox, SomeBox, GoodLink, Listed, listed, liste
 use Rattle.image.proofs.OrderLaws.{length-boxes, boxes-at, pairs-flat}
 use Rattle.image.proofs.ListedLaws.{good-listed}
 use Rattle.image.proofs.SiteIn.{at-indices}
-use Rattle.whole.proofs.BodiesLaws.{GeneralRead, length-listed, general-is, n-is, J-is, L-is}
+use Rattle.image.proofs.GeneralLaws.{GeneralRead, length-listed, general-is, n-is, J-is, L-is}
 use Rattle.whole.proofs.BodiesLaws.{rest-good, rest-stands}
 use Rattle.store.specs.Store.{HoldsBox, RoomFor, HoldsSite}
 
@@ -53,35 +51,6 @@ pub general-room : {src : List ℕ} {at : ℕ} {xs ls : List ℕ} → Has listed
     → RoomFor src at xs ls → generalWords ≤ length xs
 general-room x lent = let f = x .found in
     omega (arith, lent .words (f .thing) (x .place) (f .good) (f .stands) .0)
-
--- The words w that were read are the first of ys.
-module _ {src : List ℕ} {at p : ℕ} {w : List ℕ} (five : length w ≡ generalWords)
-    (g : Read 4 src at w p) (ys : List ℕ) (long : generalWords ≤ length ys)
-    (front : (i : ℕ) → i < generalWords → getD ys i 0 ≡ getD w i 0) where
-  pub general-lent : GeneralLent ys
-  general-lent = record {
-    words = long;
-    n = below nAt (omega arith);
-    j = below JAt (omega arith);
-    l = below LAt (omega arith);
-    epoch = below epochAt (omega arith);
-    present = below presentAt (omega arith);
-  }
-    where
-      below : (i : ℕ) → i < generalWords → getD ys i 0 < 2 ^ 32
-      below i h =
-          let b = each-at (λ i x. x < 256 ^ 4) w i 0 (omega (arith, five)) (g .below) in
-          omega (arith, front i h)
-
-  pub setting-read : (z : Setting) → z ≡ settingAt ys 0
-      → GeneralRead src at p w (z .n) (z .j) (z .l)
-  setting-read z e = record {
-    five = five;
-    read = g;
-    n-said = ap (λ (x : Setting). x .n) e ∙ front nAt (omega arith);
-    J-said = ap (λ (x : Setting). x .j) e ∙ front JAt (omega arith);
-    L-said = ap (λ (x : Setting). x .l) e ∙ front LAt (omega arith);
-  }
 
 -- ---- what stands there
 
@@ -156,8 +125,8 @@ module _ {src : List ℕ} {at p : ℕ} {w : List ℕ} {n J L : ℕ}
 
 -- ---- what the words hold
 
--- The general words n to e, the rows ds, the links ks.
-module _ (n J L d e : ℕ) (ds ks : List ℕ) (bs : List Box) (lks : List (List Letter)) where
+-- The general words n to e, the rows ds, the links ks, where xs and ls were before.
+module _ (n J L d e : ℕ) (xs ls ds ks : List ℕ) (bs : List Box) (lks : List (List Letter)) where
   abbrev words : List ℕ
   words = n ∷ J ∷ L ∷ d ∷ e ∷ ds
 
@@ -165,10 +134,10 @@ module _ (n J L d e : ℕ) (ds ks : List ℕ) (bs : List Box) (lks : List (List 
   held = record { general = n ∷ J ∷ L ∷ d ∷ e ∷ []; boxes = bs; links = lks }
 
   module _ (good : GoodListed held)
-      (rows : (i : ℕ) → i < n
-      → HoldsBox n J (part ds (i * rowWidth J) (rowWidth J)) (getD bs i (boxOf n [])))
-      (links : (k : ℕ) → k < n * (n - 1)
-      → Holds J L (part ks (k * linkWidth J L) (linkWidth J L)) (getD lks k [])) where
+      (rows : HoldsRows (HoldsBox n J) (rowWidth J) n (boxOf n []) (drop generalWords xs) ds bs)
+      (links : HoldsRows (Holds J L) (linkWidth J L) (n * (n - 1)) [] ls ks lks)
+      (room : (siteWords n J ≤ length xs) × (linksWords n J L ≤ length ls))
+      (long : length ds ≡ length xs - generalWords) (wide : length ks ≡ length ls) where
     row-at : (i : ℕ) → rowAt J words (i + 1) ≡ part ds (i * rowWidth J) (rowWidth J)
     row-at i =
         let same : i + 1 - 1 ≡ i = omega arith in
@@ -187,7 +156,7 @@ module _ (n J L d e : ℕ) (ds ks : List ℕ) (bs : List Box) (lks : List (List 
         boxes-at s i (boxOf n []) k
         ∙ ap (λ (t : Bool). cond t (boxOf n (rowAt J words (i + 1))) freshBox)
         (box-is {n = n} {c = i + 1} (omega arith, omega arith))
-        ∙ ap (boxOf n) (row-at i) ∙ rows i k .box)
+        ∙ ap (boxOf n) (row-at i) ∙ rows .each i k .box)
 
     links-same : linksOf (siteOf words ks) ≡ lks
     unfolding siteOf linksOf
@@ -196,10 +165,10 @@ module _ (n J L d e : ℕ) (ds ks : List ℕ) (bs : List Box) (lks : List (List 
         (λ a b ha hb ab.
         let h = link-is n a b ha hb ab in
         ap (λ (t : Bool). cond t (linkOf J L (linkAt n J L ks a b)) []) h
-        ∙ links (linkIndex n a b) (index-below n a b h) .letters)
+        ∙ links .each (linkIndex n a b) (index-below n a b h) .letters)
         ∙ at-indices [] lks (n * (n - 1)) (good .links .count)
 
-    pub site-listed : listed (siteOf words ks) ≡ held
+    site-listed : listed (siteOf words ks) ≡ held
     unfolding listed siteOf
     site-listed =
         λ i. record {
@@ -208,45 +177,36 @@ module _ (n J L d e : ℕ) (ds ks : List ℕ) (bs : List Box) (lks : List (List 
           links = links-same i;
         }
 
-    pub site-form : siteWords n J ≤ length words → linksWords n J L ≤ length ks
-        → memoryForm words ks ≡ true
-    site-form long wide =
-        form-both words ks (readable-made words ks 0 rows-lent links-lent)
-        (good-listed (siteOf words ks) (subst GoodListed (sym site-listed) good))
-      where
-        rows-lent : RowsLent (settingAt words 0) words
-        rows-lent = record {
-          sizes = good .sizes;
-          words = long;
-          fits = λ b h.
-              let k : In b n = is-box h in
-              let low = k .0 in
-              let top = k .1 in
-              let same : b - 1 + 1 ≡ b = omega arith in
-              subst (λ (c : ℕ). rowFits J (rowAt J words c) ≡ true) same
-              (ap (rowFits J) (row-at (b - 1)) ∙ rows (b - 1) (omega arith) .fits);
-        }
+    rows-lent : RowsLent (settingAt words 0) words
+    rows-lent = record {
+      sizes = good .sizes;
+      words = omega (arith, room .0);
+      fits = λ b h.
+          let k : In b n = is-box h in
+          let low = k .0 in
+          let top = k .1 in
+          let same : b - 1 + 1 ≡ b = omega arith in
+          subst (λ (c : ℕ). rowFits J (rowAt J words c) ≡ true) same
+          (ap (rowFits J) (row-at (b - 1)) ∙ rows .each (b - 1) (omega arith) .fits);
+    }
 
-        links-lent : LinksLent (settingAt words 0) ks
-        links-lent = record {
-          sizes = good .sizes;
-          words = wide;
-          fits = λ a b h. links (linkIndex n a b) (index-below n a b h) .fits;
-        }
+    links-lent : LinksLent (settingAt words 0) ks
+    links-lent = record {
+      sizes = good .sizes;
+      words = omega (arith, room .1);
+      fits = λ a b h. links .each (linkIndex n a b) (index-below n a b h) .fits;
+    }
 
-    pub site-held : (xs ls : List ℕ) → siteWords n J ≤ length xs → linksWords n J L ≤ length ls
-        → length ds ≡ length xs - generalWords → length ks ≡ length ls
-        → drop (n * rowWidth J) ds ≡ drop (n * rowWidth J) (drop generalWords xs)
-        → pastLinks n J L ks ≡ pastLinks n J L ls
-        → HoldsSite xs ls words ks held
-    site-held xs ls room wide lds lks rest rest' = record {
-      form = site-form (omega arith) (omega arith);
+    site-held : HoldsSite xs ls words ks held
+    site-held = record {
+      form = form-both words ks (readable-made words ks 0 rows-lent links-lent)
+          (good-listed (siteOf words ks) (subst GoodListed (sym site-listed) good));
       site = site-listed;
-      site-words = omega arith;
-      links-words = lks;
-      past-site = sym (drop-drop (n * rowWidth J) generalWords words) ∙ rest
+      site-words = omega (arith, room .0);
+      links-words = wide;
+      past-site = sym (drop-drop (n * rowWidth J) generalWords words) ∙ rows .rest
           ∙ drop-drop (n * rowWidth J) generalWords xs;
-      past-links = rest';
+      past-links = links .rest;
     }
 
 -- ---- the words when everything is stored
@@ -271,8 +231,8 @@ module _ {src : List ℕ} {at p : ℕ} {w : List ℕ} {n J L : ℕ} (g : General
       let ts : u ≡ t =
       λ i. record { general = (ws ∙ et) i; boxes = t .boxes; links = t .links } in
       subst₂ (λ (l : List ℕ) (v : Listed). HoldsSite xs ls (l ++ ds) ks v) ws ts
-      (site-held n J L d e ds ks (t .boxes) (t .links) (subst GoodListed (sym ts) good)
-      (rows .each) (links .each) xs ls (room .0) (room .1) lds lks (rows .rest) (links .rest))
+      (site-held n J L d e xs ls ds ks (t .boxes) (t .links) (subst GoodListed (sym ts) good) rows
+      links room lds lks)
 
   -- The rows and the links are stored: so is the site. Behind the general words stand k words.
   pub site-stored : {m r u k : ℕ} → m ≡ n * (n - 1) → RoomFor src at xs ls

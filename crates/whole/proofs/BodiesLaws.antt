@@ -4,24 +4,25 @@ use mathlib.Core.Bool.{true, false, false≢true}
 use Prim.Native.Nat.{ℕ, _+_, _-_, _≤_}
 use native.Mathlib.Omega.{arith}
 use mathlib.Core.List.{List, [], _∷_, _++_, map, append-assoc}
-use lib.ListN.{length, take, set, getD, length-append}
+use lib.ListN.{length, take, set, getD}
 use lib.Seq.{take-suc-set}
 use borrow.Author.Tests.{le-leb}
 use Rattle.rules.specs.Sizes.{sizesForm}
 use Rattle.laws.proofs.Logic.{passed, pass}
 use Rattle.laws.proofs.FormLaws.{FormedSizes}
-use Rattle.memory.specs.Memory.{nAt, JAt, LAt, generalWords}
+use Rattle.memory.specs.Memory.{nAt, generalWords}
 use Rattle.memory.specs.Parts.{generalForm}
 use Rattle.cells.specs.declared.Walk.{Walk}
-use Rattle.cells.specs.Cells.{chain, cells, Stands, Read, Found, NoneAt}
-use Rattle.cells.proofs.ChainLaws.{length-cells}
+use Rattle.cells.specs.Cells.{chain, Stands, Found, NoneAt}
 use Rattle.cells.proofs.StandLaws.{stands-seq, stands-as, stands-first, read-end}
 use Rattle.cells.proofs.CodeLaws.{Parts, told}
 use Rattle.image.specs.Image.{boxBody, linkBytes, contents}
 use Rattle.image.specs.Longest.{generalLong}
-use Rattle.image.specs.Parts.{GoodLinks, Words, Listed, nIn, JIn, LIn, listedBytes, GoodListed}
-use Rattle.image.proofs.ListedLaws.{boxes-code, listed-split, listed-parts}
+use Rattle.image.specs.Parts.{GoodLinks, Listed, nIn, listedBytes, GoodListed}
+use Rattle.image.proofs.ListedLaws.{boxes-code, listed-split}
 use Rattle.image.proofs.TableLaws.{contents-in}
+use Rattle.image.proofs.GeneralLaws.{GeneralRead, general-words, general-is, n-is, J-is, L-is}
+use Rattle.image.proofs.GeneralLaws.{others-stand}
 use Rattle.whole.specs.Boxes.{countEntry, generalEntry, boxEntry, mailEntry, tableWords}
 use Rattle.whole.specs.Boxes.{LedBoxes, BoxesFound, BoxesAre}
 use Rattle.whole.specs.Whole.{MailFound, MailIs, restBytes, GoodRest, restEntries}
@@ -90,60 +91,22 @@ module _ {n J L : ℕ} (z : FormedSizes n J L) (src : List ℕ) (at : ℕ) (fron
       let e = told (rest-parts z) (b .found .thing) (b .found .good) (b .found .stands) c q g w in
       none (c .1) q (g .links) (e .1)
 
--- ---- the general words
-
--- w are the general words that were read at `at`, and n, J and L the sizes that they say.
-pub record GeneralRead (src : List ℕ) (at p : ℕ) (w : List ℕ) (n J L : ℕ) : Type 0 where
-  pub five : length w ≡ generalWords
-  pub read : Read 4 src at w p
-  pub n-said : n ≡ getD w nAt 0
-  pub J-said : J ≡ getD w JAt 0
-  pub L-said : L ≡ getD w LAt 0
-
--- The general body alone has so many bytes.
-pub length-listed : (t : Listed) → GoodListed t → generalLong ≤ length (listedBytes t)
-length-listed t g =
-    let n = g .words .width in
-    omega (
-      arith,
-      ap length (listed-split t),
-      length-append (cells 4 (t .general)) (restBytes (nIn t) (t .boxes, t .links)),
-      length-cells 4 (t .general),
-    )
+-- ---- all bodies
 
 module _ {src : List ℕ} {at p : ℕ} {w : List ℕ} {n J L : ℕ}
     (g : GeneralRead src at p w n J L) where
-  general-words : Words generalWords w
-  general-words = record { width = g .five; below = g .read .below }
-
-  -- The words are those of any bodies that stand there, which so have these sizes, and the others
-  -- stand behind them.
   module _ {t : Listed} {q : ℕ} (h : GoodListed t) (v : Stands (listedBytes t) src at q) where
-    parts : (w ≡ t .general) × Stands (restBytes (nIn t) (t .boxes, t .links)) src p q
-    parts = told listed-parts w general-words (g .read .stands) t q h v
-
-    pub general-is : w ≡ t .general
-    general-is = parts .0
-
-    pub n-is : n ≡ nIn t
-    n-is = g .n-said ∙ ap (λ (l : List ℕ). getD l nAt 0) general-is
-
-    pub J-is : J ≡ JIn t
-    J-is = g .J-said ∙ ap (λ (l : List ℕ). getD l JAt 0) general-is
-
-    pub L-is : L ≡ LIn t
-    L-is = g .L-said ∙ ap (λ (l : List ℕ). getD l LAt 0) general-is
-
     pub rest-good : GoodRest n J L (t .boxes, t .links)
-    rest-good = subst₃ (λ (x y z : ℕ). GoodRest x y z (t .boxes, t .links)) (sym n-is) (sym J-is)
-        (sym L-is) (record {
+    rest-good = subst₃ (λ (x y z : ℕ). GoodRest x y z (t .boxes, t .links)) (sym (n-is g h v))
+        (sym (J-is g h v)) (sym (L-is g h v)) (record {
           boxes = record { boxes = h .boxes; one-leader = h .one-leader };
           links = h .links;
         })
 
     pub rest-stands : Stands (restBytes n (t .boxes, t .links)) src p q
     rest-stands =
-        subst (λ (x : ℕ). Stands (restBytes x (t .boxes, t .links)) src p q) (sym n-is) (parts .1)
+        subst (λ (x : ℕ). Stands (restBytes x (t .boxes, t .links)) src p q) (sym (n-is g h v))
+        (others-stand g h v)
 
   general-form : (t : Listed) → GoodListed t → generalForm (t .general) ≡ true
   unfolding generalForm
@@ -156,7 +119,7 @@ module _ {src : List ℕ} {at p : ℕ} {w : List ℕ} {n J L : ℕ}
 
   pub listed-none : generalForm w ≡ false → NoneAt listedBytes GoodListed src at
   listed-none f t q h v =
-      absurd (false≢true (sym f ∙ ap generalForm (general-is h v) ∙ general-form t h))
+      absurd (false≢true (sym f ∙ ap generalForm (general-is g h v) ∙ general-form t h))
 
   module _ (formed : generalForm w ≡ true) where
     pub general-sizes : sizesForm n J L ≡ true
@@ -182,7 +145,7 @@ module _ {src : List ℕ} {at p : ℕ} {w : List ℕ} {n J L : ℕ}
           found = record {
             thing = t;
             good = record {
-              words = general-words;
+              words = general-words g;
               sizes = said .0;
               epoch = said .1 .0;
               present = said .1 .1 .0;

@@ -30,16 +30,9 @@ mailEntry n = boxEntry n
 abbrev pub tableWords : ℕ → ℕ
 tableWords n = 5 + 2 * n
 
--- the same by the count of bodies, in words and in bytes
+-- the same by the count of bodies
 abbrev pub listWords : ℕ → ℕ
 listWords count = 1 + 2 * count
-
-abbrev pub listLong : ℕ → ℕ
-listLong count = 4 + 8 * count
-
--- the count alone
-abbrev pub countLong : ℕ
-countLong = 4
 
 -- ---- the boxes
 

@@ -1,14 +1,14 @@
 -- What the functions on the bodies of an image and on a whole image answer.
 use mathlib.Core.Path.{_≡_}
-use mathlib.Core.Bool.{Bool, true, false}
-use Prim.Native.Nat.{ℕ, _+_, _*_, _^_}
+use mathlib.Core.Bool.{true}
+use Prim.Native.Nat.{ℕ, _+_}
 use mathlib.Core.List.{List, [], _∷_, _++_, map}
 use lib.ListN.{length, take}
 use Rattle.rules.specs.Box.{Box, Letter}
 use Rattle.rules.specs.Site.{Site}
 use Rattle.rules.specs.Form.{form}
 use Rattle.cells.specs.declared.Walk.{Walk}
-use Rattle.cells.specs.Cells.{chain, cells, Below, Stands, Found, NoneAt}
+use Rattle.cells.specs.Cells.{chain, Found, NoneAt}
 use Rattle.image.specs.Image.{boxBody, linkBytes, contents, imageOf}
 use Rattle.image.specs.Longest.{tableLong}
 use Rattle.image.specs.Parts.{GoodLinks, nIn, bodiesIn, listedBytes, GoodListed}
@@ -67,11 +67,6 @@ ListedIs src at ws (Walk.Next p) = ListedFound src at ws p
 ListedIs src at ws Walk.Bad = NoneAt listedBytes GoodListed src at
 
 -- ---- the image
-
--- whether the numbers ws, of 4 bytes each, stand at `at`
-abbrev pub WordsAre : List ℕ → List ℕ → ℕ → Bool → Type 0
-WordsAre ws src at true = Stands (cells 4 ws) src at (at + length ws * 4)
-WordsAre ws src at false = Below (256 ^ 4) ws → (r : ℕ) → Stands (cells 4 ws) src at r → ⊥
 
 -- the bytes are the image of a site by form, and its general body is at `at`, behind the table of
 -- contents: "number of bodies (n+2), then byte offset .. and length of each"

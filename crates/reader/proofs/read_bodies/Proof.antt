@@ -6,8 +6,8 @@ use mathlib.Core.List.{List}
 use Prim.Native.Nat.{ℕ}
 use lib.ListN.{length}
 use Rattle.memory.specs.Memory.{generalWords}
-use Rattle.whole.proofs.BodiesLaws.{GeneralRead}
-use Rattle.store.proofs.SiteLaws.{general-there, general-lent, setting-read, sizes-has}
+use Rattle.image.proofs.GeneralLaws.{GeneralRead, general-lent, setting-read}
+use Rattle.store.proofs.SiteLaws.{general-there, sizes-has}
 use Rattle.reader.specs.Reader.{too-short, done}
 use Rattle.reader.proofs.ReadLaws.{room-found, bodies-has, no-room, held-site}
 use Rattle.reader.proofs.read_bodies.Statement.{statement}

@@ -13,10 +13,9 @@ use Rattle.rules.specs.Sizes.{sizesForm}
 use Rattle.laws.proofs.FormLaws.{sizes-says}
 use Rattle.memory.specs.Memory.{generalWords}
 use Rattle.memory.proofs.SizeLaws.{link-sizes}
-use Rattle.whole.proofs.BodiesLaws.{GeneralRead}
-use Rattle.store.proofs.SiteLaws.{general-there, general-room, general-lent, setting-read}
-use Rattle.store.proofs.SiteLaws.{sizes-has, boxes-has, links-has, rows-room, links-room}
-use Rattle.store.proofs.SiteLaws.{site-stored}
+use Rattle.image.proofs.GeneralLaws.{GeneralRead, general-lent, setting-read}
+use Rattle.store.proofs.SiteLaws.{general-there, general-room, sizes-has, boxes-has}
+use Rattle.store.proofs.SiteLaws.{links-has, rows-room, links-room, site-stored}
 use Rattle.store.proofs.store_site.Statement.{statement}
 use Rattle.store.proofs.store_site.Tie as tie
 

@@ -8,7 +8,7 @@ use Rattle.image.proofs.CutLaws.{letter-groups-long}
 use Rattle.image.proofs.Lengths.{length-letter}
 use Rattle.image.proofs.HeadedLaws.{groups-asked, headed-none, headed-then}
 use Rattle.image.proofs.LetterLaws.{letter-headed}
-use Rattle.checker.proofs.MailLaws.{letter-judged}
+use Rattle.image.proofs.LetterJudged.{letter-judged}
 use Rattle.checker.proofs.mail.check_letter.Statement.{statement}
 use Rattle.checker.proofs.mail.check_letter.Tie as tie
 

@@ -3,7 +3,8 @@ use borrow.Author.Needs.{needs}
 use native.Mathlib.Omega.{arith}
 use Rattle.cells.proofs.StandLaws.{too-short}
 use Rattle.image.proofs.Lengths.{length-link}
-use Rattle.checker.proofs.MailLaws.{CountRead, link-none, link-then}
+use Rattle.image.proofs.LetterLaws.{CountRead}
+use Rattle.checker.proofs.MailLaws.{link-none, link-then}
 use Rattle.checker.proofs.mail.check_link.Statement.{statement}
 use Rattle.checker.proofs.mail.check_link.Tie as tie
 

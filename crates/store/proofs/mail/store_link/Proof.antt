@@ -7,7 +7,7 @@ use mathlib.Core.List.{List}
 use lib.ListN.{length, getD, set, length-set}
 use Rattle.words.specs.Rows.{part}
 use Rattle.words.proofs.PartLaws.{length-part, length-splice}
-use Rattle.checker.proofs.MailLaws.{CountRead}
+use Rattle.image.proofs.LetterLaws.{CountRead}
 use Rattle.store.proofs.MailLaws.{link-room, letters-has, letters-room, link-stored}
 use Rattle.store.proofs.mail.store_link.Statement.{statement}
 use Rattle.store.proofs.mail.store_link.Tie as tie

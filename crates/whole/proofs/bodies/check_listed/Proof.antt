@@ -13,8 +13,8 @@ use Rattle.memory.specs.Parts.{generalForm}
 use Rattle.cells.proofs.StandLaws.{too-short, read-end}
 use Rattle.image.specs.Longest.{generalLong}
 use Rattle.whole.specs.Boxes.{countEntry, boxEntry}
-use Rattle.whole.proofs.BodiesLaws.{GeneralRead, length-listed, listed-none, general-sizes}
-use Rattle.whole.proofs.BodiesLaws.{listed-then, front-law}
+use Rattle.image.proofs.GeneralLaws.{GeneralRead, general-lent, setting-read, length-listed}
+use Rattle.whole.proofs.BodiesLaws.{listed-none, general-sizes, listed-then, front-law}
 use Rattle.whole.proofs.bodies.check_listed.Statement.{statement}
 use Rattle.whole.proofs.bodies.check_listed.Tie as tie
 
@@ -29,10 +29,10 @@ module _ (c : tie.After-get-words) where
   five : length words ≡ generalWords
   five = c .get-words .kept .1 .1 .1 .0
 
-  abbrev Sizes : ℕ → ℕ → ℕ → Type 0
-  Sizes = GeneralRead (start .args .src .now) (start .args .at) (c .get-words .result) words
+  abbrev Said : ℕ → ℕ → ℕ → Type 0
+  Said = GeneralRead (start .args .src .now) (start .args .at) (c .get-words .result) words
 
-  said : Sizes (getD words nAt 0) (getD words JAt 0) (getD words LAt 0)
+  said : Said (getD words nAt 0) (getD words JAt 0) (getD words LAt 0)
   said = record {
     five = five;
     read = c .get-words .ensures;
@@ -42,10 +42,8 @@ module _ (c : tie.After-get-words) where
   }
 
   -- the table, when the count is in it
-  abbrev table : List ℕ
-  table = set (start .args .table .now) countEntry (getD words nAt 0 + 2)
-
-  table-long : length table ≡ length (start .args .table .now)
+  table-long : length (set (start .args .table .now) countEntry (getD words nAt 0 + 2))
+      ≡ length (start .args .table .now)
   table-long = length-set (start .args .table .now) countEntry (getD words nAt 0 + 2)
 
 -- where they are by form
@@ -56,23 +54,19 @@ module _ (c : tie.Else2) where
   formed : generalForm (words read) ≡ true
   formed = sym (c .before .is-general .ensures) ∙ not-false _ (c .if2 .left)
 
-  sizes : FormedSizes (getD (words read) nAt 0) (getD (words read) JAt 0) (getD (words read) LAt 0)
-  sizes = sizes-says (general-sizes (said read) formed)
-
--- where the sizes are numbers
-module _ (c : tie.After-number3) where
+-- where they say the sizes
+module _ (c : tie.After-setting-of) where
   abbrev general : tie.Else2
-  general = c .before .before .before
+  general = c .before .before
 
-  numbers : Sizes (read general) (c .before .before .number .result) (c .before .number2 .result)
-      (c .number3 .result)
-  numbers = record {
-    five = five (read general);
-    read = read general .get-words .ensures;
-    n-said = c .before .before .number .ensures;
-    J-said = c .before .number2 .ensures;
-    L-said = c .number3 .ensures;
-  }
+  sizes : let z = c .setting-of .result in Said (read general) (z .n) (z .j) (z .l)
+  sizes =
+      setting-read (five (read general)) (read general .get-words .ensures) (words (read general))
+      (omega (arith, five (read general))) (λ i h. refl) (c .setting-of .result)
+      (c .setting-of .ensures)
+
+  few : let z = c .setting-of .result in FormedSizes (z .n) (z .j) (z .l)
+  few = sizes-says (general-sizes sizes (formed general))
 
 returns : tie.Need-returns
 returns c = λ t r g w.
@@ -83,36 +77,28 @@ returns-2 c =
     listed-none (said (c .before .before .before .before))
     (sym (c .before .is-general .ensures) ∙ not-true _ (c .if2 .taken))
 
-number-requires : tie.Need-number-requires
-number-requires c κs = let z = sizes c in omega arith
-
-number-requires-2 : tie.Need-number-requires-2
-number-requires-2 c κs = let z = sizes (c .before) in omega arith
-
-number-requires-3 : tie.Need-number-requires-3
-number-requires-3 c κs = let z = sizes (c .before .before) in omega arith
+setting-of-requires : tie.Need-setting-of-requires
+setting-of-requires c κs =
+    let got = read (c .before) in
+    general-lent (five got) (got .get-words .ensures) (words got) (omega (arith, five got))
+    (λ i h. refl)
 
 enter-requires : tie.Need-enter-requires
 enter-requires c κs =
-    let words-read = read (general (c .before)) in
-    let end = read-end generalWords (words-read .get-words .ensures) (five words-read) in
-    (omega (arith, table-long words-read, start words-read .pre .1), omega arith)
+    let got = read (general (c .before)) in
+    let end = read-end generalWords (got .get-words .ensures) (five got) in
+    (omega (arith, table-long got, start got .pre .1), omega arith)
 
 check-rest-requires : tie.Need-check-rest-requires
 check-rest-requires c κs =
-    let numbered = c .before .before .before .before .before in
-    let by-form = general numbered in
-    let z = sizes by-form in
-    let n = numbers numbered .n-said in (
-      read by-form .get-words .ensures .stands .room,
+    let entered = c .before .before .before in
+    let set = entered .before .before in
+    let got = read (general set) in
+    let most = few set .few-boxes in (
+      got .get-words .ensures .stands .room,
       (
-        general-sizes (numbers numbered) (formed by-form),
-        omega (
-          arith,
-          table-long (read by-form),
-          start (read by-form) .pre .1,
-          c .before .before .before .enter .kept .0,
-        ),
+        general-sizes (sizes set) (formed (general set)),
+        omega (arith, table-long got, start got .pre .1, entered .enter .kept .0),
       ),
     )
 
@@ -125,13 +111,12 @@ same-length c =
 returns-3 : tie.Need-returns-3
 returns-3 c =
     let entered = c .before .before .before .before .before .before in
-    let numbered = entered .before .before in
-    let by-form = general numbered in
-    let begun = start (read by-form) in
+    let set = entered .before .before in
+    let begun = start (read (general set)) in
     let rest = c .before .before .check-rest in
-    listed-then (numbers numbered) (formed by-form) (take (boxEntry 0) (entered .enter .last .0))
+    listed-then (sizes set) (formed (general set)) (take (boxEntry 0) (entered .enter .last .0))
     (rest .last .1 .1 .1 .1 .1 .0) (rest .result)
-    (front-law (numbers numbered) (begun .args .table .now) (entered .enter .last .0)
+    (front-law (sizes set) (begun .args .table .now) (entered .enter .last .0)
     (omega (arith, begun .pre .1)) (entered .enter .ensures))
     (rest .ensures)
 
@@ -140,6 +125,6 @@ check-listed-spec =
     tie.close
     (tie.spec
     (λ c. search needs) returns (λ c. search needs) (λ c κs. search needs) (λ c. search needs)
-    (λ c κs. search needs) returns-2 (λ c. search needs) number-requires (λ c. search needs)
-    number-requires-2 (λ c. search needs) number-requires-3 (λ c. search needs) (λ c. search needs)
-    (λ c. search needs) enter-requires check-rest-requires same-length returns-3)
+    (λ c κs. search needs) returns-2 (λ c. search needs) setting-of-requires (λ c. search needs)
+    (λ c. omega (arith, sizes c .n-said, few c .few-boxes)) (λ c. search needs) enter-requires
+    check-rest-requires same-length returns-3)
