@@ -11,8 +11,8 @@ use Rattle.words.specs.Rows.{part}
 use Rattle.le.specs.Le.{le, Number}
 use Rattle.le.proofs.LeLaws.{length-le}
 use Rattle.rules.specs.Sizes.{mostBoxes, mostLoads}
+use Rattle.rules.specs.Numbers.{flagNumber}
 use Rattle.rules.specs.Box.{Box}
-use Rattle.row.specs.Row.{flagNumber}
 use Rattle.cells.specs.Cells.{chain, cells, Each, Stands, Found, NoneAt, Many}
 use Rattle.cells.proofs.ChainLaws.{chain-snoc, chain-map, each-snoc}
 use Rattle.cells.proofs.StandLaws.{stands-nil, stands-seq, stands-as, stands-le, stands-first}
