@@ -1,12 +1,9 @@
 -- Tests: what tests that passed say, and how tests are made to pass.
-use Prim.Native.Nat.{ℕ, zero, suc, _+_, _≤_}
 use mathlib.Core.Path.{_≡_, refl, sym, ap, _∙_, subst}
-use mathlib.Core.Bool.{Bool, true, false, _&&_, _||_, cond}
+use mathlib.Core.Bool.{Bool, true, false, _&&_, _||_}
 use mathlib.Core.List.{List, [], _∷_, _++_, map}
-use native.Mathlib.Decide.{ℕ-discrete}
-use native.Mathlib.Omega.{arith}
 use lib.Dec.{T}
-use Rattle.rules.specs.Every.{all, each, every, tally}
+use Rattle.rules.specs.Every.{all, each}
 use Rattle.rules.proofs.BoundLaws.{first-of, second-of}
 
 -- ---- one test and two
@@ -90,34 +87,3 @@ module _ {ℓ} {A : Type ℓ} (p q t : A → Bool) where
       let u = and-yes (p x) (each p l) d in
       let v = and-yes (q x) (each q l) e in
       and-both (f x (u .0) (v .0)) (each-both f l (u .1) (v .1))
-
--- ---- every number of 1 to n
-
-pub every-at : (n : ℕ) (p : ℕ → Bool) → every n p ≡ true
-    → (i : ℕ) → 1 ≤ i → i ≤ n → p i ≡ true
-unfolding every
-every-at zero p e i h k = absurd (omega arith)
-every-at (suc n) p e i h k =
-    let q = and-yes (p (suc n)) (every n p) e in
-    go (ℕ-discrete i (suc n)) (q .0) (every-at n p (q .1) i h)
-  where
-    go : Dec (i ≡ suc n) → p (suc n) ≡ true → (i ≤ n → p i ≡ true) → p i ≡ true
-    go (yes d) last below = rw d last
-    go (no d) last below = below (omega arith)
-
-pub every-made : (n : ℕ) (p : ℕ → Bool) → ((i : ℕ) → 1 ≤ i → i ≤ n → p i ≡ true)
-    → every n p ≡ true
-unfolding every
-every-made zero p f = refl
-every-made (suc n) p f =
-    let below = every-made n p (λ i h k. f i h (omega arith)) in
-    and-both (f (suc n) (omega arith) (omega arith)) below
-
--- Two tests that agree on 1 to n are passed by as many.
-pub tally-same : (n : ℕ) (p q : ℕ → Bool) → ((i : ℕ) → 1 ≤ i → i ≤ n → p i ≡ q i)
-    → tally n p ≡ tally n q
-unfolding tally
-tally-same zero p q f = refl
-tally-same (suc n) p q f =
-    let below = tally-same n p q (λ i h k. f i h (omega arith)) in
-    λ t. cond (f (suc n) (omega arith) (omega arith) t) 1 0 + below t
