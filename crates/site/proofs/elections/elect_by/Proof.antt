@@ -1,4 +1,3 @@
--- `site::elections::elect_by` meets its contract.
 use mathlib.Core.Path.{refl}
 use native.Mathlib.Omega.{arith}
 use borrow.Author.Needs.{needs}
@@ -8,8 +7,7 @@ use Rattle.site.proofs.elections.elect_by.Statement.{statement}
 use Rattle.site.proofs.elections.elect_by.Tie as tie
 
 add-epoch : tie.Need-add-epoch
-add-epoch c = let k = c .before .before .before .pre in omega
-    (arith, epoch-most _ _ (k .form) _ _ (k .setting))
+add-epoch c = omega (arith, epoch-most (c .before .before .before .pre))
 
 elect-rows-requires : tie.Need-elect-rows-requires
 elect-rows-requires c κs = boxes-lent (c .before .before .before .before .before .before .pre)
@@ -18,7 +16,7 @@ clear-links-requires : tie.Need-clear-links-requires
 clear-links-requires c κs =
     let k = c .before .before .before .before .before .before .before .before .before .before .pre
     in
-    let l = links-lent _ _ (k .form) _ _ (k .setting) in
+    let l = links-lent k in
     (l .sizes, l .words)
 
 put-general-requires : tie.Need-put-general-requires

@@ -1,4 +1,3 @@
--- `site::entries::step` meets its contract.
 use mathlib.Core.Path.{sym, _∙_}
 use borrow.Author.Needs.{needs}
 use Rattle.site.proofs.Once.{step-formed}

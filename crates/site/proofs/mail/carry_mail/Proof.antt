@@ -1,4 +1,3 @@
--- `site::mail::carry_mail` meets its contract.
 use mathlib.Core.Path.{refl}
 use native.Mathlib.Omega.{arith}
 use borrow.Author.Needs.{needs}

@@ -1,4 +1,3 @@
--- `site::presence::present_as` meets its contract.
 use mathlib.Core.Path.{refl}
 use Rattle.site.proofs.GeneralLaws.{presented-go}
 use borrow.Author.Needs.{needs}

@@ -1,4 +1,3 @@
--- `site::presence::raise` meets its contract.
 use mathlib.Core.Path.{refl}
 use borrow.Author.Needs.{needs}
 use Rattle.site.proofs.presence.raise.Statement.{statement}

@@ -1,4 +1,3 @@
--- `site::start::put_setting` meets its contract.
 use native.Mathlib.Omega.{arith}
 use lib.ListN.{length-set}
 use borrow.Author.Needs.{needs}

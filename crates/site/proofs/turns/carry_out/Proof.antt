@@ -1,4 +1,3 @@
--- `site::turns::carry_out` meets its contract.
 use native.Mathlib.Omega.{arith}
 use borrow.Author.Needs.{needs}
 use Rattle.site.proofs.CarryLaws.{playable, posts-after, sent-after}

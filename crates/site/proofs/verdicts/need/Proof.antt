@@ -1,4 +1,3 @@
--- `site::verdicts::need` meets its contract.
 use mathlib.Core.Path.{refl}
 use Rattle.site.proofs.verdicts.need.Statement.{statement}
 use Rattle.site.proofs.verdicts.need.Tie as tie
