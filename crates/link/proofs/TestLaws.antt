@@ -1,15 +1,11 @@
 -- Tests: what tests that passed say, and how tests are made to pass.
-use mathlib.Core.Path.{_≡_, refl, sym, ap, _∙_, subst}
+use mathlib.Core.Path.{_≡_, refl, sym, ap}
 use mathlib.Core.Bool.{Bool, true, false, _&&_, _||_}
 use mathlib.Core.List.{List, [], _∷_, _++_, map}
-use lib.Dec.{T}
-use Rattle.rules.specs.Every.{all, each}
-use Rattle.rules.proofs.BoundLaws.{first-of, second-of}
+use Rattle.rules.specs.Every.{each}
+use Rattle.laws.proofs.Logic.{both-no, and-yes, and-both}
 
 -- ---- one test and two
-
-pub both-no : {b : Bool} → b ≡ true → b ≡ false → ⊥
-both-no p q = subst T (sym p ∙ q) tt
 
 pub not-yes : (b : Bool) → (b ≡ true → ⊥) → false ≡ b
 not-yes true f = absurd (f refl)
@@ -21,37 +17,9 @@ same-test true c f g = sym (f refl)
 same-test false true f g = g refl
 same-test false false f g = refl
 
-pub and-yes : (a b : Bool) → (a && b) ≡ true → (a ≡ true) × (b ≡ true)
-and-yes a b e = (first-of a b e, second-of a b e)
-
-pub and-both : {a b : Bool} → a ≡ true → b ≡ true → (a && b) ≡ true
-and-both {a} {b} p q = rw p q
-
 pub or-else : (a b : Bool) → (a || b) ≡ true → a ≡ false → b ≡ true
 or-else true b e f = absurd (both-no refl f)
 or-else false b e f = e
-
--- ---- several tests; `Passed` computes to the product of what each says
-
-abbrev pub Passed : List Bool → Type 0
-Passed [] = Unit {0}
-Passed (b ∷ bs) = (b ≡ true) × Passed bs
-
-pub passed : (l : List Bool) → all l ≡ true → Passed l
-unfolding all
-passed [] e = tt
-passed (b ∷ bs) e = let p = and-yes b (all bs) e in (p .0, passed bs (p .1))
-
--- tests that pass, put together one by one: `made (p & q & none)`
-infixr 4 _&_
-pub data Passing : List Bool → Type 0 where
-  none : Passing []
-  _&_ : {b : Bool} {bs : List Bool} → b ≡ true → Passing bs → Passing (b ∷ bs)
-
-pub made : {l : List Bool} → Passing l → all l ≡ true
-unfolding all
-made none = refl
-made (p & q) = and-both p (made q)
 
 -- ---- each element of a list
 

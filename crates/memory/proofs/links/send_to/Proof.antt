@@ -49,8 +49,8 @@ returns c =
 returns-2 : tie.Need-returns-2
 returns-2 c =
     let s = c .before .before .before .before in
-    send-none (s .args .set) (s .args .b) (s .pre .lent) (no (c .before .has .ensures) (c .if1 .left))
-    (letterOf (s .args .m) (s .args .records .now))
+    send-none (s .args .set) (s .args .b) (s .pre .lent)
+    (no (c .before .has .ensures) (c .if1 .left)) (letterOf (s .args .m) (s .args .records .now))
 
 pub send-to-spec : {M : Type 1} → statement M
 send-to-spec =
