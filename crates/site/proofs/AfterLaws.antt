@@ -124,7 +124,8 @@ links-same xs ls c r = record {
 -- ---- turns
 
 -- o is what the turn t of box c comes to, on links that the mail it takes has left
-module _ (xs ls : List ℕ) (c : ℕ) (link : ℕ → ℕ → List Letter) (t : Turn) (ms : List ℕ) (o : Outcome)
+module _ (xs ls : List ℕ) (c : ℕ) (link : ℕ → ℕ → List Letter) (t : Turn) (ms : List ℕ)
+    (o : Outcome)
     (is : o ≡ byTurn (siteOf xs ls) (changed (siteOf xs ls) (siteOf xs ls .box) link) c t ms) where
   abbrev base : Site
   base = changed (siteOf xs ls) (siteOf xs ls .box) link
@@ -155,7 +156,8 @@ module _ (xs ls : List ℕ) (c : ℕ) (link : ℕ → ℕ → List Letter) (t : 
       go Answer.Done r h e = absurd (both-no refl h)
       go Answer.Taken r h e = absurd (both-no refl h)
       go (Answer.Discarded why) r h e =
-          changed-after xs ls xs ls' c _ _ o (Answer.Discarded why) e refl (rows-same xs ls c ok) put
+          changed-after xs ls xs ls' c _ _ o (Answer.Discarded why) e refl (rows-same xs ls c ok)
+          put
       go (Answer.Refused why) r h e = absurd (both-no refl r)
 
   -- the turn goes on

@@ -39,7 +39,7 @@ elect-known {xs} {ls} {c} {s} k {v} {xs'} {ls'} {a} q done =
         → After (step (siteOf xs ls) (Call.Elect c)) xs ls xs' ls' a
     go Verdict.Go h d =
         rw (d .0, d .1 .3)
-        (elected-after xs ls (k .form) c _ (d .1 .0) ls'
+        (elected-after xs ls (k .form) c _
         (elect-needs xs ls (k .form) c (k .box) ∙ verdict-go _ _ _ (sym h)) (d .1 .1) (d .1 .2))
     go (Verdict.Discard why) h d = absurd (verdict-discard _ why (sym h))
     go (Verdict.Refuse why) h d =

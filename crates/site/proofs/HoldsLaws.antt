@@ -65,7 +65,8 @@ module _ {xs ls : List ℕ} {c : ℕ} {s : Setting} (k : AtBox xs ls c s) {r : L
       agreed-is =
           ap (λ (x : Box). agreedAs x number left right) (rw (k .box) refl)
           ∙ sym (p ∙ ap (λ (q : List ℕ). agreedAs (boxOf (s .n) q) number left right) cut
-          ∙ (λ i. agreedAs (boxOf (k .setting i .n) (rowAt (k .setting i .j) xs c)) number left right))
+          ∙ (λ i. agreedAs (boxOf (k .setting i .n) (rowAt (k .setting i .j) xs c)) number left
+          right))
 
       pub holds-yes : t ≡ true → Answer.Done ≡ holds (siteOf xs ls) c number left right
       unfolding siteOf

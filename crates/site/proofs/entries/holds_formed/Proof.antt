@@ -1,5 +1,5 @@
 -- The box number is tested, and then its row.
-use mathlib.Core.Path.{_≡_, sym}
+use mathlib.Core.Path.{sym}
 use borrow.Author.Needs.{needs}
 use Rattle.words.proofs.TestLaws.{passes}
 use Rattle.memory.specs.Memory.{siteOf}
@@ -12,15 +12,19 @@ use Rattle.site.proofs.entries.holds_formed.Tie as tie
 -- What is known where c is a box.
 known : (on : tie.Else1) → let a = on .before .before .before .before .before .args in
     AtBox (a .site .now) (a .links .now) (a .c) (on .before .before .setting-of .result)
-known on = at-box (on .before .before .before .before .before .pre) (on .before .before .setting-of .ensures) (on .before .is-box .ensures) (on .if1 .left)
+known on =
+    at-box (on .before .before .before .before .before .pre)
+    (on .before .before .setting-of .ensures) (on .before .is-box .ensures) (on .if1 .left)
 
 returns : tie.Need-returns
 unfolding siteOf
 returns c =
-    let start = c .before .before .before .before .before in
-    sym (holds-no-box _ _ (start .pre) _ _ _ _
-    (not-box (start .args .site .now) (c .before .before .setting-of .ensures) (c .before .is-box .ensures)
-    (c .if1 .taken)))
+    let at-setting-of = c .before .before in
+    let start = at-setting-of .before .before .before in
+    sym
+    (holds-no-box _ _ (start .pre) _ _ _ _
+    (not-box (start .args .site .now) (at-setting-of .setting-of .ensures)
+    (c .before .is-box .ensures) (c .if1 .taken)))
 
 row-of-requires : tie.Need-row-of-requires
 row-of-requires c κs =
@@ -47,5 +51,5 @@ pub holds-formed-spec : {M : Type 1} → statement M
 holds-formed-spec =
     tie.close
     (tie.spec
-    (λ c κs. general-lent _ _ (c .before .before .pre)) (λ c κs. search needs) returns row-of-requires
-    (λ c κs. row-lies (known (c .before)) (c .row-of .ensures)) returns-2 returns-3)
+    (λ c κs. general-lent _ _ (c .before .before .pre)) (λ c κs. search needs) returns
+    row-of-requires (λ c κs. row-lies (known (c .before)) (c .row-of .ensures)) returns-2 returns-3)

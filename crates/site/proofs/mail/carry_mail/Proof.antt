@@ -6,12 +6,6 @@ use Rattle.site.proofs.MailKnown.{mail-carried}
 use Rattle.site.proofs.mail.carry_mail.Statement.{statement}
 use Rattle.site.proofs.mail.carry_mail.Tie as tie
 
-add-q : tie.Need-add-q
-add-q c = omega (arith, c .before .before .before .pre .head .inside)
-
-add-q-2 : tie.Need-add-q-2
-add-q-2 c = omega (arith, c .before .before .before .pre .head .inside)
-
 play-requires : tie.Need-play-requires
 play-requires c κs =
     let k = c .before .before .before .before .before .pre in
@@ -47,5 +41,6 @@ pub carry-mail-spec : {M : Type 1} → statement M
 carry-mail-spec =
     tie.close
     (tie.spec
-    (λ c. search needs) add-q add-q-2 play-requires pop-requires post-requires (λ c. search needs)
-    (λ c. search needs) returns)
+    (λ c. search needs) (λ c. omega (arith, c .before .before .before .pre .head .inside))
+    (λ c. omega (arith, c .before .before .before .pre .head .inside)) play-requires pop-requires
+    post-requires (λ c. search needs) (λ c. search needs) returns)

@@ -20,8 +20,13 @@ returns : tie.Need-returns
 returns c =
     let turn = c .before .before in
     let found = turn .before .before .before in
-    over-refused (found .before .before .before .before .pre) (found .head-start .ensures) (turn .mail-turn .ensures)
-    (yes (c .before .is-refusal .ensures) (c .if1 .taken))
+    over-refused (found .before .before .before .before .pre) (found .head-start .ensures)
+    (turn .mail-turn .ensures) (yes (c .before .is-refusal .ensures) (c .if1 .taken))
+
+pop-requires : tie.Need-pop-requires
+pop-requires c κs =
+    let found = c .before .before .before .before .before .before .before .before in head-lent
+    (found .before .before .before .before .pre)
 
 returns-2 : tie.Need-returns-2
 returns-2 c =
@@ -30,8 +35,8 @@ returns-2 c =
     let kept = stays .before .before in
     let turn = kept .before .before in
     let found = turn .before .before .before in
-    over-discarded (found .before .before .before .before .pre) (found .head-start .ensures) (turn .mail-turn .ensures)
-    (no (kept .before .is-refusal .ensures) (kept .if1 .left))
+    over-discarded (found .before .before .before .before .pre) (found .head-start .ensures)
+    (turn .mail-turn .ensures) (no (kept .before .is-refusal .ensures) (kept .if1 .left))
     (fails (stays .before .is-accepted .ensures) (stays .if2 .taken)) (popped .pop .ensures)
 
 has-room-requires : tie.Need-has-room-requires
@@ -48,8 +53,8 @@ returns-3 c =
     let goes = c .before .before .before in
     let turn = goes .before .before .before .before in
     let found = turn .before .before .before in
-    over-full (found .before .before .before .before .pre) (found .head-start .ensures) (turn .mail-turn .ensures)
-    (passes (goes .before .is-accepted .ensures) (goes .if2 .left))
+    over-full (found .before .before .before .before .pre) (found .head-start .ensures)
+    (turn .mail-turn .ensures) (passes (goes .before .is-accepted .ensures) (goes .if2 .left))
     (fails (c .before .has-room .ensures) (c .if3 .taken))
 
 carry-mail-requires : tie.Need-carry-mail-requires
@@ -57,8 +62,8 @@ carry-mail-requires c κs =
     let room = c .before .before in
     let turn = room .before .before .before .before .before .before .before in
     let found = turn .before .before .before in
-    over-takes (found .before .before .before .before .pre) (found .head-start .ensures) (turn .mail-turn .ensures)
-    (passes (room .before .has-room .ensures) (room .if3 .left))
+    over-takes (found .before .before .before .before .pre) (found .head-start .ensures)
+    (turn .mail-turn .ensures) (passes (room .before .has-room .ensures) (room .if3 .left))
 
 returns-4 : tie.Need-returns-4
 returns-4 c =
@@ -67,16 +72,16 @@ returns-4 c =
     let goes = room .before .before .before in
     let turn = goes .before .before .before .before in
     let found = turn .before .before .before in
-    over-played (found .before .before .before .before .pre) (found .head-start .ensures) (turn .mail-turn .ensures)
-    (passes (goes .before .is-accepted .ensures) (goes .if2 .left))
+    over-played (found .before .before .before .before .pre) (found .head-start .ensures)
+    (turn .mail-turn .ensures) (passes (goes .before .is-accepted .ensures) (goes .if2 .left))
     (passes (room .before .has-room .ensures) (room .if3 .left)) (carried .carry-mail .ensures)
 
 pub hand-over-spec : {M : Type 1} → statement M
 hand-over-spec =
     tie.close
     (tie.spec
-    (λ c κs. head-lent (c .before .before .before .pre)) mail-turn-requires (λ c κs. search needs) (λ c. search needs)
-    (λ c. search needs) returns (λ c κs. search needs) (λ c κs. head-lent (c .before .before .before .before .before .before .before .before .before .before .before .before .pre))
+    (λ c κs. head-lent (c .before .before .before .pre)) mail-turn-requires (λ c κs. search needs)
+    (λ c. search needs) (λ c. search needs) returns (λ c κs. search needs) pop-requires
     (λ c. search needs) (λ c. search needs) returns-2 has-room-requires (λ c. search needs)
     (λ c. search needs) returns-3 carry-mail-requires (λ c. search needs) (λ c. search needs)
     returns-4)

@@ -5,7 +5,9 @@ use Rattle.site.proofs.mail.lose.Statement.{statement}
 use Rattle.site.proofs.mail.lose.Tie as tie
 
 returns : tie.Need-returns
-returns c = let popped = c .before .before in lost-known (popped .before .before .before .before .pre) (popped .pop .ensures)
+returns c =
+    let popped = c .before .before in
+    lost-known (popped .before .before .before .before .pre) (popped .pop .ensures)
 
 pub lose-spec : {M : Type 1} → statement M
 lose-spec =

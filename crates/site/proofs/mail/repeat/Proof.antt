@@ -18,7 +18,9 @@ returns c =
     repeated-known (p .0) (p .1) (doubled .before .before .if1 .taken) (doubled .double .ensures)
 
 returns-2 : tie.Need-returns-2
-returns-2 c = let p = c .before .before .before .before .pre in repeated-full (p .0) (p .1) (c .if1 .left)
+returns-2 c =
+    let p = c .before .before .before .before .pre in
+    repeated-full (p .0) (p .1) (c .if1 .left)
 
 pub repeat-spec : {M : Type 1} → statement M
 repeat-spec =

@@ -4,18 +4,11 @@ use borrow.Author.Needs.{needs}
 use Rattle.site.proofs.presence.present_then.Statement.{statement}
 use Rattle.site.proofs.presence.present_then.Tie as tie
 
-returns : tie.Need-returns
-returns c = rw (c .before .enum-told .given .1) (c .without-box .ensures)
-
-returns-2 : tie.Need-returns-2
-returns-2 c = rw (c .before .enum-told2 .given .1) (c .with-box .ensures)
-
-returns-3 : tie.Need-returns-3
-returns-3 c = rw (c .enum-told3 .given .1) refl
-
 pub present-then-spec : {M : Type 1} → statement M
 present-then-spec =
     tie.close
     (tie.spec
     (λ c. search needs) (λ c κs. search needs) (λ c. search needs) (λ c κs. search needs)
-    (λ c. search needs) returns returns-2 returns-3)
+    (λ c. search needs) (λ c. rw (c .before .enum-told .given .1) (c .without-box .ensures))
+    (λ c. rw (c .before .enum-told2 .given .1) (c .with-box .ensures))
+    (λ c. rw (c .enum-told3 .given .1) refl))

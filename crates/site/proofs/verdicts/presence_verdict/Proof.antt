@@ -7,14 +7,18 @@ use Rattle.site.proofs.verdicts.presence_verdict.Tie as tie
 returns : tie.Need-returns
 unfolding verdictOf
 returns c =
+    let at-need = c .before .before .before in
+    let start = at-need .before .before in
     rw (c .before .enum-told .given .1)
-    (simp (c .need2 .ensures, c .before .before .before .need .ensures, c .before .before .before .before .before .pre))
+    (simp (c .need2 .ensures, at-need .need .ensures, start .pre))
 
 returns-2 : tie.Need-returns-2
 unfolding verdictOf
 returns-2 c =
+    let at-need = c .before .before .before in
+    let start = at-need .before .before in
     rw (c .before .enum-told2 .given .1)
-    (simp (c .need3 .ensures, c .before .before .before .need .ensures, c .before .before .before .before .before .pre))
+    (simp (c .need3 .ensures, at-need .need .ensures, start .pre))
 
 returns-3 : tie.Need-returns-3
 unfolding verdictOf
