@@ -10,8 +10,8 @@ use lib.Seq.{take-suc-set}
 use Rattle.words.specs.Rows.{part}
 use Rattle.le.specs.Le.{le, Number}
 use Rattle.rules.specs.Sizes.{mostBoxes, mostLoads}
+use Rattle.rules.specs.Numbers.{flagNumber}
 use Rattle.rules.specs.Box.{Box}
-use Rattle.row.specs.Row.{flagNumber}
 use Rattle.cells.specs.declared.Walk.{Walk}
 use Rattle.cells.specs.Cells.{chain, cells, Found, NoneAt, WalkIs}
 use Rattle.cells.proofs.ChainLaws.{chain-map}
