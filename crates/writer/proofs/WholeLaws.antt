@@ -21,12 +21,12 @@ use Rattle.cells.proofs.ChainLaws.{chain-cons, chain-append, chain-one, chain-m
 use Rattle.cells.proofs.WriteLaws.{room-first, room-rest, wrote-seq, wrote-as}
 use Rattle.image.specs.Image.{boxesOf, linksOf, boxBody, linkBytes, generalBody, mailBody}
 use Rattle.image.specs.Image.{bodies, contents, tableOf, imageOf}
-use Rattle.image.specs.Longest.{tableBytes, tableLong, generalLong}
+use Rattle.image.specs.Longest.{tableBytes, tableLong, generalLong, longestOfAll}
 use Rattle.image.proofs.TableLaws.{length-contents}
 use Rattle.image.proofs.MemoryImage.{any-memory}
 use Rattle.writer.specs.declared.Written.{Written}
 use Rattle.writer.specs.Bodies.{boxesIn, linksIn, Short, Space, Entered}
-use Rattle.writer.specs.Writer.{image, WriteIs, written}
+use Rattle.writer.specs.Writer.{image, Formed, WriteIs, written}
 use Rattle.writer.proofs.BoxLaws.{length-bodies}
 use Rattle.writer.proofs.EntryLaws.{space-first, space-rest, entered-seq}
 
@@ -77,71 +77,76 @@ module _ (s : Setting) (xs ls : List ℕ) where
 
 -- ---- words by form
 
-module _ (xs ls : List ℕ) (f : memoryForm xs ls ≡ true) where
-  pub general-words : GeneralLent xs
-  general-words = general-lent (found xs ls f .general)
+pub general-words : (xs ls : List ℕ) → memoryForm xs ls ≡ true → GeneralLent xs
+general-words xs ls e = general-lent (found xs ls e .general)
 
-  module _ (s : Setting) (e : s ≡ settingAt xs 0) where
-    pub rows-lent : RowsLent s xs
-    rows-lent = rw e (readable-rows xs ls 0 (form-readable xs ls f))
+module _ {xs ls : List ℕ} {s : Setting} (f : Formed xs ls s) where
+  pub long-enough : generalWords ≤ length xs
+  long-enough = general-words xs ls (f .form) .words
 
-    pub links-lent : LinksLent s ls
-    links-lent = rw e (readable-links xs ls 0 (form-readable xs ls f))
+  pub rows-lent : RowsLent s xs
+  rows-lent = rw (f .setting) (readable-rows xs ls 0 (form-readable xs ls (f .form)))
 
-    pub few-boxes : s .n ≤ mostBoxes
-    few-boxes = sizes-says (rows-lent .sizes) .few-boxes
+  pub links-lent : LinksLent s ls
+  links-lent = rw (f .setting) (readable-links xs ls 0 (form-readable xs ls (f .form)))
 
-    bodies-are : bodies (siteOf xs ls) ≡ bodiesIn s xs ls
-    unfolding bodies siteOf boxesOf linksOf generalBody mailBody boxesIn linksIn
-    bodies-are =
-        let w = general-words .words in
-        let t = settingAt xs 0 in
-        rw e (λ i. cells 4 (gets-part 0 xs 0 5 (omega arith) i) ∷ (boxes t xs ++ mail t ls))
+  pub few-boxes : s .n ≤ mostBoxes
+  few-boxes = sizes-says (rows-lent .sizes) .few-boxes
 
-    image-is : {x : ℕ} → x ≡ s .n + 2 → image xs ls ≡ cells 4 (x ∷ []) ++ rest s xs ls
-    unfolding imageOf tableOf
-    image-is {x} u =
-        let bs = bodiesIn s xs ls in
-        let all = chain (λ (b : List ℕ). b) bs in
-        let table = contents (tableLong (s .n)) bs in
-        ap (λ (bs : List (List ℕ)). tableOf bs ++ chain (λ b. b) bs) bodies-are
-        ∙ ap (λ (n : ℕ). cells 4 (n ∷ contents (tableBytes n) bs) ++ all) (bodies-count s xs ls)
-        ∙ ap (λ (l : List ℕ). l ++ all) (chain-append (le 4) ((s .n + 2) ∷ []) table)
-        ∙ append-assoc (cells 4 ((s .n + 2) ∷ [])) (cells 4 table) all
-        ∙ ap (λ (y : ℕ). cells 4 (y ∷ []) ++ rest s xs ls) (sym u)
+  bodies-are : bodies (siteOf xs ls) ≡ bodiesIn s xs ls
+  unfolding bodies siteOf boxesOf linksOf generalBody mailBody boxesIn linksIn
+  bodies-are =
+      let w = long-enough in
+      let t = settingAt xs 0 in
+      rw (f .setting)
+      (λ i. cells 4 (gets-part 0 xs 0 5 (omega arith) i) ∷ (boxes t xs ++ mail t ls))
 
-    -- How long it is.
-    pub image-long : {t u v : ℕ} → t ≡ tableLong (s .n)
-        → u ≡ length (chain (boxBody (s .n)) (boxesIn s xs))
-        → v ≡ length (chain linkBytes (linksIn s ls))
-        → t + generalLong + u + v ≡ length (image xs ls)
-    image-long et eu ev =
-        sym
-        (ap length (image-is refl) ∙ length-append (cells 4 ((s .n + 2) ∷ [])) (rest s xs ls)
-        ∙ omega (
-          arith,
-          length-cells 4 ((s .n + 2) ∷ []),
-          rest-long s xs ls,
-          bodies-long s xs ls (general-words .words),
-        ))
+  image-is : {x : ℕ} → x ≡ s .n + 2 → image xs ls ≡ cells 4 (x ∷ []) ++ rest s xs ls
+  unfolding imageOf tableOf
+  image-is {x} u =
+      let bs = bodiesIn s xs ls in
+      let all = chain (λ (b : List ℕ). b) bs in
+      let table = contents (tableLong (s .n)) bs in
+      ap (λ (bs : List (List ℕ)). tableOf bs ++ chain (λ b. b) bs) bodies-are
+      ∙ ap (λ (n : ℕ). cells 4 (n ∷ contents (tableBytes n) bs) ++ all) (bodies-count s xs ls)
+      ∙ ap (λ (l : List ℕ). l ++ all) (chain-append (le 4) ((s .n + 2) ∷ []) table)
+      ∙ append-assoc (cells 4 ((s .n + 2) ∷ [])) (cells 4 table) all
+      ∙ ap (λ (y : ℕ). cells 4 (y ∷ []) ++ rest s xs ls) (sym u)
 
-    pub boxes-short : Short (chain (boxBody (s .n)) (boxesIn s xs))
-    boxes-short = record { most = omega (arith, image-long refl refl refl, any-memory xs ls f) }
+  -- How long it is.
+  pub image-long : {t u v : ℕ} → t ≡ tableLong (s .n)
+      → u ≡ length (chain (boxBody (s .n)) (boxesIn s xs))
+      → v ≡ length (chain linkBytes (linksIn s ls))
+      → t + generalLong + u + v ≡ length (image xs ls)
+  image-long et eu ev =
+      sym
+      (ap length (image-is refl) ∙ length-append (cells 4 ((s .n + 2) ∷ [])) (rest s xs ls)
+      ∙ omega (
+        arith,
+        length-cells 4 ((s .n + 2) ∷ []),
+        rest-long s xs ls,
+        bodies-long s xs ls long-enough,
+      ))
 
-    pub mail-short : Short (chain linkBytes (linksIn s ls))
-    mail-short = record { most = omega (arith, image-long refl refl refl, any-memory xs ls f) }
+  pub most-bytes : length (image xs ls) ≤ longestOfAll
+  most-bytes = any-memory xs ls (f .form)
 
-    pub count-room : {x : ℕ} {o : List ℕ} → x ≡ s .n + 2 → Room (image xs ls) o 0
-        → Room (cells 4 (x ∷ [])) o 0
-    count-room {x} {o} u room =
-        room-first (rest s xs ls) (subst (λ (l : List ℕ). Room l o 0) (image-is u) room)
+  pub boxes-short : Short (chain (boxBody (s .n)) (boxesIn s xs))
+  boxes-short = record { most = omega (arith, image-long refl refl refl, most-bytes) }
+
+  pub mail-short : Short (chain linkBytes (linksIn s ls))
+  mail-short = record { most = omega (arith, image-long refl refl refl, most-bytes) }
+
+  pub count-room : {x : ℕ} {o : List ℕ} → x ≡ s .n + 2 → Room (image xs ls) o 0
+      → Room (cells 4 (x ∷ [])) o 0
+  count-room {x} {o} u room =
+      room-first (rest s xs ls) (subst (λ (l : List ℕ). Room l o 0) (image-is u) room)
 
 -- ---- writing: the count, then general body, boxes and mail with their entries
 
 -- the count was written
 pub record Begun (xs ls : List ℕ) (s : Setting) (o o1 : List ℕ) (k start : ℕ) : Type 0 where
-  pub form : memoryForm xs ls ≡ true
-  pub setting : s ≡ settingAt xs 0
+  pub formed : Formed xs ls s
   pub count : ℕ
   pub number : count ≡ s .n + 2
   pub table : start ≡ tableLong (s .n)
@@ -154,7 +159,7 @@ module _ {xs ls : List ℕ} {s : Setting} {o o1 : List ℕ} {k start : ℕ}
   behind-count = let n = b .wrote .next in omega (arith, length-cells 4 (b .count ∷ []))
 
   whole : image xs ls ≡ cells 4 (b .count ∷ []) ++ rest s xs ls
-  whole = image-is xs ls (b .form) s (b .setting) (b .number)
+  whole = image-is (b .formed) (b .number)
 
   space-all : Space (bodiesIn s xs ls) o1 k start
   space-all =

@@ -6,6 +6,7 @@ use Prim.Native.Nat.{ℕ, _≤_, _<_}
 use mathlib.Core.List.{List, _++_}
 use lib.ListN.{length, drop}
 use Rattle.rules.specs.declared.model.Refusal.{Refusal}
+use Rattle.rules.specs.declared.model.Setting.{Setting}
 use Rattle.memory.specs.Memory.{siteOf, memoryForm}
 use Rattle.memory.specs.After.{settingAt}
 use Rattle.image.specs.Image.{imageOf}
@@ -37,6 +38,11 @@ pub record WholeImage (xs ls o o' : List ℕ) (r : ℕ) : Type 0 where
 pub data LengthIs (xs ls : List ℕ) : Written → Type 0 where
   no-image : memoryForm xs ls ≡ false → LengthIs xs ls (Written.Refused Refusal.Form)
   has-length : memoryForm xs ls ≡ true → LengthIs xs ls (Written.Length (length (image xs ls)))
+
+-- the words are by form, and s is their setting
+pub record Formed (xs ls : List ℕ) (s : Setting) : Type 0 where
+  pub form : memoryForm xs ls ≡ true
+  pub setting : s ≡ settingAt xs 0
 
 -- what is known of words by form before the first byte is written
 pub record Measured (xs ls : List ℕ) (e : Extent) : Type 0 where

@@ -10,10 +10,9 @@ ghost use Prim.Native.Nat.{_+_, _≤_};
 ghost use lib.ListN.{length};
 ghost use Rattle.words.specs.Rows.{part};
 ghost use Rattle.memory.specs.Memory.{memoryForm, generalWords};
-ghost use Rattle.memory.specs.After.{settingAt};
 ghost use Rattle.cells.specs.Cells.{cells, Room, Wrote};
 ghost use Rattle.writer.specs.Bodies.{Space, Entered};
-ghost use Rattle.writer.specs.Writer.{image, Measured, LengthIs, WriteIs};
+ghost use Rattle.writer.specs.Writer.{image, Formed, Measured, LengthIs, WriteIs};
 
 mod boxes;
 mod entry;
@@ -61,7 +60,7 @@ fn write_general(out: &mut [u8], k: usize, at: usize, site: &[u64]) -> usize
 
 // The image of a site by form whose setting is s, to the front of `out`.
 fn write_image(out: &mut [u8], site: &[u64], links: &[u64], s: Setting) -> usize
-    requires { ⌜ (memoryForm (now site) (now links) ≡ true) × (s ≡ settingAt (now site) 0) ⌝ }
+    requires { ⌜ Formed (now site) (now links) s ⌝ }
     requires { ⌜ Room (image (now site) (now links)) (now out) 0 ⌝ }
     ensures { λ r.
         ⌜ Wrote (image (now (site .entry)) (now (links .entry)))

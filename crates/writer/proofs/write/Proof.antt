@@ -1,4 +1,4 @@
--- `writer::write` meets its contract: 1 first, and then what `write_formed` says.
+-- 1 first, and then what `write_formed` says.
 use borrow.Author.Needs.{needs}
 use mathlib.Core.Path.{sym, _∙_}
 use Rattle.writer.specs.Writer.{not-by-form}

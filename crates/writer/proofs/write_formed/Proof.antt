@@ -1,4 +1,4 @@
--- `writer::write_formed` meets its contract: the length is known before the first byte is written.
+-- The length is known before the first byte is written.
 use borrow.Author.Needs.{needs}
 use native.Mathlib.Omega.{arith}
 use Rattle.writer.specs.Writer.{too-short}

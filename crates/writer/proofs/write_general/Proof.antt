@@ -1,4 +1,3 @@
--- `writer::write_general` meets its contract.
 use borrow.Author.Needs.{needs}
 use Rattle.writer.proofs.EntryLaws.{space-one, entered-one}
 use Rattle.writer.proofs.write_general.Statement.{statement}

@@ -1,7 +1,7 @@
--- `writer::write_image` meets its contract: the count, then three times a body and its entry.
+-- The count, then three times a body and its entry.
 use borrow.Author.Needs.{needs}
 use native.Mathlib.Omega.{arith}
-use Rattle.writer.proofs.WholeLaws.{Begun, general-words, rows-lent, links-lent, few-boxes}
+use Rattle.writer.proofs.WholeLaws.{Begun, long-enough, rows-lent, links-lent, few-boxes}
 use Rattle.writer.proofs.WholeLaws.{count-room, space-general, space-boxes, space-mail}
 use Rattle.writer.proofs.WholeLaws.{wrote-whole}
 use Rattle.writer.proofs.write_image.Statement.{statement}
@@ -19,8 +19,7 @@ begun c =
     let w = c .before .before .before in
     let s = start c in
     record {
-      form = s .pre .0 .0;
-      setting = s .pre .0 .1;
+      formed = s .pre .0;
       count = w .word .result;
       number = w .word .ensures;
       table = w .before .table-bytes .ensures;
@@ -30,44 +29,32 @@ begun c =
 
 table-bytes-requires : tie.Need-table-bytes-requires
 table-bytes-requires c κs =
-    let s = c .before .before .before .before in
-    let a = s .args in
-    let few = few-boxes (a .site .now) (a .links .now) (s .pre .0 .0) (a .s) (s .pre .0 .1) in
+    let few = few-boxes (c .before .before .before .before .pre .0) in
     omega arith
 
 put-words-requires : tie.Need-put-words-requires
 put-words-requires c κs =
     let w = c .before .before in
     let s = w .before .before .before .before .before .before in
-    let a = s .args in
-    count-room (a .site .now) (a .links .now) (s .pre .0 .0) (a .s) (s .pre .0 .1)
-    (w .word .ensures) (s .pre .1)
+    count-room (s .pre .0) (w .word .ensures) (s .pre .1)
 
 write-general-requires : tie.Need-write-general-requires
 write-general-requires c κs =
-    let put = c .before .before .before in
-    let b = begun put in
-    let a = start put .args in
-    (general-words (a .site .now) (a .links .now) (b .form) .words, space-general b)
+    let b = begun (c .before .before .before) in
+    (long-enough (b .formed), space-general b)
 
 write-boxes-requires : tie.Need-write-boxes-requires
 write-boxes-requires c κs =
     let g = c .before .before .before in
-    let put = g .before .before .before .before in
-    let b = begun put in
-    let a = start put .args in (
-      rows-lent (a .site .now) (a .links .now) (b .form) (a .s) (b .setting),
-      space-boxes b (g .write-general .ensures),
-    )
+    let b = begun (g .before .before .before .before) in
+    (rows-lent (b .formed), space-boxes b (g .write-general .ensures))
 
 write-mail-requires : tie.Need-write-mail-requires
 write-mail-requires c κs =
     let w = c .before .before .before in
     let g = w .before .before .before .before in
-    let put = g .before .before .before .before in
-    let b = begun put in
-    let a = start put .args in (
-      links-lent (a .site .now) (a .links .now) (b .form) (a .s) (b .setting),
+    let b = begun (g .before .before .before .before) in (
+      links-lent (b .formed),
       space-mail b (g .write-general .ensures) (w .write-boxes .ensures),
     )
 

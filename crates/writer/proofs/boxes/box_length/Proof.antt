@@ -1,4 +1,3 @@
--- `writer::boxes::box_length` meets its contract.
 use borrow.Author.Needs.{needs}
 use native.Mathlib.Omega.{arith}
 use Rattle.writer.proofs.BoxLaws.{RowOf, box-here, row-is, row-count, box-long}

@@ -1,8 +1,9 @@
--- `writer::boxes::boxes_length` meets its contract: each turn adds the next length.
+-- Each turn adds the next length.
 use borrow.Author.Needs.{needs}
 use mathlib.Core.Path.{_≡_}
-use Prim.Native.Nat.{_-_, _≤_}
+use Prim.Native.Nat.{_-_, _≤_, _<_}
 use native.Mathlib.Omega.{arith}
+use mathlib.Core.List.{[]}
 use lib.ListN.{length, take}
 use Rattle.rules.specs.Site.{freshBox}
 use Rattle.cells.specs.Cells.{chain}
@@ -20,10 +21,16 @@ Inv-loop site s total₀ i₀ total i =
 abbrev μ-loop : tie.MeasureT-loop
 μ-loop site s total₀ i₀ total i = s .n - i
 
+-- The next box is there.
+within : (c : tie.Then1 Inv-loop μ-loop) →
+    let a = c .before .before .before .before .args in
+    c .before .before .loop .i < length (boxesIn (a .s) (a .site .now))
+within c =
+    let a = c .before .before .before .before .args in
+    omega (arith, length-boxes-in (a .s) (a .site .now))
+
 loop-holds : tie.Need-loop-holds Inv-loop μ-loop
-loop-holds c =
-    let a = c .before .args in
-    (omega arith, length-none (boxBody (a .s .n)) (boxesIn (a .s) (a .site .now)))
+loop-holds c = (omega arith, length-none _ [])
 
 box-length-requires : tie.Need-box-length-requires Inv-loop μ-loop
 box-length-requires c κs = (c .before .before .before .before .pre .0, omega arith)
@@ -31,25 +38,17 @@ box-length-requires c κs = (c .before .before .before .before .pre .0, omega ar
 add-total : tie.Need-add-total Inv-loop μ-loop
 add-total c =
     let l = c .before .before .before .loop in
-    let s = c .before .before .before .before .before in
-    let xs = boxesIn (s .args .s) (s .args .site .now) in
-    let few = length-boxes-in (s .args .s) (s .args .site .now) in
-    let all = s .pre .1 .most in
-    omega (
-      arith,
-      length-room (boxBody (s .args .s .n)) xs (l .i) freshBox (omega arith) (l .inv .1)
-          (c .box-length .ensures),
-    )
+    let all = c .before .before .before .before .before .pre .1 .most in
+    let room = length-room _ _ (l .i) freshBox (within (c .before)) (l .inv .1)
+    (c .box-length .ensures) in
+    omega arith
 
 loop-again : tie.Need-loop-again Inv-loop μ-loop
 loop-again c =
-    let l = c .before .before .before .loop in
-    let s = c .before .before .before .before .before in
-    let xs = boxesIn (s .args .s) (s .args .site .now) in
-    let few = length-boxes-in (s .args .s) (s .args .site .now) in (
+    let l = c .before .before .before .loop in (
       omega arith,
-      length-next (boxBody (s .args .s .n)) xs (l .i) freshBox (l .total) (c .box-length .result)
-          (omega arith) (l .inv .1) (c .box-length .ensures),
+      length-next _ _ (l .i) freshBox _ _ (within (c .before)) (l .inv .1)
+          (c .box-length .ensures),
     )
 
 returns : tie.Need-returns Inv-loop μ-loop
@@ -57,8 +56,7 @@ returns c =
     let l = c .before .before .loop in
     let a = c .before .before .before .before .args in
     let few = length-boxes-in (a .s) (a .site .now) in
-    length-all (boxBody (a .s .n)) (boxesIn (a .s) (a .site .now)) (l .i) (l .total) (omega arith)
-    (l .inv .1)
+    length-all _ _ (l .i) _ (omega arith) (l .inv .1)
 
 pub boxes-length-spec : {M : Type 1} → statement M
 boxes-length-spec =

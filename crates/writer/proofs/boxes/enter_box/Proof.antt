@@ -1,4 +1,3 @@
--- `writer::boxes::enter_box` meets its contract.
 use borrow.Author.Needs.{needs}
 use Rattle.writer.proofs.EntryLaws.{space-one, entered-one}
 use Rattle.writer.proofs.boxes.enter_box.Statement.{statement}

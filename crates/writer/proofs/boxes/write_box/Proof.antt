@@ -1,4 +1,4 @@
--- `writer::boxes::write_box` meets its contract: its words in their groups, then the records.
+-- Its words in their groups, then the records.
 use borrow.Author.Needs.{needs}
 use Rattle.writer.proofs.BoxLaws.{RowOf, box-here, row-is, box-put}
 use Rattle.writer.proofs.PutLaws.{put-needs, put-wrote}

@@ -1,4 +1,4 @@
--- `writer::boxes::write_boxes` meets its contract: at each turn the first i boxes are written and
+-- At each turn the first i boxes are written and
 -- entered.
 use borrow.Author.Needs.{needs}
 use Prim.Native.Nat.{_-_, _≤_}

@@ -1,4 +1,4 @@
--- `writer::mail::letters_length` meets its contract: each turn adds the next length.
+-- Each turn adds the next length.
 use borrow.Author.Needs.{needs}
 use mathlib.Core.Path.{_≡_}
 use Prim.Native.Nat.{_-_, _≤_}
@@ -21,9 +21,7 @@ abbrev μ-loop : tie.MeasureT-loop
 μ-loop link j l count total₀ i₀ total i = count - i
 
 loop-holds : tie.Need-loop-holds Inv-loop μ-loop
-loop-holds c =
-    let a = c .before .before .args in
-    (omega arith, length-none letterBytes (linkOf (a .j) (a .l) (a .link .now)))
+loop-holds c = (omega arith, length-none _ [])
 
 letter-length-requires : tie.Need-letter-length-requires Inv-loop μ-loop
 letter-length-requires c κs =
@@ -33,33 +31,24 @@ add-total : tie.Need-add-total Inv-loop μ-loop
 add-total c =
     let l = c .before .before .loop in
     let d = c .before .before .before in
-    let s = d .before .before in
-    let ys = linkOf (s .args .j) (s .args .l) (s .args .link .now) in
-    let all = s .pre .1 .most in
-    omega (
-      arith,
-      length-room letterBytes ys (l .i) (letterAt []) (omega (arith, d .count .ensures))
-          (l .inv .1) (c .letter-length .ensures),
-    )
+    let all = d .before .before .pre .1 .most in
+    let room = length-room _ _ (l .i) (letterAt []) (omega (arith, d .count .ensures)) (l .inv .1)
+    (c .letter-length .ensures) in
+    omega arith
 
 loop-again : tie.Need-loop-again Inv-loop μ-loop
 loop-again c =
     let l = c .before .before .loop in
-    let d = c .before .before .before in
-    let a = d .before .before .args in (
+    let d = c .before .before .before in (
       omega arith,
-      length-next letterBytes (linkOf (a .j) (a .l) (a .link .now)) (l .i) (letterAt []) (l .total)
-          (c .letter-length .result) (omega (arith, d .count .ensures)) (l .inv .1)
+      length-next _ _ (l .i) (letterAt []) _ _ (omega (arith, d .count .ensures)) (l .inv .1)
           (c .letter-length .ensures),
     )
 
 returns : tie.Need-returns Inv-loop μ-loop
 returns c =
     let l = c .before .loop in
-    let d = c .before .before in
-    let a = d .before .before .args in
-    length-all letterBytes (linkOf (a .j) (a .l) (a .link .now)) (l .i) (l .total)
-    (omega (arith, d .count .ensures)) (l .inv .1)
+    length-all _ _ (l .i) _ (omega (arith, c .before .before .count .ensures)) (l .inv .1)
 
 pub letters-length-spec : {M : Type 1} → statement M
 letters-length-spec =

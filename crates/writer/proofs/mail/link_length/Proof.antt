@@ -1,4 +1,3 @@
--- `writer::mail::link_length` meets its contract.
 use borrow.Author.Needs.{needs}
 use native.Mathlib.Omega.{arith}
 use Rattle.writer.proofs.MailLaws.{LinkOf, link-is, link-long}

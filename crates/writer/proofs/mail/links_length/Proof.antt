@@ -1,4 +1,4 @@
--- `writer::mail::links_length` meets its contract: each turn adds the next length.
+-- Each turn adds the next length.
 use borrow.Author.Needs.{needs}
 use mathlib.Core.Path.{_≡_}
 use Prim.Native.Nat.{_-_, _≤_, _<_}
@@ -32,9 +32,7 @@ link-count-requires : tie.Need-link-count-requires Inv-loop μ-loop
 link-count-requires c κs = c .before .pre .0 .sizes
 
 loop-holds : tie.Need-loop-holds Inv-loop μ-loop
-loop-holds c =
-    let a = c .before .before .args in
-    (omega arith, length-none linkBytes (linksIn (a .s) (a .links .now)))
+loop-holds c = (omega arith, length-none _ [])
 
 link-length-requires : tie.Need-link-length-requires Inv-loop μ-loop
 link-length-requires c κs =
@@ -49,22 +47,16 @@ link-length-requires c κs =
 add-total : tie.Need-add-total Inv-loop μ-loop
 add-total c =
     let l = c .before .before .loop in
-    let s = c .before .before .before .before .before in
-    let ls = linksIn (s .args .s) (s .args .links .now) in
-    let all = s .pre .1 .most in
-    omega (
-      arith,
-      length-room linkBytes ls (l .k) [] (within (c .before)) (l .inv .1)
-          (c .link-length .ensures),
-    )
+    let all = c .before .before .before .before .before .pre .1 .most in
+    let room = length-room _ _ (l .k) [] (within (c .before)) (l .inv .1)
+    (c .link-length .ensures) in
+    omega arith
 
 loop-again : tie.Need-loop-again Inv-loop μ-loop
 loop-again c =
-    let l = c .before .before .loop in
-    let a = c .before .before .before .before .before .args in (
+    let l = c .before .before .loop in (
       omega arith,
-      length-next linkBytes (linksIn (a .s) (a .links .now)) (l .k) [] (l .total)
-          (c .link-length .result) (within (c .before)) (l .inv .1) (c .link-length .ensures),
+      length-next _ _ (l .k) [] _ _ (within (c .before)) (l .inv .1) (c .link-length .ensures),
     )
 
 returns : tie.Need-returns Inv-loop μ-loop
@@ -72,7 +64,7 @@ returns c =
     let l = c .before .loop in
     let d = c .before .before in
     let a = d .before .before .args in
-    length-all linkBytes (linksIn (a .s) (a .links .now)) (l .k) (l .total)
+    length-all _ _ (l .k) _
     (omega (arith, d .link-count .ensures, length-links-in (a .s) (a .links .now))) (l .inv .1)
 
 pub links-length-spec : {M : Type 1} → statement M

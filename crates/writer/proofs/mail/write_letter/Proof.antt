@@ -1,4 +1,4 @@
--- `writer::mail::write_letter` meets its contract: its words in their groups, then the records.
+-- Its words in their groups, then the records.
 use borrow.Author.Needs.{needs}
 use Rattle.writer.proofs.MailLaws.{PlaceOf, place-is, letter-put}
 use Rattle.writer.proofs.PutLaws.{put-needs, put-wrote}

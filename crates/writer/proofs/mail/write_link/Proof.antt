@@ -1,4 +1,4 @@
--- `writer::mail::write_link` meets its contract: the count, then the letters.
+-- The count, then the letters.
 use borrow.Author.Needs.{needs}
 use mathlib.Core.Path.{refl, sym, subst}
 use Prim.Native.Nat.{ℕ}

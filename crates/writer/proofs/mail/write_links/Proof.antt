@@ -1,4 +1,4 @@
--- `writer::mail::write_links` meets its contract: at each turn the first k links are written.
+-- At each turn the first k links are written.
 use borrow.Author.Needs.{needs}
 use Prim.Native.Nat.{_-_, _≤_, _<_}
 use native.Mathlib.Omega.{arith}
@@ -32,29 +32,24 @@ link-count-requires c κs = c .before .before .pre .0 .sizes
 
 loop-holds : tie.Need-loop-holds Inv-loop μ-loop
 loop-holds c =
-    let s = c .before .before .before in
-    let a = s .args in
-    let room = s .pre .1 .fits in
-    (omega arith, wrote-none linkBytes (linksIn (a .s) (a .links .now)) _ _ (omega arith))
+    let room = c .before .before .before .pre .1 .fits in
+    (omega arith, wrote-none _ [] _ _ (omega arith))
 
 write-link-requires : tie.Need-write-link-requires Inv-loop μ-loop
 write-link-requires c κs =
     let l = c .before .before .loop in
     let d = c .before .before .before in
-    let s = d .before .before .before in
-    let ls = linksIn (s .args .s) (s .args .links .now) in (
+    let s = d .before .before .before in (
       (s .pre .0, omega (arith, d .link-count .ensures)),
-      room-next linkBytes ls [] (l .k) (within (c .before)) (s .pre .1) (l .inv .1),
+      room-next _ _ [] (l .k) (within (c .before)) (s .pre .1) (l .inv .1),
     )
 
 loop-again : tie.Need-loop-again Inv-loop μ-loop
 loop-again c =
     let e = c .before .before .before .before in
-    let l = e .before .loop in
-    let a = e .before .before .before .before .before .args in (
+    let l = e .before .loop in (
       omega arith,
-      wrote-next linkBytes (linksIn (a .s) (a .links .now)) [] (l .k) (within e) (l .inv .1)
-          (c .before .before .write-link .ensures),
+      wrote-next _ _ [] (l .k) (within e) (l .inv .1) (c .before .before .write-link .ensures),
     )
 
 same-length : tie.Need-same-length Inv-loop μ-loop
@@ -65,7 +60,7 @@ returns c =
     let l = c .before .loop in
     let d = c .before .before in
     let a = d .before .before .before .args in
-    wrote-all linkBytes (linksIn (a .s) (a .links .now)) (l .k)
+    wrote-all _ _ (l .k)
     (omega (arith, d .link-count .ensures, length-links-in (a .s) (a .links .now))) (l .inv .1)
 
 pub write-links-spec : {M : Type 1} → statement M

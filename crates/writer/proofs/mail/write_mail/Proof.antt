@@ -1,4 +1,3 @@
--- `writer::mail::write_mail` meets its contract.
 use borrow.Author.Needs.{needs}
 use Rattle.writer.proofs.EntryLaws.{space-one, entered-one}
 use Rattle.writer.proofs.mail.write_mail.Statement.{statement}
