@@ -4,6 +4,7 @@ use mathlib.Core.Path.{sym, ap, _∙_}
 use native.Mathlib.Omega.{arith}
 use Rattle.values.specs.Faults.{isWhole}
 use Rattle.cells.proofs.StandLaws.{too-short}
+use Rattle.image.specs.Longest.{letterHeadLong}
 use Rattle.image.proofs.CutLaws.{letter-groups-long}
 use Rattle.image.proofs.Lengths.{length-letter}
 use Rattle.image.proofs.HeadedLaws.{groups-asked, headed-none, headed-then}
@@ -13,8 +14,8 @@ use Rattle.checker.proofs.mail.check_letter.Statement.{statement}
 use Rattle.checker.proofs.mail.check_letter.Tie as tie
 
 returns : tie.Need-returns
-returns c = λ y r g w. too-short 20 (c .before .before .pre .0) (c .if1 .taken)
-    (omega (arith, length-letter y)) w
+returns c = λ y r g w. too-short letterHeadLong (c .before .before .pre .0)
+    (c .if1 .taken) (omega (arith, length-letter y)) w
 
 get-groups-requires : tie.Need-get-groups-requires
 get-groups-requires c κs =

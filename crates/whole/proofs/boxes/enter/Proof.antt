@@ -1,4 +1,3 @@
--- `whole::boxes::enter` meets its contract.
 use borrow.Author.Needs.{needs}
 use Prim.Native.Nat.{_-_}
 use native.Mathlib.Omega.{arith}
