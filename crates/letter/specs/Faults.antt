@@ -57,7 +57,7 @@ abbrev pub countFits : Kind → ℕ → ℕ → ℕ → ℕ → ℕ → Bool
 countFits Kind.Collect J first last unagreed count = eqb count 0
 countFits Kind.Last J first last unagreed count =
     heldCount J first last count && (eqb unagreed 0 || fullCount J first last count)
-countFits Kind.Begin J first last unagreed count = eqb count 1
+countFits Kind.Begin J first last unagreed count = eqb count 1 && leb count J
 countFits Kind.Accept J first last unagreed count = eqb count 0
 countFits Kind.Commit J first last unagreed count = agreedCount J first last count
 countFits Kind.Lease J first last unagreed count = eqb count 0

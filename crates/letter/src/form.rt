@@ -87,13 +87,14 @@ fn is_unagreed(k: Kind, unagreed: u64) -> bool
 fn is_count(k: Kind, j: u32, first: u64, last: u64, unagreed: u64, count: u64) -> bool
     ensures { λ r. ⌜ r ≡ countFits k j first last unagreed count ⌝ }
 {
+    let most = j as u64;
     let held = values::is_count(j, first, last, count);
     let agreed = values::is_agreed(j, first, last, count);
     let full = values::is_full(j, first, last, count);
     match k {
         Kind::Collect => count == 0,
         Kind::Last => held & ((unagreed == 0) | full),
-        Kind::Begin => count == 1,
+        Kind::Begin => (count == 1) & (count <= most),
         Kind::Accept => count == 0,
         Kind::Commit => agreed,
         Kind::Lease => count == 0,

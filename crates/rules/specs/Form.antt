@@ -65,7 +65,7 @@ formKind Kind.Last J pn last first unagreed count =
     firstForm first last && countForm J first last count
     && (eqb unagreed 0 || eqb (first + count) (last + 2))
 formKind Kind.Begin J pn last first unagreed count =
-    firstForm first last && eqb count 1 && ltb last mostNumber && eqb unagreed 0
+    firstForm first last && (eqb count 1 && leb count J) && ltb last mostNumber && eqb unagreed 0
 formKind Kind.Accept J pn last first unagreed count = bare first unagreed count
 formKind Kind.Commit J pn last first unagreed count =
     firstForm first last && eqb (first + count) (last + 1) && leb count J && eqb unagreed 0
