@@ -5,9 +5,9 @@ use mathlib.Core.Path.{_≡_, refl, sym, _∙_, subst}
 use mathlib.Core.Bool.{Bool, true, false, _&&_, _||_, cond}
 use mathlib.Core.List.{List, [], _∷_, _++_, tail}
 use native.Mathlib.Omega.{arith}
-use lib.Dec.{T, eqb}
+use lib.Dec.{T, eqb, ltb}
 use lib.ListN.{length, getD, take, drop}
-use borrow.Author.Tests.{eqb-true, eqb-false, eq-eqb}
+use borrow.Author.Tests.{eqb-true, eqb-false, eq-eqb, ltb-true, ltb-false}
 use Rattle.rules.specs.Pick.{pick}
 use Rattle.rules.specs.Every.{all, each, every}
 use Rattle.rules.specs.Site.{twice}
@@ -47,6 +47,13 @@ same? i j = go (decide (eqb i j))
     go : Or (eqb i j ≡ true) (eqb i j ≡ false) → Or (i ≡ j) (i ≡ j → ⊥)
     go (left e) = left (eqb-yes i j e)
     go (right e) = right (eqb-no i j e)
+
+pub below? : (i j : ℕ) → Or (i < j) (j ≤ i)
+below? i j = go (decide (ltb i j))
+  where
+    go : Or (ltb i j ≡ true) (ltb i j ≡ false) → Or (i < j) (j ≤ i)
+    go (left e) = left (ltb-true i j e)
+    go (right e) = right (ltb-false i j e)
 
 -- ---- two tests
 
