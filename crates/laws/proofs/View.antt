@@ -2,7 +2,7 @@
 -- a letter by its kind; and how what outlives a stop changes, said number by number. These are
 -- readings of the one model, not a second one: no rule stands here.
 use Prim.Native.Nat.{ℕ, _+_, _-_, _≤_, _<_, max}
-use mathlib.Core.Path.{_≡_, refl, ap, _∙_}
+use mathlib.Core.Path.{_≡_, ap, _∙_}
 use mathlib.Core.List.{List, [], _∷_, _++_}
 use native.Mathlib.Omega.{arith}
 use lib.Dec.{ltb}
@@ -154,7 +154,7 @@ at-dropped f d g rs k e h =
 -- those of f to l stay, but for d of them, and others follow
 module _ (f l d g : ℕ) (rs others : List ℕ) (e : f + d ≡ g) (top : g ≤ l + 1)
     (all : l + 1 ≤ f + length rs) where
-  abbrev front : List ℕ
+  abbrev pub front : List ℕ
   front = drop d (take (span f l) rs)
 
   front-length : g + length front ≡ l + 1
@@ -315,7 +315,7 @@ took-book P F L k whole more none =
     (λ d. none h (ltb-false (k .last) L d)))
 
 module _ (F L : ℕ) (ms : List ℕ) (a : Store) (shape : Shaped a) where
-  abbrev low : ℕ
+  abbrev pub low : ℕ
   low = higher (a .first) F
 
   pub took-first : took F L ms a .first ≡ max (a .first) F
