@@ -16,7 +16,8 @@ use Rattle.rules.specs.Parts.{span, higher, dropped, tookBook}
 use Rattle.rules.specs.Box.{Box, Letter, heldAt, recordAt, written}
 use Rattle.laws.proofs.Types.{Book, Held, Kept, Kind}
 use Rattle.laws.proofs.Logic.{Or, left, right, below?, pick-elim}
-use Rattle.laws.proofs.FormLaws.{FormedBox, FormedLast, FormedCommit}
+use Rattle.laws.proofs.FormLaws.{FormedFirst, HeldCount, FormedBox, FormedLast}
+use Rattle.laws.proofs.FormLaws.{FormedCommit}
 
 -- promised pn, last agreed number, first kept number, records, stored pn and stored number
 pub record Store : Type 0 where
@@ -27,15 +28,18 @@ pub record Store : Type 0 where
   pub storedPn : ℕ
   pub storedNumber : ℕ
 
-abbrev pub store : Box → Store
-store x = record {
-  pn = x .head .kept .pn;
-  last = x .head .kept .last;
-  first = x .head .kept .first;
-  records = x .records;
-  storedPn = x .head .kept .stored .pn;
-  storedNumber = x .head .kept .stored .number;
+abbrev pub storeOf : Kept → List ℕ → Store
+storeOf k rs = record {
+  pn = k .pn;
+  last = k .last;
+  first = k .first;
+  records = rs;
+  storedPn = k .stored .pn;
+  storedNumber = k .stored .number;
 }
+
+abbrev pub store : Box → Store
+store x = storeOf (x .head .kept) (x .records)
 
 -- .. as the rules have it
 abbrev pub kept : Store → Kept
@@ -74,23 +78,22 @@ pub record Spans (first last : ℕ) (rs : List ℕ) : Type 0 where
 abbrev pub Shaped : Store → Type 0
 Shaped a = Spans (a .first) (a .last) (a .records)
 
-pub shaped : {n J b : ℕ} {x : Box} → FormedBox n J b x → Shaped (store x)
-shaped f = record {
-  some = f .first .some;
-  top = omega (arith, f .first .top);
-  all = f .held .all;
-  next = f .held .next;
+-- so a box by form has it, and a Last and a Commit, of a sender that keeps from F on
+pub spans : {J first last : ℕ} {rs : List ℕ} → FormedFirst first last
+    → HeldCount J first last (length rs) → Spans first last rs
+spans f h = record {
+  some = f .some;
+  top = omega (arith, f .top);
+  all = h .all;
+  next = h .next;
 }
 
--- .. and what a Last and a Commit bring, of a sender that keeps from F on
+pub shaped : {n J b : ℕ} {x : Box} → FormedBox n J b x → Shaped (store x)
+shaped f = spans (f .first) (f .held)
+
 pub last-spans : {J last F unagreed : ℕ} {ms : List ℕ}
     → FormedLast J last F unagreed (length ms) → Spans F last ms
-last-spans f = record {
-  some = f .first .some;
-  top = omega (arith, f .first .top);
-  all = f .held .all;
-  next = f .held .next;
-}
+last-spans f = spans (f .first) (f .held)
 
 pub commit-spans : {J last F unagreed : ℕ} {ms : List ℕ}
     → FormedCommit J last F unagreed (length ms) → Spans F last ms
@@ -325,7 +328,7 @@ module _ (F L : ℕ) (ms : List ℕ) (a : Store) (shape : Shaped a) where
   took-last = higher-max (a .last) L
 
   -- the records after each case
-  took-cases : (P : List ℕ → Type 0)
+  pub took-cases : (P : List ℕ → Type 0)
       → (a .last + 1 < F → P (take (span F L) ms))
       → (F ≤ a .last + 1 → a .last < L
       → P (drop (low - a .first) (take (span (a .first) (a .last)) (a .records))
@@ -362,7 +365,7 @@ module _ (F L : ℕ) (ms : List ℕ) (a : Store) (shape : Shaped a) where
         (λ e m. absurd (omega (arith, m, t, u)))
 
     -- so many are held then
-    took-more : a .last < L → low + length (took F L ms a .records) ≡ L + 1
+    pub took-more : a .last < L → low + length (took F L ms a .records) ≡ L + 1
     took-more h =
         took-cases (λ rs. low + length rs ≡ L + 1)
         (λ e. rw length-take (omega (arith, took-first, shape .top, e, sent .all)))
@@ -372,7 +375,7 @@ module _ (F L : ℕ) (ms : List ℕ) (a : Store) (shape : Shaped a) where
         ∙ simp (length-drop, length-take) (omega (arith, e, m, sent .all)))
         (λ e m. absurd (omega (arith, m, h)))
 
-    took-none : L ≤ a .last
+    pub took-none : L ≤ a .last
         → low + length (took F L ms a .records) ≡ a .first + length (a .records)
     took-none h =
         took-cases (λ rs. low + length rs ≡ a .first + length (a .records))
