@@ -396,7 +396,8 @@ kind-made Kind.Begin J pn last first u count h =
 kind-made Kind.Accept J pn last first u count h = bare-made first u count h
 kind-made Kind.Commit J pn last first u count h =
     and-both
-    (and-both (and-both (first-made (h .first)) (eq-eqb (first + count) (last + 1) (h .all-records)))
+    (and-both
+    (and-both (first-made (h .first)) (eq-eqb (first + count) (last + 1) (h .all-records)))
     (le-leb count J (h .room)))
     (eq-eqb u 0 (h .no-unagreed))
 kind-made Kind.Lease J pn last first u count h =

@@ -18,8 +18,8 @@ use Rattle.rules.specs.Step.{elect, presented, step, run}
 use Rattle.laws.proofs.Types.{Act, BoxState, Call, Held, Kind, Setting, Turn}
 use Rattle.laws.proofs.Logic.{cond-elim, pick-elim}
 use Rattle.laws.proofs.FrameLaws.{upd-all}
-use Rattle.laws.proofs.View.{Store, store, at, Shaped, shaped, higher-max, trimmed, stored}
-use Rattle.laws.proofs.View.{took, Raises, trimmed-at, stored-at, took-old}
+use Rattle.laws.proofs.View.{Store, store, at, Shaped, shaped, higher-max, promised, agreed}
+use Rattle.laws.proofs.View.{trimmed, stored, took, Raises, trimmed-at, stored-at, took-old}
 use Rattle.laws.proofs.Conditions.{go-unless, can-trim}
 use Rattle.laws.proofs.StepLaws.{by-verdict, by-step}
 
@@ -40,6 +40,12 @@ grows-trans {a} {b} {c} g h = record {
   same = λ k f t.
       h .same k f (omega (arith, t, g .up)) ∙ g .same k (omega (arith, f, h .first)) t;
 }
+
+pub grows-promised : (a : Store) (q : ℕ) → Grows a (promised q a)
+grows-promised a q = record { up = omega arith; first = omega arith; same = λ k h t. refl }
+
+pub grows-agreed : (a : Store) → Grows a (agreed a)
+grows-agreed a = record { up = omega arith; first = omega arith; same = λ k h t. refl }
 
 module _ (a : Store) (shape : Shaped a) where
   -- first becomes g
@@ -80,12 +86,13 @@ module _ (s : Setting) (x : Box) (shape : Shaped (store x)) where
   grow-started : (b : BoxState) (r : ℕ) → b .kept ≡ x .head .kept → Turning x [] (started b s r)
   unfolding started written
   grow-started b r e =
-      rw e (grows-stored (store x) shape 0 (x .head .kept .first) (omega arith) (x .head .kept .pn) r)
+      rw e
+      (grows-stored (store x) shape 0 (x .head .kept .first) (omega arith) (x .head .kept .pn) r)
 
   grow-act : (a : Act) → Turning x [] (acted a (x .head) s (mine x))
   unfolding acted recover collect ready offer propose agree finish trim leased written
   grow-act Act.Recover =
-      by-verdict (Turning x []) _ _ _ (λ a. stays) (λ go. record { up = omega arith; first = omega arith; same = λ k h t. refl })
+      by-verdict (Turning x []) _ _ _ (λ a. stays) (λ go. grows-promised (store x) _)
   grow-act Act.Collect = by-verdict (Turning x []) _ _ _ (λ a. stays) (λ go. stays)
   grow-act Act.Ready =
       by-verdict (Turning x []) _ _ _ (λ a. stays)
@@ -95,7 +102,7 @@ module _ (s : Setting) (x : Box) (shape : Shaped (store x)) where
   grow-act Act.Propose =
       by-verdict (Turning x []) _ _ _ (λ a. stays) (λ go. grow-started _ (x .head .waiting) refl)
   grow-act Act.Agree =
-      by-verdict (Turning x []) _ _ _ (λ a. stays) (λ go. record { up = omega arith; first = omega arith; same = λ k h t. refl })
+      by-verdict (Turning x []) _ _ _ (λ a. stays) (λ go. grows-agreed (store x))
   grow-act Act.Finish = by-verdict (Turning x []) _ _ _ (λ a. stays) (λ go. stays)
   grow-act (Act.Trim k) =
       by-verdict (Turning x []) _ _ _ (λ a. stays)
@@ -126,7 +133,7 @@ module _ (s : Setting) (x : Box) (shape : Shaped (store x)) where
         → Mailed (ofKind k (x .head) s a (y .head) (getD (y .records) 0 0) (nextOf y) (mine x))
     unfolding ofKind onCollect onLast onBegin onAccept onCommit onLease heard tookKept written
     grow-kind Kind.Collect =
-        by-verdict Mailed _ _ _ (λ a. stays) (λ go. record { up = omega arith; first = omega arith; same = λ k h t. refl })
+        by-verdict Mailed _ _ _ (λ a. stays) (λ go. grows-promised (store x) _)
     grow-kind Kind.Last =
         by-verdict Mailed _ _ _ (λ a. stays) (λ go. grow-replied _ _ _ took-records)
     grow-kind Kind.Begin =

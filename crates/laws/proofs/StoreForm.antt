@@ -205,7 +205,8 @@ module _ {J : ℕ} {k : Kept} {rs : List ℕ} (f : KeptForm J k rs) where
           omega (arith, sent .next, room),
         ))
         (λ e m. let up = raises-to (storeOf k rs) kept-shaped F e in
-        let own : k .first + span (k .first) (k .last) ≡ k .last + 1 = omega (arith, f .first .top) in
+        let own : k .first + span (k .first) (k .last) ≡ k .last + 1
+        = omega (arith, f .first .top) in
         let theirs : F + span F (k .last) ≡ k .last + 1 = omega (arith, e) in
         let all : F + span F L ≡ L + 1 = omega (arith, e, m) in
         let within : higher (k .first) F - k .first ≤ span (k .first) (k .last)

@@ -2,7 +2,7 @@
 use Prim.Native.Nat.{ℕ, _+_, _≤_, _<_, max, min}
 use mathlib.Core.Path.{_≡_, refl}
 use mathlib.Core.Bool.{true}
-use mathlib.Core.List.{List, [], _∷_}
+use mathlib.Core.List.{List, []}
 use native.Mathlib.Omega.{arith}
 use lib.Dec.{ltb}
 use lib.ListN.{length, getD, take, length-take}
@@ -84,7 +84,8 @@ commit-letter {J} {k} {rs} pn f p = record {
   last = f .last;
 }
   where
-    size : length (take (span (k .first) (k .last)) rs) ≡ min (span (k .first) (k .last)) (length rs)
+    size : length (take (span (k .first) (k .last)) rs)
+        ≡ min (span (k .first) (k .last)) (length rs)
     size = length-take (span (k .first) (k .last)) rs
 
 -- two frame numbers of 32 bits, neither 0
@@ -386,7 +387,8 @@ module _ (s : Setting) (x : Box) (f : FormedBox (s .n) (s .j) (s .me) x) (few : 
         })
 
     -- the lasts are the same, and so first is raised to no more than last+1
-    begin-heard : Kinded Kind.Begin → Heard (onBegin (x .head) s a (y .head) (getD (y .records) 0 0))
+    begin-heard : Kinded Kind.Begin
+        → Heard (onBegin (x .head) s a (y .head) (getD (y .records) 0 0))
     unfolding onBegin written enclosed
     begin-heard h =
         settled-fits _ _ _

@@ -154,6 +154,11 @@ pub at-dropped : (f d g : ℕ) (rs : List ℕ) (k : ℕ) → f + d ≡ g → g �
 at-dropped f d g rs k e h =
     getD-drop d rs (k - g) 0 ∙ ap (λ (i : ℕ). getD rs i 0) (omega (arith, e, h))
 
+-- those of f to l, as in a Commit
+pub at-taken : (f l : ℕ) (rs : List ℕ) (k : ℕ) → f ≤ k → k ≤ l
+    → recordAt f (take (span f l) rs) k ≡ recordAt f rs k
+at-taken f l rs k h t = getD-take (span f l) rs (k - f) 0 (omega (arith, h, t))
+
 -- those of f to l stay, but for d of them, and others follow
 module _ (f l d g : ℕ) (rs others : List ℕ) (e : f + d ≡ g) (top : g ≤ l + 1)
     (all : l + 1 ≤ f + length rs) where
@@ -170,7 +175,7 @@ module _ (f l d g : ℕ) (rs others : List ℕ) (e : f + d ≡ g) (top : g ≤ l
   front-at k h t =
       List·getD-append front others 0 (k - g) (omega (arith, front-length, h, t))
       ∙ at-dropped f d g (take (span f l) rs) k e h
-      ∙ getD-take (span f l) rs (k - f) 0 (omega (arith, e, h, t))
+      ∙ at-taken f l rs k (omega (arith, e, h)) t
 
   pub front-after : (k : ℕ) → l < k
       → recordAt g (front ++ others) k ≡ getD others (k - (l + 1)) 0
@@ -184,6 +189,17 @@ abbrev pub promised : ℕ → Store → Store
 promised q a = record {
   pn = q;
   last = a .last;
+  first = a .first;
+  records = a .records;
+  storedPn = a .storedPn;
+  storedNumber = a .storedNumber;
+}
+
+-- last+1 is agreed
+abbrev pub agreed : Store → Store
+agreed a = record {
+  pn = a .pn;
+  last = a .last + 1;
   first = a .first;
   records = a .records;
   storedPn = a .storedPn;
@@ -229,6 +245,18 @@ pub record Raises (a : Store) (d g : ℕ) : Type 0 where
   pub top : g ≤ a .last + 1
 
 module _ (a : Store) (shape : Shaped a) where
+  -- last+1 was held; then none is beyond last
+  pub agreed-shaped : HeldNext a → Shaped (agreed a)
+  agreed-shaped h = record {
+    some = shape .some;
+    top = omega (arith, shape .top);
+    all = omega (arith, shape .top, h);
+    next = omega (arith, shape .next);
+  }
+
+  pub agreed-held : HeldNext (agreed a) → ⊥
+  agreed-held h = omega (arith, shape .top, shape .next, h)
+
   -- not at all: a leader's start
   pub raises-none : Raises a 0 (a .first)
   raises-none = record { by = omega arith; top = shape .top }
@@ -355,13 +383,13 @@ module _ (F L : ℕ) (ms : List ℕ) (a : Store) (shape : Shaped a) where
         took-cases (λ rs. recordAt low rs k ≡ recordAt F ms k)
         (λ e. let from : low ≡ F = omega (arith, took-first, shape .top, e) in
         ap (λ (g : ℕ). recordAt g (take (span F L) ms) k) from
-        ∙ getD-take (span F L) ms (k - F) 0 (omega (arith, from, h, u)))
+        ∙ at-taken F L ms k (omega (arith, from, h)) u)
         (λ e m. let up = raises-to a shape F e in
         front-after (a .first) (a .last) (low - a .first) low (a .records) _
         (up .by) (up .top) (shape .all) k t
         ∙ getD-drop (span F (a .last)) (take (span F L) ms) (k - (a .last + 1)) 0
         ∙ ap (λ (i : ℕ). getD (take (span F L) ms) i 0) (omega (arith, e, t))
-        ∙ getD-take (span F L) ms (k - F) 0 (omega (arith, e, t, u)))
+        ∙ at-taken F L ms k (omega (arith, e, t)) u)
         (λ e m. absurd (omega (arith, m, t, u)))
 
     -- so many are held then
