@@ -2,7 +2,7 @@
 -- a letter by its kind; and how what outlives a stop changes, said number by number. These are
 -- readings of the one model, not a second one: no rule stands here.
 use Prim.Native.Nat.{ℕ, _+_, _-_, _≤_, _<_, max}
-use mathlib.Core.Path.{_≡_, ap, _∙_}
+use mathlib.Core.Path.{_≡_, sym, ap, _∙_, subst}
 use mathlib.Core.List.{List, [], _∷_, _++_}
 use native.Mathlib.Omega.{arith}
 use lib.Dec.{ltb}
@@ -391,6 +391,20 @@ module _ (F L : ℕ) (ms : List ℕ) (a : Store) (shape : Shaped a) where
         ∙ ap (λ (i : ℕ). getD (take (span F L) ms) i 0) (omega (arith, e, t))
         ∙ at-taken F L ms k (omega (arith, e, t)) u)
         (λ e m. absurd (omega (arith, m, t, u)))
+
+    -- in one: every number that is kept as agreed then was kept so by one of the two before
+    pub took-each {κ} : (P : ℕ → ℕ → Type κ)
+        → ((k : ℕ) → a .first ≤ k → k ≤ a .last → P k (at a k))
+        → ((k : ℕ) → F ≤ k → k ≤ L → P k (recordAt F ms k))
+        → (k : ℕ) → low ≤ k → k ≤ higher (a .last) L → P k (at (took F L ms a) k)
+    took-each P own theirs k h t = go (below? (a .last) k)
+      where
+        go : Or (a .last < k) (k ≤ a .last) → P k (at (took F L ms a) k)
+        go (left e) =
+            let u : k ≤ L = omega (arith, took-last, e, t) in
+            subst (P k) (sym (took-new k h e u)) (theirs k (omega (arith, took-first, h)) u)
+        go (right e) =
+            subst (P k) (sym (took-old k h e)) (own k (omega (arith, took-first, h)) e)
 
     -- so many are held then
     pub took-more : a .last < L → low + length (took F L ms a .records) ≡ L + 1
