@@ -290,9 +290,10 @@ pub record FormedLast (J last F unagreed count : ℕ) : Type 0 where
   pub held : HeldCount J F last count
   pub under : Or (unagreed ≡ 0) (F + count ≡ last + 2)
 
-pub record FormedBegin (last F unagreed count : ℕ) : Type 0 where
+pub record FormedBegin (J last F unagreed count : ℕ) : Type 0 where
   pub first : FormedFirst F last
   pub one-record : count ≡ 1
+  pub fits : count ≤ J
   pub room : last < mostNumber
   pub no-unagreed : unagreed ≡ 0
 
@@ -309,7 +310,7 @@ pub record FormedLease (pn first unagreed count : ℕ) : Type 0 where
 abbrev pub FormedKind : Kind → ℕ → ℕ → ℕ → ℕ → ℕ → ℕ → Type 0
 FormedKind Kind.Collect J pn last first unagreed count = Bare first unagreed count
 FormedKind Kind.Last J pn last first unagreed count = FormedLast J last first unagreed count
-FormedKind Kind.Begin J pn last first unagreed count = FormedBegin last first unagreed count
+FormedKind Kind.Begin J pn last first unagreed count = FormedBegin J last first unagreed count
 FormedKind Kind.Accept J pn last first unagreed count = Bare first unagreed count
 FormedKind Kind.Commit J pn last first unagreed count = FormedCommit J last first unagreed count
 FormedKind Kind.Lease J pn last first unagreed count = FormedLease pn first unagreed count
@@ -346,12 +347,17 @@ kind-says Kind.Last J pn last first u count e =
     go (left h) = left (eqb-yes u 0 h)
     go (right h) = right (eqb-yes (first + count) (last + 2) h)
 kind-says Kind.Begin J pn last first u count e =
-    let p = and4 _ _ _ _ e in
+    let one = eqb count 1 && leb count J in
+    let p = and-yes (firstForm first last && one && ltb last mostNumber) (eqb u 0) e in
+    let q = and-yes (firstForm first last && one) (ltb last mostNumber) (p .0) in
+    let r = and-yes (firstForm first last) one (q .0) in
+    let t = and-yes (eqb count 1) (leb count J) (r .1) in
     record {
-      first = first-says (p .0);
-      one-record = eqb-yes count 1 (p .1);
-      room = ltb-true last mostNumber (p .2);
-      no-unagreed = eqb-yes u 0 (p .3);
+      first = first-says (r .0);
+      one-record = eqb-yes count 1 (t .0);
+      fits = leb-true count J (t .1);
+      room = ltb-true last mostNumber (q .1);
+      no-unagreed = eqb-yes u 0 (p .1);
     }
 kind-says Kind.Accept J pn last first u count e = bare-says first u count e
 kind-says Kind.Commit J pn last first u count e =
@@ -380,7 +386,9 @@ kind-made Kind.Last J pn last first u count h =
     go (right e) = or-right (eqb u 0) (eq-eqb (first + count) (last + 2) e)
 kind-made Kind.Begin J pn last first u count h =
     and-both
-    (and-both (and-both (first-made (h .first)) (eq-eqb count 1 (h .one-record)))
+    (and-both
+    (and-both (first-made (h .first))
+    (and-both (eq-eqb count 1 (h .one-record)) (le-leb count J (h .fits))))
     (lt-ltb last mostNumber (h .room)))
     (eq-eqb u 0 (h .no-unagreed))
 kind-made Kind.Accept J pn last first u count h = bare-made first u count h

@@ -182,6 +182,7 @@ module _ (s : Setting) (x : Box) (f : FormedBox (s .n) (s .j) (s .me) x) (few : 
         kind = record {
           first = k .first;
           one-record = refl;
+          fits = one;
           room = room .number;
           no-unagreed = refl;
         };
@@ -196,6 +197,9 @@ module _ (s : Setting) (x : Box) (f : FormedBox (s .n) (s .j) (s .me) x) (few : 
     where
       none : Raises (store x) 0 (x .head .kept .first)
       none = raises-none (store x) (kept-shaped k)
+
+      one : 1 ≤ s .j
+      one = omega (arith, room .records, none .top)
 
       here : at (stored 0 (x .head .kept .first) (x .head .kept .pn) r (store x))
           (x .head .kept .last + 1) ≡ r
