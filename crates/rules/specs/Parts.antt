@@ -44,8 +44,8 @@ dropped F k = higher (k .first) F - k .first
 unfoldable pub tookKept : ℕ → ℕ → Kept → Kept
 tookKept F L k = keeping (higher (k .first) F) (lasting (higher (k .last) L) k)
 
--- .. and what becomes of the book: "if the sender's first lies above the receiver's last+1, it takes
--- the sender's agreed records whole" (Q-4)
+-- .. and what becomes of the book: "if the sender's first lies above the receiver's last+1, it
+-- takes the sender's agreed records whole" (Q-4)
 unfoldable pub tookBook : ℕ → ℕ → Kept → Book
 tookBook F L k =
     pick (ltb (k .last + 1) F) (Book.Take 0 0 0 (span F L))
@@ -53,7 +53,8 @@ tookBook F L k =
     (Book.Take (dropped F k) (span (k .first) (k .last)) (span F (k .last)) (span F L))
     (Book.Drop (dropped F k)))
 
--- last+1 needs no record beyond J, and does not pass 1,000,000,000 (refusal 7 where this fails, Q-4)
+-- last+1 needs no record beyond J, and does not pass 1,000,000,000 (refusal 7 where this fails,
+-- Q-4)
 unfoldable pub roomNext : ℕ → ℕ → ℕ → Bool
 roomNext J first last = leb (last + 2) (J + first) && ltb last mostNumber
 

@@ -1,5 +1,5 @@
--- "Steps": what a box does by itself, for its own part, and what an election makes of a box. Each has
--- its condition (refusal 3) and its turn. All of them need an even epoch.
+-- "Steps": what a box does by itself, for its own part, and what an election makes of a box. Each
+-- has its condition (refusal 3) and its turn. All of them need an even epoch.
 use Prim.Native.Nat.{ℕ, _+_}
 use mathlib.Core.Bool.{Bool, not, _&&_, _||_}
 use lib.Count.{ones}

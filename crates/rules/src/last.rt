@@ -181,15 +181,16 @@ impl BoxState {
         requires { ⌜ s .me ≤ mostBoxes ⌝ }
         ensures { λ t. ⌜ t ≡ onLast self s sender m next ⌝ }
     {
+        let k = self.kept;
+        let book = k.take_book(m.first, m.last);
         let v = self.judge_last(s, m);
         let told = self.hear(sender, m);
         let b = told.answer(s.me, sender, m, next);
-        let k = self.kept;
         let known = self.peers;
         let took = k.take(m.first, m.last);
         let to = laggards(note(known, sender, m.last), took.last, s);
         let commit = turns::mail_from(took.first, Kind::Commit, k.pn, took.last, 0);
-        let t = b.takes(k.take_book(m.first, m.last), Out::To(to, commit));
+        let t = b.takes(book, Out::To(to, commit));
         self.settle(v, t)
     }
 }

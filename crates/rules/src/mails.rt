@@ -94,7 +94,8 @@ impl BoxState {
         let k = self.kept;
         let last = k.last;
         let agreed = parts::span(k.first, last);
-        let kept = k.store(m.pn, last + 1).keep(parts::higher(k.first, m.first));
+        let kept = k.store(m.pn, last + 1)
+            .keep(parts::higher(k.first, m.first));
         let v = self.judge_begin(s, m);
         let b = BoxState {
             state: State::Updating,

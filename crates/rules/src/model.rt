@@ -141,8 +141,9 @@ pub enum Act {
     Trim(u32),
 }
 
-// What becomes of a box's records. Drop(d): the first d leave. Put(d, a, r): of the first a all but d
-// stay, then r. Take(d, a, b, e): of the first a all but d stay, then the mail's but b of its first e.
+// What becomes of a box's records. Drop(d): the first d leave. Put(d, a, r): of the first a all but
+// d stay, then r. Take(d, a, b, e): of the first a all but d stay, then the mail's but b of its
+// first e.
 pub enum Book {
     Keep,
     Drop(u32),

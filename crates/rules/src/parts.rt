@@ -41,7 +41,7 @@ pub(crate) fn larger(a: u32, b: u32) -> u32
 
 // Its own, or theirs where that is higher.
 pub(crate) fn higher(own: u32, theirs: u32) -> u32
-    ensures { λ r. ⌜ (r ≡ higher own theirs) × (own ≤ r) × (theirs ≤ r) ⌝ }
+    ensures { λ r. ⌜ (r ≡ higher own theirs) × (own ≤ r) ⌝ }
 {
     if own < theirs { theirs } else { own }
 }
