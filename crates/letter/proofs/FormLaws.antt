@@ -170,10 +170,10 @@ module _ (J pn last first unagreed count : ℕ) where
           (λ q. either-second (eqb unagreed 0) (fullCount J first last count) q))
   kind-fits Kind.Begin g p u l =
       let three = first-of
-            (firstForm first last && (eqb count 1 && leb count J) && ltb last mostNumber)
-            (eqb unagreed 0) g in
+      (firstForm first last && (eqb count 1 && leb count J) && ltb last mostNumber)
+      (eqb unagreed 0) g in
       let two = first-of (firstForm first last && (eqb count 1 && leb count J))
-            (ltb last mostNumber) three in
+      (ltb last mostNumber) three in
       record {
         pn-fits = p;
         last-fits = second-of (firstForm first last && (eqb count 1 && leb count J))
@@ -195,7 +195,7 @@ module _ (J pn last first unagreed count : ℕ) where
       }
   kind-fits Kind.Commit g p u l =
       let three = first-of
-            (firstForm first last && eqb (first + count) (last + 1) && leb count J) _ g in
+      (firstForm first last && eqb (first + count) (last + 1) && leb count J) _ g in
       let two = first-of (firstForm first last && eqb (first + count) (last + 1)) _ three in
       let f = first-of (firstForm first last) _ two in
       let s = eqb-true (first + count) (last + 1) (second-of (firstForm first last) _ two) in

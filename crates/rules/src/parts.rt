@@ -47,7 +47,7 @@ pub(crate) fn higher(own: u32, theirs: u32) -> u32
 }
 
 // How many numbers there are from first to last.
-pub(crate) fn span(first: u32, last: u32) -> u32
+pub fn span(first: u32, last: u32) -> u32
     requires { ⌜ (last ≤ mostNumber) × (first ≤ last + 1) ⌝ }
     ensures { λ r. ⌜ r ≡ span first last ⌝ }
 {

@@ -37,8 +37,8 @@ first-says first last e =
     let one = leb-true 1 first (first-of (leb 1 first) _ e) in (
       one,
       either-of (eqb first 1) (leb first last) (second-of (leb 1 first) _ e)
-      (λ t. let q = eqb-true first 1 t in omega arith)
-      (λ t. let q = leb-true first last t in omega arith),
+          (λ t. let q = eqb-true first 1 t in omega arith)
+          (λ t. let q = leb-true first last t in omega arith),
     )
 
 module _ (J f l more count : ℕ) where
@@ -114,19 +114,19 @@ module _ (J first last count : ℕ) where
           let s : first + count ≡ last + 2 = omega (arith, c .sum) in
           rw (
             either-second (eqb (first + count) (last + 1))
-            (eqb (first + count) (last + 2) && ltb last mostNumber)
-            (rw (eq-eqb (first + count) (last + 2) s, lt-ltb last mostNumber (full-says t .1)) refl),
+                (eqb (first + count) (last + 2) && ltb last mostNumber)
+                (rw (eq-eqb (first + count) (last + 2) s, lt-ltb last mostNumber (full-says t .1)) refl),
             le-leb count J (c .room),
           ))
 
       from : countForm J first last count ≡ true → heldCount J first last count ≡ true
       from e =
           let way = first-of
-                (eqb (first + count) (last + 1)
-                || (eqb (first + count) (last + 2) && ltb last mostNumber)) _ e in
+          (eqb (first + count) (last + 1)
+          || (eqb (first + count) (last + 2) && ltb last mostNumber)) _ e in
           let room = leb-true count J (second-of
-                (eqb (first + count) (last + 1)
-                || (eqb (first + count) (last + 2) && ltb last mostNumber)) _ e) in
+          (eqb (first + count) (last + 1)
+          || (eqb (first + count) (last + 2) && ltb last mostNumber)) _ e) in
           either-of (eqb (first + count) (last + 1)) _ way
           (λ t.
           let s = eqb-true (first + count) (last + 1) t in

@@ -17,10 +17,10 @@ copy-part-requires c κs =
     let start = agreed .before .before .before in
     let m = start .args .m in
     let ef = from .enclosed-from .ensures
-          ∙ ap (λ (a : ℕ). enclosedFrom (m .kind) a) (agreed .agreed .ensures) in
+    ∙ ap (λ (a : ℕ). enclosedFrom (m .kind) a) (agreed .agreed .ensures) in
     let ec = count .enclosed-count .ensures
-          ∙ ap (λ (a : ℕ). enclosedCount (m .kind) a (length (start .args .records .now)))
-          (agreed .agreed .ensures) in
+    ∙ ap (λ (a : ℕ). enclosedCount (m .kind) a (length (start .args .records .now)))
+    (agreed .agreed .ensures) in
     let h = start .pre .held in
     let r = start .pre .room in
     search needs

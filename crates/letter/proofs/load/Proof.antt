@@ -34,12 +34,13 @@ number-requires-4 c κs = search needs
 
 returns : tie.Need-returns
 returns c =
-    simp
-    (c .number4 .ensures,
-    c .before .before .number3 .ensures,
-    c .before .before .before .before .number2 .ensures,
-    c .before .before .before .before .before .before .number .ensures,
-    c .before .before .before .before .before .before .before .before .kind-of .ensures)
+    simp (
+      c .number4 .ensures,
+      c .before .before .number3 .ensures,
+      c .before .before .before .before .number2 .ensures,
+      c .before .before .before .before .before .before .number .ensures,
+      c .before .before .before .before .before .before .before .before .kind-of .ensures,
+    )
 
 pub load-spec : {M : Type 1} → statement M
 load-spec =

@@ -10,9 +10,10 @@ is-full-requires c κs = search needs
 
 returns : tie.Need-returns
 returns c =
-    simp
-    (c .is-full .ensures,
-    c .before .is-agreed .ensures)
+    simp (
+      c .is-full .ensures,
+      c .before .is-agreed .ensures,
+    )
 
 pub is-count-spec : {M : Type 1} → statement M
 is-count-spec = tie.close (tie.spec is-agreed-requires is-full-requires returns)

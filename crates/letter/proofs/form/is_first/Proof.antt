@@ -25,39 +25,45 @@ enum-told-6 c = search needs
 
 returns : tie.Need-returns
 returns c =
-    simp
-    (c .enum-told .given .1,
-    c .before .before .is-first .ensures)
+    simp (
+      c .enum-told .given .1,
+      c .before .before .is-first .ensures,
+    )
 
 returns-2 : tie.Need-returns-2
 returns-2 c =
-    simp
-    (c .enum-told2 .given .1,
-    c .before .before .is-first .ensures)
+    simp (
+      c .enum-told2 .given .1,
+      c .before .before .is-first .ensures,
+    )
 
 returns-3 : tie.Need-returns-3
 returns-3 c =
-    simp
-    (c .enum-told3 .given .1,
-    c .before .before .is-first .ensures)
+    simp (
+      c .enum-told3 .given .1,
+      c .before .before .is-first .ensures,
+    )
 
 returns-4 : tie.Need-returns-4
 returns-4 c =
-    simp
-    (c .enum-told4 .given .1,
-    c .before .before .is-first .ensures)
+    simp (
+      c .enum-told4 .given .1,
+      c .before .before .is-first .ensures,
+    )
 
 returns-5 : tie.Need-returns-5
 returns-5 c =
-    simp
-    (c .enum-told5 .given .1,
-    c .before .before .is-first .ensures)
+    simp (
+      c .enum-told5 .given .1,
+      c .before .before .is-first .ensures,
+    )
 
 returns-6 : tie.Need-returns-6
 returns-6 c =
-    simp
-    (c .enum-told6 .given .1,
-    c .before .before .is-first .ensures)
+    simp (
+      c .enum-told6 .given .1,
+      c .before .before .is-first .ensures,
+    )
 
 pub is-first-spec : {M : Type 1} → statement M
 is-first-spec =
