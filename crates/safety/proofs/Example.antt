@@ -12,7 +12,7 @@ use Rattle.rules.specs.Sets.{bit, joined, without, digit, has, setForm, fullSet
 use Rattle.rules.specs.Numbers.{answerNumber, inState, inPhase}
 use Rattle.rules.specs.NewPn.{newPn}
 use Rattle.rules.specs.Turns.{firstCause, unless, settled}
-use Rattle.rules.specs.Parts.{others, isHeld, underOf, tookKept, tookBook, cleared}
+use Rattle.rules.specs.Parts.{others, isHeld, underOf, higher, tookKept, tookBook, roomNext, cleared}
 use Rattle.rules.specs.Last.{noted, heard, behind, lagging, improves, bettered, raised, counted}
 use Rattle.rules.specs.Last.{uncounted, replied, lastVerdict, onLast}
 use Rattle.rules.specs.Mails.{unagreedOf, onCollect, beginVerdict, onBegin, acceptVerdict, onAccept}
@@ -22,7 +22,8 @@ use Rattle.rules.specs.Steps.{leased, canReady, hasPrevious, ready, canOffer, o
 use Rattle.rules.specs.Steps.{propose, canAgree, agree, canFinish, finish, acted}
 use Rattle.rules.specs.Box.{heldAt, written, enclosed}
 use Rattle.rules.specs.Site.{Site, freshHead, fresh, posted, room}
-use Rattle.rules.specs.Form.{countForm, peerForm, formBox, formKind, formLetter, formLink, form}
+use Rattle.rules.specs.Form.{firstForm, countForm, peerForm, formBox, formKind, formLetter}
+use Rattle.rules.specs.Form.{formLink, form}
 use Rattle.rules.specs.Needs.{ruled}
 use Rattle.rules.specs.Step.{byAnswer, delivered, elect, presented, step, run, agreedAs, holds}
 use Rattle.laws.proofs.Types.{Call}
@@ -180,5 +181,5 @@ unfolding replayed epoch2 epoch4 epoch6 epoch8 parted
     started leased canReady hasPrevious ready canOffer offer canPropose propose canAgree agree
     canFinish finish acted heldAt written enclosed freshHead fresh posted room countForm
     peerForm formBox formKind formLetter formLink form ruled byAnswer delivered elect presented
-    step run agreedAs holds ones onesIn
+    step run agreedAs holds ones onesIn firstForm higher roomNext
 computed = record { replay = refl; choice = refl; kept-v2 = refl; split = refl }
