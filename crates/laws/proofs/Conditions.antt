@@ -1,7 +1,7 @@
 -- What is known where a verdict says Go: the condition of each step and of each mail that is taken.
 use Prim.Native.Nat.{ℕ, _+_, _≤_, _<_}
 use mathlib.Core.Path.{_≡_, refl}
-use mathlib.Core.Bool.{Bool, true, false, not, _&&_, _||_}
+use mathlib.Core.Bool.{Bool, true, false, not, _||_}
 use native.Mathlib.Omega.{arith}
 use lib.Count.{ones}
 use lib.Dec.{eqb, leb, ltb}
@@ -18,7 +18,8 @@ use Rattle.rules.specs.Mails.{beginVerdict, acceptVerdict}
 use Rattle.rules.specs.Steps.{canRecover, canCollect, canReady, hasPrevious, canOffer, canPropose}
 use Rattle.rules.specs.Steps.{canAgree, canFinish, canTrim}
 use Rattle.laws.proofs.Types.{BoxState, Held, Mail, Phase, Refusal, Setting, State, Verdict}
-use Rattle.laws.proofs.Logic.{Or, left, right, both-no, eqb-yes, eqb-no, and-yes, or-cases}
+use Rattle.laws.proofs.Logic.{Or, left, right, both-no, eqb-yes, eqb-no, and-yes, and4}
+use Rattle.laws.proofs.Logic.{and5, and6, or-cases}
 
 -- ---- verdicts
 
@@ -132,26 +133,6 @@ go-accept {b} {m} e = let g = go-cause _ _ _ _ _ e in record {
 }
 
 -- ---- steps
-
-and3 : (a b c : Bool) → (a && b && c) ≡ true → (a ≡ true) × (b ≡ true) × (c ≡ true)
-and3 a b c e = let p = and-yes (a && b) c e in let q = and-yes a b (p .0) in (q .0, q .1, p .1)
-
-and4 : (a b c d : Bool) → (a && b && c && d) ≡ true
-    → (a ≡ true) × (b ≡ true) × (c ≡ true) × (d ≡ true)
-and4 a b c d e = let p = and-yes (a && b && c) d e in let q = and3 a b c (p .0) in
-    (q .0, q .1, q .2, p .1)
-
-and5 : (a b c d f : Bool) → (a && b && c && d && f) ≡ true
-    → (a ≡ true) × (b ≡ true) × (c ≡ true) × (d ≡ true) × (f ≡ true)
-and5 a b c d f e =
-    let p = and-yes (a && b && c && d) f e in let q = and4 a b c d (p .0) in
-    (q .0, q .1, q .2, q .3, p .1)
-
-and6 : (a b c d f g : Bool) → (a && b && c && d && f && g) ≡ true
-    → (a ≡ true) × (b ≡ true) × (c ≡ true) × (d ≡ true) × (f ≡ true) × (g ≡ true)
-and6 a b c d f g e =
-    let p = and-yes (a && b && c && d && f) g e in let q = and5 a b c d f (p .0) in
-    (q .0, q .1, q .2, q .3, q .4, p .1)
 
 -- in every step but Trim the epoch is even and the box leads, in a phase and a state of these
 pub record Leading (phases states : ℕ → Type 0) (b : BoxState) (s : Setting) : Type 0 where

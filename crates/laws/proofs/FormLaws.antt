@@ -17,9 +17,9 @@ use Rattle.rules.specs.Site.{Site, isBox, isLink}
 use Rattle.rules.specs.Form.{firstForm, countForm, peerForm, formBox, bare, formKind, formLetter}
 use Rattle.rules.specs.Form.{formLink, form}
 use Rattle.laws.proofs.Types.{Kind}
-use Rattle.laws.proofs.Logic.{Or, left, right, In, eqb-yes, eqb-no, same?, and-yes, and-both}
-use Rattle.laws.proofs.Logic.{or-cases, or-left, or-right, passed, _&_, none, made, every-at}
-use Rattle.laws.proofs.Logic.{every-made, All, All-map, each-all, all-each}
+use Rattle.laws.proofs.Logic.{Or, left, right, In, eqb-yes, eqb-no, same?, and-yes, and3}
+use Rattle.laws.proofs.Logic.{and4, and-both, or-cases, or-left, or-right, passed, _&_, none}
+use Rattle.laws.proofs.Logic.{made, every-at, every-made, All, All-map, each-all, all-each}
 use Rattle.laws.proofs.Counts.{AtMostOne, one-says, one-made}
 
 -- ---- numbers of boxes
@@ -33,9 +33,8 @@ box-is {n} {c} h = and-both (le-leb 1 c (h .0)) (le-leb c n (h .1))
 
 pub is-link : {n a b : ℕ} → isLink n a b ≡ true → (In a n) × (In b n) × (a ≡ b → ⊥)
 is-link {n} {a} {b} e =
-    let p = and-yes (isBox n a && isBox n b) (not (eqb a b)) e in
-    let q = and-yes (isBox n a) (isBox n b) (p .0) in
-    (is-box (q .0), is-box (q .1), eqb-no a b (not-true (eqb a b) (p .1)))
+    let p = and3 (isBox n a) (isBox n b) (not (eqb a b)) e in
+    (is-box (p .0), is-box (p .1), eqb-no a b (not-true (eqb a b) (p .2)))
 
 -- ---- ranges
 
@@ -196,12 +195,11 @@ peer-says n b peers k e =
         → Peer n b k l
     go (left h) = left (eqb-yes l unknown h)
     go (right h) =
-        let p = and-yes (leb k n && not (eqb k b)) (leb l mostNumber) h in
-        let q = and-yes (leb k n) (not (eqb k b)) (p .0) in
+        let p = and3 (leb k n) (not (eqb k b)) (leb l mostNumber) h in
         right (
-          leb-true k n (q .0),
-          eqb-no k b (not-true (eqb k b) (q .1)),
-          leb-true l mostNumber (p .1),
+          leb-true k n (p .0),
+          eqb-no k b (not-true (eqb k b) (p .1)),
+          leb-true l mostNumber (p .2),
         )
 
 peer-made : (n b : ℕ) (peers : List ℕ) (k : ℕ) → Peer n b k (getD peers (k - 1) 0)
@@ -318,12 +316,11 @@ FormedKind Kind.Lease J pn last first unagreed count = FormedLease pn first unag
 
 bare-says : (first u count : ℕ) → bare first u count ≡ true → Bare first u count
 bare-says first u count e =
-    let p = and-yes (eqb count 0 && eqb u 0) (eqb first 0) e in
-    let q = and-yes (eqb count 0) (eqb u 0) (p .0) in
+    let p = and3 (eqb count 0) (eqb u 0) (eqb first 0) e in
     record {
-      no-records = eqb-yes count 0 (q .0);
-      no-unagreed = eqb-yes u 0 (q .1);
-      no-first = eqb-yes first 0 (p .1);
+      no-records = eqb-yes count 0 (p .0);
+      no-unagreed = eqb-yes u 0 (p .1);
+      no-first = eqb-yes first 0 (p .2);
     }
 
 bare-made : (first u count : ℕ) → Bare first u count → bare first u count ≡ true
@@ -337,13 +334,11 @@ pub kind-says : (k : Kind) (J pn last first unagreed count : ℕ)
 unfolding formKind
 kind-says Kind.Collect J pn last first u count e = bare-says first u count e
 kind-says Kind.Last J pn last first u count e =
-    let p = and-yes (firstForm first last && countForm J first last count)
-    (eqb u 0 || eqb (first + count) (last + 2)) e in
-    let q = and-yes (firstForm first last) (countForm J first last count) (p .0) in
+    let p = and3 _ _ _ e in
     record {
-      first = first-says (q .0);
-      held = count-says (q .1);
-      under = go (or-cases (eqb u 0) (eqb (first + count) (last + 2)) (p .1));
+      first = first-says (p .0);
+      held = count-says (p .1);
+      under = go (or-cases _ _ (p .2));
     }
   where
     go : Or (eqb u 0 ≡ true) (eqb (first + count) (last + 2) ≡ true)
@@ -351,26 +346,21 @@ kind-says Kind.Last J pn last first u count e =
     go (left h) = left (eqb-yes u 0 h)
     go (right h) = right (eqb-yes (first + count) (last + 2) h)
 kind-says Kind.Begin J pn last first u count e =
-    let p = and-yes (firstForm first last && eqb count 1 && ltb last mostNumber) (eqb u 0) e in
-    let q = and-yes (firstForm first last && eqb count 1) (ltb last mostNumber) (p .0) in
-    let r = and-yes (firstForm first last) (eqb count 1) (q .0) in
+    let p = and4 _ _ _ _ e in
     record {
-      first = first-says (r .0);
-      one-record = eqb-yes count 1 (r .1);
-      room = ltb-true last mostNumber (q .1);
-      no-unagreed = eqb-yes u 0 (p .1);
+      first = first-says (p .0);
+      one-record = eqb-yes count 1 (p .1);
+      room = ltb-true last mostNumber (p .2);
+      no-unagreed = eqb-yes u 0 (p .3);
     }
 kind-says Kind.Accept J pn last first u count e = bare-says first u count e
 kind-says Kind.Commit J pn last first u count e =
-    let p = and-yes (firstForm first last && eqb (first + count) (last + 1) && leb count J)
-    (eqb u 0) e in
-    let q = and-yes (firstForm first last && eqb (first + count) (last + 1)) (leb count J) (p .0) in
-    let r = and-yes (firstForm first last) (eqb (first + count) (last + 1)) (q .0) in
+    let p = and4 _ _ _ _ e in
     record {
-      first = first-says (r .0);
-      all-records = eqb-yes (first + count) (last + 1) (r .1);
-      room = leb-true count J (q .1);
-      no-unagreed = eqb-yes u 0 (p .1);
+      first = first-says (p .0);
+      all-records = eqb-yes (first + count) (last + 1) (p .1);
+      room = leb-true count J (p .2);
+      no-unagreed = eqb-yes u 0 (p .3);
     }
 kind-says Kind.Lease J pn last first u count e =
     let p = and-yes (bare first u count) (eqb pn 0) e in
@@ -396,7 +386,8 @@ kind-made Kind.Begin J pn last first u count h =
 kind-made Kind.Accept J pn last first u count h = bare-made first u count h
 kind-made Kind.Commit J pn last first u count h =
     and-both
-    (and-both (and-both (first-made (h .first)) (eq-eqb (first + count) (last + 1) (h .all-records)))
+    (and-both
+    (and-both (first-made (h .first)) (eq-eqb (first + count) (last + 1) (h .all-records)))
     (le-leb count J (h .room)))
     (eq-eqb u 0 (h .no-unagreed))
 kind-made Kind.Lease J pn last first u count h =

@@ -2,7 +2,7 @@
 -- a letter by its kind; and how what outlives a stop changes, said number by number. These are
 -- readings of the one model, not a second one: no rule stands here.
 use Prim.Native.Nat.{ℕ, _+_, _-_, _≤_, _<_, max}
-use mathlib.Core.Path.{_≡_, refl, ap, _∙_}
+use mathlib.Core.Path.{_≡_, sym, ap, _∙_, subst}
 use mathlib.Core.List.{List, [], _∷_, _++_}
 use native.Mathlib.Omega.{arith}
 use lib.Dec.{ltb}
@@ -16,7 +16,8 @@ use Rattle.rules.specs.Parts.{span, higher, dropped, tookBook}
 use Rattle.rules.specs.Box.{Box, Letter, heldAt, recordAt, written}
 use Rattle.laws.proofs.Types.{Book, Held, Kept, Kind}
 use Rattle.laws.proofs.Logic.{Or, left, right, below?, pick-elim}
-use Rattle.laws.proofs.FormLaws.{FormedBox, FormedLast, FormedCommit}
+use Rattle.laws.proofs.FormLaws.{FormedFirst, HeldCount, FormedBox, FormedLast}
+use Rattle.laws.proofs.FormLaws.{FormedCommit}
 
 -- promised pn, last agreed number, first kept number, records, stored pn and stored number
 pub record Store : Type 0 where
@@ -27,15 +28,18 @@ pub record Store : Type 0 where
   pub storedPn : ℕ
   pub storedNumber : ℕ
 
-abbrev pub store : Box → Store
-store x = record {
-  pn = x .head .kept .pn;
-  last = x .head .kept .last;
-  first = x .head .kept .first;
-  records = x .records;
-  storedPn = x .head .kept .stored .pn;
-  storedNumber = x .head .kept .stored .number;
+abbrev pub storeOf : Kept → List ℕ → Store
+storeOf k rs = record {
+  pn = k .pn;
+  last = k .last;
+  first = k .first;
+  records = rs;
+  storedPn = k .stored .pn;
+  storedNumber = k .stored .number;
 }
+
+abbrev pub store : Box → Store
+store x = storeOf (x .head .kept) (x .records)
 
 -- .. as the rules have it
 abbrev pub kept : Store → Kept
@@ -74,23 +78,22 @@ pub record Spans (first last : ℕ) (rs : List ℕ) : Type 0 where
 abbrev pub Shaped : Store → Type 0
 Shaped a = Spans (a .first) (a .last) (a .records)
 
-pub shaped : {n J b : ℕ} {x : Box} → FormedBox n J b x → Shaped (store x)
-shaped f = record {
-  some = f .first .some;
-  top = omega (arith, f .first .top);
-  all = f .held .all;
-  next = f .held .next;
+-- so a box by form has it, and a Last and a Commit, of a sender that keeps from F on
+pub spans : {J first last : ℕ} {rs : List ℕ} → FormedFirst first last
+    → HeldCount J first last (length rs) → Spans first last rs
+spans f h = record {
+  some = f .some;
+  top = omega (arith, f .top);
+  all = h .all;
+  next = h .next;
 }
 
--- .. and what a Last and a Commit bring, of a sender that keeps from F on
+pub shaped : {n J b : ℕ} {x : Box} → FormedBox n J b x → Shaped (store x)
+shaped f = spans (f .first) (f .held)
+
 pub last-spans : {J last F unagreed : ℕ} {ms : List ℕ}
     → FormedLast J last F unagreed (length ms) → Spans F last ms
-last-spans f = record {
-  some = f .first .some;
-  top = omega (arith, f .first .top);
-  all = f .held .all;
-  next = f .held .next;
-}
+last-spans f = spans (f .first) (f .held)
 
 pub commit-spans : {J last F unagreed : ℕ} {ms : List ℕ}
     → FormedCommit J last F unagreed (length ms) → Spans F last ms
@@ -151,10 +154,15 @@ pub at-dropped : (f d g : ℕ) (rs : List ℕ) (k : ℕ) → f + d ≡ g → g �
 at-dropped f d g rs k e h =
     getD-drop d rs (k - g) 0 ∙ ap (λ (i : ℕ). getD rs i 0) (omega (arith, e, h))
 
+-- those of f to l, as in a Commit
+pub at-taken : (f l : ℕ) (rs : List ℕ) (k : ℕ) → f ≤ k → k ≤ l
+    → recordAt f (take (span f l) rs) k ≡ recordAt f rs k
+at-taken f l rs k h t = getD-take (span f l) rs (k - f) 0 (omega (arith, h, t))
+
 -- those of f to l stay, but for d of them, and others follow
 module _ (f l d g : ℕ) (rs others : List ℕ) (e : f + d ≡ g) (top : g ≤ l + 1)
     (all : l + 1 ≤ f + length rs) where
-  abbrev front : List ℕ
+  abbrev pub front : List ℕ
   front = drop d (take (span f l) rs)
 
   front-length : g + length front ≡ l + 1
@@ -167,7 +175,7 @@ module _ (f l d g : ℕ) (rs others : List ℕ) (e : f + d ≡ g) (top : g ≤ l
   front-at k h t =
       List·getD-append front others 0 (k - g) (omega (arith, front-length, h, t))
       ∙ at-dropped f d g (take (span f l) rs) k e h
-      ∙ getD-take (span f l) rs (k - f) 0 (omega (arith, e, h, t))
+      ∙ at-taken f l rs k (omega (arith, e, h)) t
 
   pub front-after : (k : ℕ) → l < k
       → recordAt g (front ++ others) k ≡ getD others (k - (l + 1)) 0
@@ -181,6 +189,17 @@ abbrev pub promised : ℕ → Store → Store
 promised q a = record {
   pn = q;
   last = a .last;
+  first = a .first;
+  records = a .records;
+  storedPn = a .storedPn;
+  storedNumber = a .storedNumber;
+}
+
+-- last+1 is agreed
+abbrev pub agreed : Store → Store
+agreed a = record {
+  pn = a .pn;
+  last = a .last + 1;
   first = a .first;
   records = a .records;
   storedPn = a .storedPn;
@@ -226,6 +245,18 @@ pub record Raises (a : Store) (d g : ℕ) : Type 0 where
   pub top : g ≤ a .last + 1
 
 module _ (a : Store) (shape : Shaped a) where
+  -- last+1 was held; then none is beyond last
+  pub agreed-shaped : HeldNext a → Shaped (agreed a)
+  agreed-shaped h = record {
+    some = shape .some;
+    top = omega (arith, shape .top);
+    all = omega (arith, shape .top, h);
+    next = omega (arith, shape .next);
+  }
+
+  pub agreed-held : HeldNext (agreed a) → ⊥
+  agreed-held h = omega (arith, shape .top, shape .next, h)
+
   -- not at all: a leader's start
   pub raises-none : Raises a 0 (a .first)
   raises-none = record { by = omega arith; top = shape .top }
@@ -315,7 +346,7 @@ took-book P F L k whole more none =
     (λ d. none h (ltb-false (k .last) L d)))
 
 module _ (F L : ℕ) (ms : List ℕ) (a : Store) (shape : Shaped a) where
-  abbrev low : ℕ
+  abbrev pub low : ℕ
   low = higher (a .first) F
 
   pub took-first : took F L ms a .first ≡ max (a .first) F
@@ -325,7 +356,7 @@ module _ (F L : ℕ) (ms : List ℕ) (a : Store) (shape : Shaped a) where
   took-last = higher-max (a .last) L
 
   -- the records after each case
-  took-cases : (P : List ℕ → Type 0)
+  pub took-cases : (P : List ℕ → Type 0)
       → (a .last + 1 < F → P (take (span F L) ms))
       → (F ≤ a .last + 1 → a .last < L
       → P (drop (low - a .first) (take (span (a .first) (a .last)) (a .records))
@@ -352,17 +383,31 @@ module _ (F L : ℕ) (ms : List ℕ) (a : Store) (shape : Shaped a) where
         took-cases (λ rs. recordAt low rs k ≡ recordAt F ms k)
         (λ e. let from : low ≡ F = omega (arith, took-first, shape .top, e) in
         ap (λ (g : ℕ). recordAt g (take (span F L) ms) k) from
-        ∙ getD-take (span F L) ms (k - F) 0 (omega (arith, from, h, u)))
+        ∙ at-taken F L ms k (omega (arith, from, h)) u)
         (λ e m. let up = raises-to a shape F e in
         front-after (a .first) (a .last) (low - a .first) low (a .records) _
         (up .by) (up .top) (shape .all) k t
         ∙ getD-drop (span F (a .last)) (take (span F L) ms) (k - (a .last + 1)) 0
         ∙ ap (λ (i : ℕ). getD (take (span F L) ms) i 0) (omega (arith, e, t))
-        ∙ getD-take (span F L) ms (k - F) 0 (omega (arith, e, t, u)))
+        ∙ at-taken F L ms k (omega (arith, e, t)) u)
         (λ e m. absurd (omega (arith, m, t, u)))
 
+    -- in one: every number that is kept as agreed then was kept so by one of the two before
+    pub took-each {κ} : (P : ℕ → ℕ → Type κ)
+        → ((k : ℕ) → a .first ≤ k → k ≤ a .last → P k (at a k))
+        → ((k : ℕ) → F ≤ k → k ≤ L → P k (recordAt F ms k))
+        → (k : ℕ) → low ≤ k → k ≤ higher (a .last) L → P k (at (took F L ms a) k)
+    took-each P own theirs k h t = go (below? (a .last) k)
+      where
+        go : Or (a .last < k) (k ≤ a .last) → P k (at (took F L ms a) k)
+        go (left e) =
+            let u : k ≤ L = omega (arith, took-last, e, t) in
+            subst (P k) (sym (took-new k h e u)) (theirs k (omega (arith, took-first, h)) u)
+        go (right e) =
+            subst (P k) (sym (took-old k h e)) (own k (omega (arith, took-first, h)) e)
+
     -- so many are held then
-    took-more : a .last < L → low + length (took F L ms a .records) ≡ L + 1
+    pub took-more : a .last < L → low + length (took F L ms a .records) ≡ L + 1
     took-more h =
         took-cases (λ rs. low + length rs ≡ L + 1)
         (λ e. rw length-take (omega (arith, took-first, shape .top, e, sent .all)))
@@ -372,7 +417,7 @@ module _ (F L : ℕ) (ms : List ℕ) (a : Store) (shape : Shaped a) where
         ∙ simp (length-drop, length-take) (omega (arith, e, m, sent .all)))
         (λ e m. absurd (omega (arith, m, h)))
 
-    took-none : L ≤ a .last
+    pub took-none : L ≤ a .last
         → low + length (took F L ms a .records) ≡ a .first + length (a .records)
     took-none h =
         took-cases (λ rs. low + length rs ≡ a .first + length (a .records))
