@@ -22,7 +22,7 @@ use Rattle.laws.proofs.FormLaws.{Formed, form-says}
 use Rattle.laws.proofs.Conditions.{CanAgree, go-unless, can-agree}
 use Rattle.laws.proofs.FrameLaws.{upd-all, all-post}
 use Rattle.laws.proofs.View.{Links, Store, store, at, HeldNext, held-elim, Reading, Collect, Last}
-use Rattle.laws.proofs.View.{Begin, Accept, Commit, Lease}
+use Rattle.laws.proofs.View.{Begin, Accept, Commit, Lease, agreed-shaped, agreed-held}
 use Rattle.laws.proofs.StepLaws.{changed, by-acting}
 use Rattle.safety.proofs.Inv.{Agreement, Agrees, BoxOk, Core, VotedFor, MailOk, Ripe}
 use Rattle.safety.proofs.Inv.{Settled, Inv}
@@ -135,14 +135,9 @@ module _ (s : Site) (i : Inv s) (c : ℕ) (c-in : In c (s .n)) (f : Formed s)
   box-own = record {
     low = omega (arith, total);
     agreed = λ j a b. each j a b (same? j (st .last));
-    shaped = record {
-      some = own .shaped .some;
-      top = omega (arith, own .shaped .top);
-      all = omega (arith, held, own .shaped .top);
-      next = omega (arith, own .shaped .next);
-    };
+    shaped = agreed-shaped st (own .shaped) held;
     kept = omega (arith, own .kept);
-    number = λ e. absurd (omega (arith, e, own .shaped .next, own .shaped .top));
+    number = λ e. absurd (agreed-held st (own .shaped) e);
     promise = λ e. omega arith;
     vote = λ e h. absurd (omega (arith, h, total));
     same = λ e. absurd (omega (arith, e, total));

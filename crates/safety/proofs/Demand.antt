@@ -1,8 +1,7 @@
 -- Demand 3 holds.
 use Prim.Native.Nat.{ℕ, suc, _-_, _≤_, _<_}
-use mathlib.Core.Path.{_≡_, sym, ap, _∙_, subst}
-use mathlib.Core.Bool.{true, false}
-use mathlib.Core.List.{List, _++_, reverse}
+use mathlib.Core.Path.{_≡_, refl, sym, ap, _∙_, subst}
+use mathlib.Core.List.{List, [], _++_, reverse}
 use native.Mathlib.Omega.{arith}
 use lib.ListN.{length, getD}
 use Rattle.rules.specs.Sizes.{mostBoxes}
@@ -10,13 +9,13 @@ use Rattle.rules.specs.Site.{Site}
 use Rattle.rules.specs.Step.{run}
 use Rattle.laws.proofs.Types.{Call}
 use Rattle.laws.proofs.Logic.{Or, left, right, below?}
-use Rattle.laws.proofs.Growth.{never-falls, kept-agreed}
+use Rattle.laws.proofs.Growth.{grow-run}
 use Rattle.safety.specs.Demand3.{In, Agreed, recordAt, start, Offered, AfterRun, Once}
 use Rattle.safety.specs.Demand3.{OverTime, Demand3}
 use Rattle.safety.proofs.Safe.{agreed-list, longer-run, box-ok}
-use Rattle.safety.proofs.Origin.{From, history-run}
+use Rattle.safety.proofs.Origin.{history-run}
 use Rattle.safety.proofs.Proper.{proper-run}
-use Rattle.safety.proofs.Example.{replayed, trimmed, computed}
+use Rattle.safety.proofs.Example.{replayed, third-load, computed}
 
 module _ (n J L : ℕ) (size : In n mostBoxes) where
   abbrev end : List Call → Site
@@ -134,17 +133,25 @@ module _ (n J L : ℕ) (size : In n mostBoxes) where
           offers-over-time .offer-once j k _ _ (now b j hb aj) (now d k hd ak) same;
     }
 
+-- one of the numbers that were computed
+read : (k : ℕ) {l m : List ℕ} → l ≡ m → getD l k 0 ≡ getD m k 0
+read k = ap (λ (l : List ℕ). getD l k 0)
+
 pub demand-3 : Demand3
 demand-3 = record {
   after-run = after-run;
-  never-falls = never-falls;
-  kept-agreed = kept-agreed;
+  never-falls = λ s cs b. let g = grow-run s cs b in (g .first, g .up);
+  kept-agreed = λ s cs b k before after. grow-run s cs b .same k (after .0) (before .1);
   over-time = over-time;
   offers-over-time = offers-over-time;
   not-empty = (
     reverse replayed,
-    (omega arith, omega (arith, ap (λ (l : List ℕ). getD l 0 0) (computed .replay))),
-    (omega arith, omega (arith, ap (λ (l : List ℕ). getD l 1 0) (computed .replay))),
+    (omega (arith, read 2 (computed .replay)), omega (arith, read 0 (computed .replay))),
+    (omega (arith, read 3 (computed .replay)), omega (arith, read 1 (computed .replay))),
   );
-  room-again = ?;
+  room-again = (
+    reverse third-load,
+    (omega (arith, read 2 (computed .again)), omega (arith, read 0 (computed .again))),
+    (omega (arith, read 3 (computed .again)), omega (arith, read 1 (computed .again))),
+  );
 }

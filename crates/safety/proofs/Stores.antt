@@ -1,15 +1,14 @@
 -- A box's clauses (`BoxOk`) as its store changes: a higher promise, numbers dropped, a record stored
 -- at last+1, records taken.
-use Prim.Native.Nat.{ℕ, suc, _+_, _-_, _≤_, _<_, max}
+use Prim.Native.Nat.{ℕ, suc, _+_, _≤_, _<_, max}
 use mathlib.Core.Path.{_≡_, sym, ap, _∙_}
 use mathlib.Core.Bool.{Bool}
 use mathlib.Core.List.{List}
 use native.Mathlib.Omega.{arith}
 use lib.ListN.{length, getD, take}
-use lib.Seq.{getD-take}
 use Rattle.rules.specs.Parts.{span}
 use Rattle.laws.proofs.Logic.{Or, left, right, below?}
-use Rattle.laws.proofs.View.{Store, at, Spans, Raises, promised, trimmed, stored, took, trimmed-at}
+use Rattle.laws.proofs.View.{Store, at, Spans, at-taken, Raises, promised, trimmed, stored, took, trimmed-at}
 use Rattle.laws.proofs.View.{trimmed-shaped, trimmed-held, trimmed-holds, stored-at, stored-next}
 use Rattle.laws.proofs.View.{stored-shaped, stored-held, took-first, took-last, took-old, took-new}
 use Rattle.laws.proofs.View.{took-shaped, took-same, took-holds, took-held}
@@ -18,8 +17,7 @@ use Rattle.safety.proofs.Inv.{Agreement, Agrees, BoxOk}
 -- a Commit's records
 pub agrees-take : (g : Agreement) (F L : ℕ) (rs : List ℕ) → Agrees g F L rs
     → Agrees g F L (take (span F L) rs)
-agrees-take g F L rs h k i j =
-    getD-take (span F L) rs (suc k - F) 0 (omega (arith, i, j)) ∙ h k i j
+agrees-take g F L rs h k i j = at-taken F L rs (suc k) i j ∙ h k i j
 
 module _ {g : Agreement} {part : Bool} (a : Store) (h : BoxOk g part a) where
   pub box-promised : (q : ℕ) → a .pn ≤ q → BoxOk g part (promised q a)
