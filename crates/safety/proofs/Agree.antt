@@ -265,23 +265,23 @@ module _ (s : Site) (i : Inv s) (c : ℕ) (c-in : In c (s .n)) (f : Formed s)
       core = core;
       ranks = ranks-kept (i .ranks) c x c-in refl refl;
       live = λ e.
-        lead-live c L x (o .leading .leads) _ g
-        (λ h. absurd (omega arith)) (λ h. absurd (omega arith)) (λ h. absurd (omega arith))
-        (λ h. record {
-          ripe = ripe;
-          done = λ h. omega (arith, total);
-          own = λ h. absurd (omega arith);
-          accepted = λ h. absurd (omega arith);
-        })
-        (all-post (PostLed c L x (o .leading .leads) g) (s .link)
-        (lead-mails c L x (o .leading .leads) g mail-agreed)
-        (without (s .present) c) c _
-        (λ b t ab. record {
-          from = refl;
-          to = without-in (s .present) c b five t .0;
-          le = omega arith;
-          agreed = agrees-take g (st .first) (st .last + 1) (s .box c .records) (box-own .agreed);
-        }));
+          lead-live c L x (o .leading .leads) _ g
+          (λ h. absurd (omega arith)) (λ h. absurd (omega arith)) (λ h. absurd (omega arith))
+          (λ h. record {
+            ripe = ripe;
+            done = λ h. omega (arith, total);
+            own = λ h. absurd (omega arith);
+            accepted = λ h. absurd (omega arith);
+          })
+          (all-post (PostLed c L x (o .leading .leads) g) (s .link)
+          (lead-mails c L x (o .leading .leads) g mail-agreed)
+          (without (s .present) c) c _
+          (λ b t ab. record {
+            from = refl;
+            to = without-in (s .present) c b five t .0;
+            le = omega arith;
+            agreed = agrees-take g (st .first) (st .last + 1) (s .box c .records) (box-own .agreed);
+          }));
     };
     longer = longer;
   }

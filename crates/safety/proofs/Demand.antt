@@ -30,11 +30,10 @@ module _ (n J L : ℕ) (size : In n mostBoxes) where
       → (k - 1 < length (all cs)) × (recordAt (end cs .box b) k ≡ getD (all cs) (k - 1) 0)
   agreed-record cs b k hb h =
       let ok = box-ok n J L size cs b hb in
-      let number : k ≡ suc (k - 1) = omega (arith, h .0, ok .shaped .some) in
-      (
+      let number : k ≡ suc (k - 1) = omega (arith, h .0, ok .shaped .some) in (
         omega (arith, number, h .1, ok .low),
         ap (λ (j : ℕ). recordAt (end cs .box b) j) number
-        ∙ ok .agreed (k - 1) (omega (arith, number, h .0)) (omega (arith, number, h .1)),
+            ∙ ok .agreed (k - 1) (omega (arith, number, h .0)) (omega (arith, number, h .1)),
       )
 
   -- .. and it is so after further calls
@@ -84,13 +83,12 @@ module _ (n J L : ℕ) (size : In n mostBoxes) where
         → (1 ≤ k) × (k - 1 < length (all cs)) × (r ≡ getD (all cs) (k - 1) 0)
     was k r o =
         let ok = box-ok n J L size (o .earlier) (o .box) (o .box-in) in
-        let a = agreed-later (o .later) (o .earlier) (o .box) k (o .box-in) (o .agreed) in
-        (
+        let a = agreed-later (o .later) (o .earlier) (o .box) k (o .box-in) (o .agreed) in (
           omega (arith, ok .shaped .some, o .agreed .0),
           subst (λ (ds : List Call). k - 1 < length (all ds)) (sym (o .time)) (a .0),
           sym (o .value)
-          ∙ a .1
-          ∙ ap (λ (ds : List Call). getD (all ds) (k - 1) 0) (sym (o .time)),
+              ∙ a .1
+              ∙ ap (λ (ds : List Call). getD (all ds) (k - 1) 0) (sym (o .time)),
         )
 
     offers-over-time : OverTime n (start n J L) cs
@@ -125,7 +123,7 @@ module _ (n J L : ℕ) (size : In n mostBoxes) where
       no-hole = λ b k hb ab.
           let ok = box-ok n J L size cs b hb in
           let here : k - end cs .box b .head .kept .first < length (end cs .box b .records) =
-              omega (arith, ab .0, ab .1, ok .shaped .all) in
+          omega (arith, ab .0, ab .1, ok .shaped .all) in
           (here, proper-run n J L cs .boxes b .records k (ab .0) here);
       offer-of = offers-over-time .offer-of;
       offer-is = λ b k hb ab. offers-over-time .offer-is k _ (now b k hb ab);

@@ -12,7 +12,8 @@ use Rattle.rules.specs.Sets.{bit, joined, without, digit, has, setForm, fullSet
 use Rattle.rules.specs.Numbers.{answerNumber, inState, inPhase}
 use Rattle.rules.specs.NewPn.{newPn}
 use Rattle.rules.specs.Turns.{firstCause, unless, settled}
-use Rattle.rules.specs.Parts.{others, isHeld, underOf, higher, tookKept, tookBook, roomNext, cleared}
+use Rattle.rules.specs.Parts.{others, isHeld, underOf, higher, tookKept, tookBook, roomNext}
+use Rattle.rules.specs.Parts.{cleared}
 use Rattle.rules.specs.Last.{noted, heard, behind, lagging, improves, bettered, raised, counted}
 use Rattle.rules.specs.Last.{uncounted, replied, lastVerdict, onLast}
 use Rattle.rules.specs.Mails.{unagreedOf, onCollect, beginVerdict, onBegin, acceptVerdict, onAccept}
@@ -219,16 +220,16 @@ pub record Computed : Type 0 where
       ≡ (1 ∷ 1 ∷ 0 ∷ []) ∷ (0 ∷ 2 ∷ 2 ∷ []) ∷ (1 ∷ 2 ∷ 2 ∷ []) ∷ []
 
 pub computed : Computed
-unfolding replayed recovered load two-loads third-load epoch2 epoch4 epoch6 epoch8 parted
-    pick all each every tally sizesForm proper recordForm bit joined without digit has setForm
+unfolding replayed recovered load two-loads third-load epoch2 epoch4 epoch6 epoch8 parted pick
+    all each every tally sizesForm proper recordForm bit joined without digit has setForm
     fullSet inState inPhase newPn firstCause unless settled others isHeld underOf tookKept
     tookBook cleared noted heard behind lagging improves bettered raised counted uncounted
     replied lastVerdict onLast unagreedOf onCollect beginVerdict onBegin acceptVerdict onAccept
     onCommit onLease ofKind onMail elected canRecover recover canCollect bestHeld collect
     started leased canReady hasPrevious ready canOffer offer canPropose propose canAgree agree
-    canFinish finish canTrim trim acted heldAt written enclosed freshHead fresh posted room countForm
-    peerForm formBox formKind formLetter formLink form ruled byAnswer delivered elect presented
-    step run agreedAs holds ones onesIn firstForm higher roomNext
+    canFinish finish canTrim trim acted heldAt written enclosed freshHead fresh posted room
+    countForm peerForm formBox formKind formLetter formLink form ruled byAnswer delivered elect
+    presented step run agreedAs holds ones onesIn firstForm higher roomNext
 computed = record {
   replay = refl;
   replay-says = refl;

@@ -144,7 +144,7 @@ module _ {n w : ℕ} {box : ℕ → Box} {link : Links} {g : Agreement} (L : Liv
       (L .mails a b)
 
   module _ (link′ : Links) (d-here : has w d ≡ true) (ne : d ≡ L .c → ⊥)
-      (led : v .head .leads ≡ box d .head .leads) 
+      (led : v .head .leads ≡ box d .head .leads)
       (quiet : phaseOf (L .x) ≡ 0 → (a b : ℕ) → link′ a b ≡ [])
       (stored-kept : stateOf (L .x) ≡ 0 → store v .storedPn ≡ store (box d) .storedPn)
       (stored-le : store (box d) .storedPn ≤ P → store v .storedPn ≤ P)

@@ -138,7 +138,8 @@ module _ (s : Site) (i : Inv s) (a b : ℕ) (y : Letter) (ys : List Letter)
       head =
           withState State.Updating
           (withKept
-          (keeping f (storing (y .head .pn) (s .box b .head .kept .last + 1) (s .box b .head .kept)))
+          (keeping f
+          (storing (y .head .pn) (s .box b .head .kept .last + 1) (s .box b .head .kept)))
           (s .box b .head));
       records = t .records;
     }

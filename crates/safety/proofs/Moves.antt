@@ -13,8 +13,8 @@ use Rattle.rules.specs.Last.{onLast}
 use Rattle.rules.specs.Mails.{onCollect, onBegin, onAccept, onCommit, onLease, ofKind, onMail}
 use Rattle.rules.specs.Steps.{elected, recover, bestHeld, collect, started, leased, hasPrevious}
 use Rattle.rules.specs.Steps.{ready, offer, propose, agree, finish, trim, acted}
-use Rattle.rules.specs.Box.{Box, Letter, Event, own, mail, recordAt, nextOf, mine, written, enclosed}
-use Rattle.rules.specs.Box.{letterOf, turnOf, turned, brought}
+use Rattle.rules.specs.Box.{Box, Letter, Event, own, mail, recordAt, nextOf, mine, written}
+use Rattle.rules.specs.Box.{enclosed, letterOf, turnOf, turned, brought}
 use Rattle.rules.specs.Site.{Site, isBox, relinked, popped, twice, doubled, played}
 use Rattle.rules.specs.Step.{elect}
 use Rattle.rules.specs.Turns.{still}
@@ -29,8 +29,7 @@ use Rattle.laws.proofs.View.{Links, Store, store, at, Spans, Shaped, last-spans
 use Rattle.laws.proofs.View.{held-elim, Reading, Collect, Last, Begin, Accept, Commit, Lease, read}
 use Rattle.laws.proofs.View.{readAs, trimmed, stored, took, Raises, raises-none, raises-to}
 use Rattle.laws.proofs.View.{raises-trim, trimmed-at, stored-at, stored-next, stored-length}
-use Rattle.laws.proofs.View.{took-first, took-last, took-old, took-new, took-shaped, took-same}
-use Rattle.laws.proofs.View.{took-held}
+use Rattle.laws.proofs.View.{took-first, took-last, took-each, took-shaped, took-same, took-held}
 use Rattle.laws.proofs.StepLaws.{changed, by-verdict, Plays, recovers, collects, readies, offers}
 use Rattle.laws.proofs.StepLaws.{proposes, agrees, finishes, trims, delivers}
 
@@ -90,27 +89,20 @@ module _ (G : ℕ → ℕ → Type 0) where
 
     listed-took : (F L : ℕ) (ms : List ℕ) → Spans F L ms → Listed F ms
         → Listed (took F L ms a .first) (took F L ms a .records)
-    listed-took F L ms sent g k i l = go (below? (a .last) k) (below? L k)
+    listed-took F L ms sent g k i l = go (below? (took F L ms a .last) k)
       where
-        t : Store
-        t = took F L ms a
-
         first : took F L ms a .first ≡ max (a .first) F
         first = took-first F L ms a shape
 
-        last : took F L ms a .last ≡ max (a .last) L
-        last = took-last F L ms a shape
-
-        go : Or (a .last < k) (k ≤ a .last) → Or (L < k) (k ≤ L) → G k (at (took F L ms a) k)
-        go (right e) m =
-            subst (G k) (sym (took-old F L ms a shape k i e))
-            (h k (omega (arith, first, i)) (omega (arith, e, shape .all, first, i)))
-        go (left e) (right m) =
-            subst (G k) (sym (took-new F L ms a shape sent k i e m))
-            (g k (omega (arith, first, i)) (omega (arith, m, sent .all, first, i)))
-        go (left e) (left m) =
-            let s = took-shaped F L ms a shape sent in
-            let next : k ≡ took F L ms a .last + 1 = omega (arith, e, m, i, l, last, s .next) in
+        go : Or (took F L ms a .last < k) (k ≤ took F L ms a .last) → G k (at (took F L ms a) k)
+        go (right e) =
+            took-each F L ms a shape sent G
+            (λ j f t. h j f (omega (arith, f, t, shape .all)))
+            (λ j f t. g j f (omega (arith, f, t, sent .all))) k i e
+        go (left e) =
+            let last = took-last F L ms a shape in
+            let fits = took-shaped F L ms a shape sent .next in
+            let next : k ≡ took F L ms a .last + 1 = omega (arith, e, i, l, fits) in
             let held = took-held F L ms a shape sent (omega (arith, next, l)) in
             subst (G k) (sym (took-same F L ms a shape sent (held .0) k i))
             (h k (omega (arith, first, i))
@@ -324,7 +316,10 @@ module _ (G : ℕ → ℕ → Type 0) where
       turn-kind Kind.Commit g f =
           by-verdict (TurnG x ms) _ _ _ (same ms)
           (λ go. record {
-            box = record { records = took-g (commit-spans f) g; best = best-clear _ (x .head .best) (h .best) };
+            box = record {
+              records = took-g (commit-spans f) g;
+              best = best-clear _ (x .head .best) (h .best);
+            };
             sent = tt;
           })
       turn-kind Kind.Lease g f =

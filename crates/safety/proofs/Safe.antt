@@ -88,11 +88,16 @@ inv-step s (Call.Propose c) i = inv-propose s i c
 inv-step s (Call.Agree c) i = inv-agree s i c
 inv-step s (Call.Finish c) i = inv-finish s i c
 inv-step s (Call.Trim c k) i = inv-trim s i c k
-inv-step s (Call.Stop c) i = by-ruled (After s i) s _ _ (after-same i) (λ p. inv-presented s (without (s .present) c) i)
-inv-step s (Call.Return c) i = by-ruled (After s i) s _ _ (after-same i) (λ p. inv-presented s (joined (s .present) c) i)
-inv-step s (Call.Timeout c) i = by-ruled (After s i) s _ _ (after-same i) (λ p. inv-presented s (s .present) i)
-inv-step s (Call.Lose a b) i = by-ruled (After s i) s _ _ (after-same i) (λ p. inv-popped s a b i)
-inv-step s (Call.Repeat a b) i = by-ruled (After s i) s _ _ (after-same i) (λ p. inv-doubled s a b i)
+inv-step s (Call.Stop c) i =
+    by-ruled (After s i) s _ _ (after-same i) (λ p. inv-presented s (without (s .present) c) i)
+inv-step s (Call.Return c) i =
+    by-ruled (After s i) s _ _ (after-same i) (λ p. inv-presented s (joined (s .present) c) i)
+inv-step s (Call.Timeout c) i =
+    by-ruled (After s i) s _ _ (after-same i) (λ p. inv-presented s (s .present) i)
+inv-step s (Call.Lose a b) i =
+    by-ruled (After s i) s _ _ (after-same i) (λ p. inv-popped s a b i)
+inv-step s (Call.Repeat a b) i =
+    by-ruled (After s i) s _ _ (after-same i) (λ p. inv-doubled s a b i)
 inv-step s (Call.Deliver a b) i =
     by-ruled (After s i) s _ _ (after-same i)
     (λ p. let l = is-link (p .1 .0) in

@@ -1,5 +1,5 @@
--- A box's clauses (`BoxOk`) as its store changes: a higher promise, numbers dropped, a record stored
--- at last+1, records taken.
+-- A box's clauses (`BoxOk`) as its store changes: a higher promise, numbers dropped, a record
+-- stored at last+1, records taken.
 use Prim.Native.Nat.{ℕ, suc, _+_, _≤_, _<_, max}
 use mathlib.Core.Path.{_≡_, sym, ap, _∙_}
 use mathlib.Core.Bool.{Bool}
@@ -8,10 +8,10 @@ use native.Mathlib.Omega.{arith}
 use lib.ListN.{length, getD, take}
 use Rattle.rules.specs.Parts.{span}
 use Rattle.laws.proofs.Logic.{Or, left, right, below?}
-use Rattle.laws.proofs.View.{Store, at, Spans, at-taken, Raises, promised, trimmed, stored, took, trimmed-at}
-use Rattle.laws.proofs.View.{trimmed-shaped, trimmed-held, trimmed-holds, stored-at, stored-next}
-use Rattle.laws.proofs.View.{stored-shaped, stored-held, took-first, took-last, took-old, took-new}
-use Rattle.laws.proofs.View.{took-shaped, took-same, took-holds, took-held}
+use Rattle.laws.proofs.View.{Store, at, Spans, at-taken, promised, trimmed, stored, took, Raises}
+use Rattle.laws.proofs.View.{trimmed-at, trimmed-shaped, trimmed-held, trimmed-holds, stored-at}
+use Rattle.laws.proofs.View.{stored-next, stored-shaped, stored-held, took-first, took-last}
+use Rattle.laws.proofs.View.{took-old, took-new, took-shaped, took-same, took-holds, took-held}
 use Rattle.safety.proofs.Inv.{Agreement, Agrees, BoxOk}
 
 -- a Commit's records
@@ -98,8 +98,7 @@ module _ {g : Agreement} {part : Bool} (a : Store) (h : BoxOk g part a) where
       promise = h .promise;
       vote = λ m l.
           let v = h .vote m (omega (arith, last, l)) in
-          let none : L ≤ a .last = omega (arith, last, l, v .0) in
-          (
+          let none : L ≤ a .last = omega (arith, last, l, v .0) in (
             omega (arith, last, none, v .0),
             took-holds F L ms a (h .shaped) sent none (v .1),
             v .2,

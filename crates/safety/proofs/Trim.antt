@@ -1,4 +1,4 @@
--- Trim: numbers below the new first leave the box's book. No clause reads them: what is kept is still
+-- Trim: numbers below the new first leave the book. No clause reads them: what is kept is still
 -- agreed, and the record at last+1 stays.
 use Prim.Native.Nat.{ℕ, _+_, _≤_}
 use mathlib.Core.Path.{_≡_, refl, sym, _∙_, subst}
@@ -17,7 +17,7 @@ use Rattle.laws.proofs.Types.{Call}
 use Rattle.laws.proofs.Logic.{Or, left, right, In, same?}
 use Rattle.laws.proofs.Conditions.{CanTrim, go-unless, can-trim}
 use Rattle.laws.proofs.FrameLaws.{upd-all}
-use Rattle.laws.proofs.View.{Store, store, Raises, raises-trim, trimmed, trimmed-at, trimmed-holds}
+use Rattle.laws.proofs.View.{Store, store, Raises, raises-trim, trimmed-at, trimmed-holds}
 use Rattle.laws.proofs.StepLaws.{changed, by-acting}
 use Rattle.safety.proofs.Inv.{BoxOk, VotedFor, Settled, Live, Inv}
 use Rattle.safety.proofs.After.{After, after, after-same}
