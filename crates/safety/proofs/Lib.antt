@@ -26,9 +26,12 @@ pub mod MailCommit
 pub mod MailLease
 pub mod Safe
 pub mod Begins
+pub mod Played
 pub mod Moves
 pub mod Desk
 pub mod Origin
 pub mod Proper
 pub mod Example
 pub mod Demand
+pub mod Room
+pub mod Rooms

@@ -15,23 +15,25 @@ use Rattle.rules.specs.Steps.{elected, recover, bestHeld, collect, started, lea
 use Rattle.rules.specs.Steps.{ready, offer, propose, agree, finish, trim, acted}
 use Rattle.rules.specs.Box.{Box, Letter, Event, own, mail, recordAt, nextOf, mine, written}
 use Rattle.rules.specs.Box.{enclosed, letterOf, turnOf, turned, brought}
-use Rattle.rules.specs.Site.{Site, isBox, relinked, popped, twice, doubled, played}
+use Rattle.rules.specs.Site.{Site, setting, isBox, relinked, popped, twice, doubled, played}
 use Rattle.rules.specs.Step.{elect}
 use Rattle.rules.specs.Turns.{still}
 use Rattle.laws.proofs.Types.{Act, Answer, Best, BoxState, Call, Held, Kind, Mail, Out, Setting}
 use Rattle.laws.proofs.Types.{Turn}
 use Rattle.laws.proofs.Logic.{Or, left, right, In, below?, cond-elim, pick-elim, All, nil}
 use Rattle.laws.proofs.Logic.{All-head, All-tail, All-twice, All-map}
-use Rattle.laws.proofs.FormLaws.{FormedKind, FormedLetter, Formed}
+use Rattle.laws.proofs.FormLaws.{FormedKind, Formed}
 use Rattle.laws.proofs.Conditions.{go-unless, go-begin, can-propose, can-trim, has-previous}
 use Rattle.laws.proofs.FrameLaws.{upd-all, all-relinked, all-posted}
-use Rattle.laws.proofs.View.{Links, Store, store, at, Spans, Shaped, last-spans, commit-spans}
+use Rattle.laws.proofs.View.{Links, Store, store, at, Spans, Shaped, shaped, last-spans}
+use Rattle.laws.proofs.View.{commit-spans}
 use Rattle.laws.proofs.View.{held-elim, Reading, Collect, Last, Begin, Accept, Commit, Lease, read}
 use Rattle.laws.proofs.View.{readAs, trimmed, stored, took, Raises, raises-none, raises-to}
 use Rattle.laws.proofs.View.{raises-trim, trimmed-at, stored-at, stored-next, stored-length}
 use Rattle.laws.proofs.View.{took-first, took-last, took-each, took-shaped, took-same, took-held}
 use Rattle.laws.proofs.StepLaws.{changed, by-verdict, Plays, recovers, collects, readies, offers}
 use Rattle.laws.proofs.StepLaws.{proposes, agrees, finishes, trims, delivers}
+use Rattle.safety.proofs.Played.{Fit, plays-fit, plays-links}
 
 -- G k r: the record r may stand at number k
 module _ (G : ℕ → ℕ → Type 0) where
@@ -159,11 +161,6 @@ module _ (G : ℕ → ℕ → Type 0) where
   Comes x (own Act.Finish) = Unit {0}
   Comes x (own (Act.Trim k)) = Unit {0}
   Comes x (mail a y) = MailG (read y)
-
-  -- a mail is by form
-  abbrev pub Fit : ℕ → Event → Type 0
-  Fit J (own a) = Unit {0}
-  Fit J (mail a y) = FormedLetter J y
 
   abbrev pub OutG : Out → List ℕ → Type 0
   OutG Out.Nothing rs = Unit {0}
@@ -349,28 +346,19 @@ module _ (G : ℕ → ℕ → Type 0) where
   pub sound-doubled : (s : Site) (a b : ℕ) → Sound s → Sound (doubled s a b)
   sound-doubled s = sound-relinked s twice (λ P l. All-twice)
 
-  -- what a call plays: the links before it, and its event
-  pub record Played (s : Site) (c : ℕ) (e : Event) (link : Links) : Type 0 where
-    pub sound : Sound (changed s (s .box) link)
-    pub comes : Comes (s .box c) e
-    pub fit : Fit (s .J) e
-
-  pub played-sound : (s : Site) (c : ℕ) {d : Call} {e : Event} {link : Links} → Plays s c d e link
-      → Formed s → In c (s .n) → Sound s
-      → (d ≡ Call.Propose c → Comes (s .box c) (own Act.Propose)) → Played s c e link
-  played-sound s c recovers f i h g = record { sound = h; comes = tt; fit = tt }
-  played-sound s c collects f i h g = record { sound = h; comes = tt; fit = tt }
-  played-sound s c readies f i h g = record { sound = h; comes = tt; fit = tt }
-  played-sound s c (offers l r) f i h g = record { sound = h; comes = tt; fit = tt }
-  played-sound s c proposes f i h g = record { sound = h; comes = g refl; fit = tt }
-  played-sound s c agrees f i h g = record { sound = h; comes = tt; fit = tt }
-  played-sound s c finishes f i h g = record { sound = h; comes = tt; fit = tt }
-  played-sound s c (trims k) f i h g = record { sound = h; comes = tt; fit = tt }
-  played-sound s c (delivers {a = a} ha ac e) f i h g = record {
-    sound = sound-popped s a c h;
-    comes = All-head (subst (All (LetterG a c)) e (h .mails a c));
-    fit = All-head (subst (All (FormedLetter (s .J))) e (f .links a c ha i ac .letters));
-  }
+  -- what comes with the event that a call plays
+  pub played-comes : (s : Site) (c : ℕ) {d : Call} {e : Event} {link : Links} → Plays s c d e link
+      → Sound s → (d ≡ Call.Propose c → Comes (s .box c) (own Act.Propose)) → Comes (s .box c) e
+  played-comes s c recovers h g = tt
+  played-comes s c collects h g = tt
+  played-comes s c readies h g = tt
+  played-comes s c (offers l r) h g = tt
+  played-comes s c proposes h g = g refl
+  played-comes s c agrees h g = tt
+  played-comes s c finishes h g = tt
+  played-comes s c (trims k) h g = tt
+  played-comes s c (delivers {a = a} ha ac e) h g =
+      All-head (subst (All (LetterG a c)) e (h .mails a c))
 
   pub sound-played : (s : Site) (c : ℕ) (t : Turn) (ms : List ℕ) → Sound s → TurnG (s .box c) ms t
       → Sound (played s c t ms)
@@ -379,6 +367,17 @@ module _ (G : ℕ → ℕ → Type 0) where
     mails = all-posted LetterG (s .link) (h .mails) c (t .out) (turned (s .box c) t ms .records)
         (λ set m e y i. subst (λ (o : Out). OutG o (turned (s .box c) t ms .records)) e (g .sent));
   }
+
+  -- all of a call that plays the event e at box c
+  pub sound-call : (s : Site) (c : ℕ) {d : Call} {e : Event} {link : Links} → Plays s c d e link
+      → Formed s → In c (s .n) → Sound s
+      → (d ≡ Call.Propose c → Comes (s .box c) (own Act.Propose))
+      → Sound (played (changed s (s .box) link) c (turnOf (setting s c) (s .box c) e) (brought e))
+  sound-call s c {e = e} {link = link} w f i h g =
+      sound-played (changed s (s .box) link) c _ (brought e)
+      (record { boxes = h .boxes; mails = plays-links w LetterG (h .mails) })
+      (turn-sound (setting s c) (s .box c) (h .boxes c) (shaped (f .boxes c i)) e
+      (played-comes s c w h g) (plays-fit w f i))
 
   pub sound-elect : (s : Site) (c : ℕ) → Sound s → Sound (elect s c)
   unfolding elect elected

@@ -25,9 +25,8 @@ use Rattle.laws.proofs.StepLaws.{changed, by-acting, answer-acting, by-step}
 use Rattle.safety.specs.Demand3.{Offered, now, before, start}
 use Rattle.safety.proofs.After.{Longer}
 use Rattle.safety.proofs.Safe.{agreed-list, none-yet, longer-step}
-use Rattle.safety.proofs.Moves.{Sound, BoxG, turn-started, turn-sound, sound-popped}
-use Rattle.safety.proofs.Moves.{sound-doubled}
-use Rattle.safety.proofs.Moves.{played-sound, sound-played, sound-elect, sound-map}
+use Rattle.safety.proofs.Moves.{Sound, BoxG, turn-started, sound-popped, sound-doubled}
+use Rattle.safety.proofs.Moves.{sound-played, sound-call, sound-elect, sound-map}
 use Rattle.safety.proofs.Desk.{Plain, plain-event, SameDesk, turn-desk}
 
 -- ---- the history of a run
@@ -141,15 +140,12 @@ module _ (s : Site) (cs : List Call) (A B : List ℕ) (t : Site) (w : Longer t A
       (λ a b f g.
       kept _ refl same-desk (sound-doubled (From s (d ∷ cs) (h .num)) t a b older-sound))
       d
-      (λ c e link w f c-in r.
-      let G = From s (d ∷ cs) (h .num) in
-      let k = played-sound G t c w f c-in older-sound (λ is. absurd (subst Plain is p)) in
+      (λ c e link v f c-in r.
       kept _ refl
       (upd-all (λ b y. SameDesk (t .box b .head) (y .head)) (t .box) c
-      (turn-desk (setting t c) (t .box c) e (plain-event w p)) same-desk)
-      (sound-played G (changed t (t .box) link) c _ _ (k .sound)
-      (turn-sound G (setting t c) (t .box c) (older-sound .boxes c) (shaped (f .boxes c c-in)) e
-      (k .comes) (k .fit))))
+      (turn-desk (setting t c) (t .box c) e (plain-event v p)) same-desk)
+      (sound-call (From s (d ∷ cs) (h .num)) t c v f c-in older-sound
+      (λ is. absurd (subst Plain is p))))
 
 -- ---- an offer is made
 
