@@ -86,8 +86,9 @@ module _ (s : Setting) (x : Box) (shape : Shaped (store x)) where
   grow-started : (b : BoxState) (r : ℕ) → b .kept ≡ x .head .kept → Turning x [] (started b s r)
   unfolding started written
   grow-started b r e =
-      rw e
-      (grows-stored (store x) shape 0 (x .head .kept .first) (omega arith) (x .head .kept .pn) r)
+      let first = x .head .kept .first in
+      let g = grows-stored (store x) shape 0 first (omega arith) (x .head .kept .pn) r in
+      rw e (record { up = omega arith; first = omega arith; same = g .same })
 
   grow-act : (a : Act) → Turning x [] (acted a (x .head) s (mine x))
   unfolding acted recover collect ready offer propose agree finish trim leased written
@@ -162,7 +163,8 @@ unfolding elect elected presented
 grow-step s d =
     by-step (Grown s) s same
     (λ c f e b. cond-elim (With b) (isBox (s .n) b) (λ e. same b) (λ e. same b))
-    (λ w f g h. same) (λ a b f. same)
+    (λ w f g h b. record { up = omega arith; first = omega arith; same = λ k i t. refl })
+    (λ a b f. same)
     (λ a b f h. same) d
     (λ c e link w f c-in r.
     one-box c _ (grow-turn (setting s c) (s .box c) (shaped (f .boxes c c-in)) e))
