@@ -1,5 +1,5 @@
 //! What becomes of an image that is changed, cut or made longer, and of too little memory: how
-//! often each answer comes, for the program `damage` of crates/ to be held to.
+//! often each answer comes, for the program `try_damage` of crates/ to be held to.
 
 use crate::image;
 use crate::trace::unhex;

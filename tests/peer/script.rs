@@ -1,4 +1,4 @@
-//! The script of the program `walk` of crates/, played on words of this program's own: what it has
+//! The script of the program `try_walk` of crates/, played on words of this program's own: what it has
 //! to print, for the program to be held to.
 //!
 //! A line is written as it stands, with what came of it. Beside the lines of a trace there are:

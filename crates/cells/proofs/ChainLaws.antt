@@ -66,6 +66,11 @@ module _ {ℓ κ} {A : Type ℓ} {B : Type κ} (enc : A → List B) where
       rw (chain-step l i d h, length-append (chain enc (take i l)) (enc (getD l i d)))
       (omega arith)
 
+  pub length-room : (l : List A) (i : ℕ) (d : A) {t k : ℕ} → i < length l
+      → t ≡ length (chain enc (take i l)) → k ≡ length (enc (getD l i d))
+      → t + k ≤ length (chain enc l)
+  length-room l i d h e f = omega (arith, chain-room l i d h)
+
   pub length-all : (l : List A) (i t : ℕ) → length l ≤ i → t ≡ length (chain enc (take i l))
       → t ≡ length (chain enc l)
   length-all l i t h e = e ∙ ap length (chain-all l i h)

@@ -4,4 +4,6 @@ pub mod WriteLaws
 pub mod StandLaws
 pub mod CodeLaws
 pub mod WalkLaws
+pub mod StoreLaws
+pub mod FindLaws
 pub mod GroupLaws

@@ -4,9 +4,9 @@ use Prim.Native.Nat.{ℕ, _+_, _-_, _*_, _^_, _≤_, _<_}
 use native.Mathlib.Nat.{add-zero}
 use native.Mathlib.Numerals.{add-one}
 use native.Mathlib.Omega.{arith}
-use mathlib.Core.List.{List, [], _++_, append-assoc}
+use mathlib.Core.List.{List, [], _++_, append-assoc, append-nil}
 use lib.ListN.{length, take, drop, set, length-append, take-append-drop}
-use lib.Seq.{take-all, take-at, drop-drop, take-suc-set, drop-append-seam}
+use lib.Seq.{take-all, take-at, drop-drop, drop-length, take-suc-set, drop-append-seam}
 use Rattle.words.specs.Rows.{part}
 use Rattle.le.specs.Le.{le, Number}
 use Rattle.le.proofs.LeLaws.{length-le}
@@ -61,6 +61,14 @@ stands-whole {bs} {src} w =
     let n = w .next in
     sym (take-all (length bs) src (omega arith)) ∙ ap (take (length bs)) (w .here)
     ∙ take-at bs (drop (length src) src) (length bs) refl
+
+-- All that there is stands from the start to the end.
+pub stands-all : {bs src : List ℕ} → bs ≡ src → Stands bs src 0 (length src)
+stands-all {bs} {src} e = record {
+  next = ap length (sym e) ∙ omega arith;
+  room = omega arith;
+  here = sym e ∙ sym (append-nil bs) ∙ ap (λ (l : List ℕ). bs ++ l) (sym (drop-length src));
+}
 
 -- Too few bytes are left for what a thing takes at least.
 pub too-short : {bs src : List ℕ} {at q : ℕ} (k : ℕ) → at ≤ length src → length src - at < k

@@ -1,11 +1,12 @@
 -- The laws of writing: one thing, one after another, and in a loop.
-use mathlib.Core.Path.{_≡_, sym, ap, _∙_}
-use Prim.Native.Nat.{ℕ, _+_, _≤_, _<_}
+use mathlib.Core.Path.{_≡_, refl, sym, ap, _∙_, subst₂}
+use Prim.Native.Nat.{ℕ, _+_, _-_, _≤_, _<_}
 use native.Mathlib.Nat.{add-zero}
 use native.Mathlib.Omega.{arith}
 use mathlib.Core.List.{List, [], _++_, append-assoc}
 use lib.ListN.{length, take, drop, getD, length-append, length-drop, take-append-drop}
-use lib.Seq.{take-at, drop-at, drop-drop, length-take-le}
+use lib.Seq.{take-at, drop-at, drop-drop, length-take-le, take-add, take-take, take-append-le}
+use lib.Seq.{drop-append-le, take-append-add, drop-append-add}
 use Rattle.words.specs.Rows.{splice}
 use Rattle.le.specs.Le.{le}
 use Rattle.le.proofs.LeLaws.{length-le}
@@ -22,6 +23,12 @@ wrote-length {bs} {o} {o'} {at} {r} w =
     let m = w .room in
     let t : length (take at o) ≡ at = length-take-le at o (omega arith) in
     rw (w .out) (simp (length-append, length-drop) (omega arith))
+
+-- Said in other words.
+pub wrote-as : {a b o o' : List ℕ} {at p q : ℕ} → a ≡ b → p ≡ q → Wrote a o at o' p
+    → Wrote b o at o' q
+wrote-as {o = o} {o' = o'} {at = at} e f w =
+    subst₂ (λ (l : List ℕ) (r : ℕ). Wrote l o at o' r) e f w
 
 -- One after the other.
 pub wrote-seq : {a b o o1 o2 : List ℕ} {at p q : ℕ} → Wrote a o at o1 p → Wrote b o1 p o2 q
@@ -63,6 +70,66 @@ pub room-rest : {a b o o' : List ℕ} {at p : ℕ} → Room (a ++ b) o at → Wr
     → Room b o' p
 room-rest {a} {b} h w = let f = h .fits in let n = w .next in
     record { fits = omega (arith, length-append a b, wrote-length w) }
+
+-- What is written before a place that was written to before is as if it had been written first.
+pub record Before (e o : List ℕ) (k : ℕ) (k' : ℕ) (b : List ℕ) (at : ℕ) (o' : List ℕ) (r : ℕ)
+    : Type 0 where
+  pub middle : List ℕ
+  pub first : Wrote e o k middle k'
+  pub then : Wrote b middle at o' r
+
+pub wrote-before : {b e o o1 o2 : List ℕ} {at r k k' : ℕ} → Wrote b o at o1 r
+    → Wrote e o1 k o2 k' → k' ≤ at → Before e o k k' b at o2 r
+wrote-before {b} {e} {o} {o1} {o2} {at} {r} {k} {k'} v w h =
+    let n = v .next in
+    let m = v .room in
+    let n' = w .next in
+    let g = at - k' in
+    let f = take k o ++ e in
+    let mid = take k o ++ (e ++ drop k' o) in
+    let tk : length (take k o) ≡ k = length-take-le k o (omega arith) in
+    let ta : length (take at o) ≡ at = length-take-le at o (omega arith) in
+    let tk' : length (take k' o) ≡ k' = length-take-le k' o (omega arith) in
+    let tf : length f ≡ k' = length-append (take k o) e ∙ omega arith in
+    let split : mid ≡ f ++ drop k' o = sym (append-assoc (take k o) e (drop k' o)) in
+    let far : at ≡ length f + g = omega arith in
+    let add : at ≡ k' + g = omega arith in
+    let gap : drop k' (take at o) ≡ take g (drop k' o) =
+    ap (λ (x : ℕ). drop k' (take x o)) add
+    ∙ ap (drop k') (take-add k' g o)
+    ∙ drop-at (take k' o) (take g (drop k' o)) k' tk' in
+    let low : take k o1 ≡ take k o =
+    ap (take k) (v .out)
+    ∙ take-append-le k (take at o) (b ++ drop r o) (omega arith)
+    ∙ take-take k at o (omega arith) in
+    let high : drop k' o1 ≡ take g (drop k' o) ++ (b ++ drop r o) =
+    ap (drop k') (v .out)
+    ∙ drop-append-le k' (take at o) (b ++ drop r o) (omega arith)
+    ∙ ap (λ (l : List ℕ). l ++ (b ++ drop r o)) gap in
+    let front : take at mid ≡ f ++ take g (drop k' o) =
+    (λ i. take (far i) (split i)) ∙ take-append-add f (drop k' o) g in
+    let past : r ≡ length f + (r - k') = omega arith in
+    let back : k' + (r - k') ≡ r = omega arith in
+    let behind : drop r mid ≡ drop r o =
+    (λ i. drop (past i) (split i))
+    ∙ drop-append-add f (drop k' o) (r - k')
+    ∙ drop-drop (r - k') k' o
+    ∙ ap (λ (x : ℕ). drop x o) back in
+    let first : Wrote e o k mid k' = record { next = n'; room = omega arith; out = refl } in
+    record {
+      middle = mid;
+      first = first;
+      then = record {
+        next = n;
+        room = omega (arith, wrote-length first);
+        out =
+            w .out
+            ∙ (λ i. low i ++ (e ++ high i))
+            ∙ sym (append-assoc (take k o) e (take g (drop k' o) ++ (b ++ drop r o)))
+            ∙ sym (append-assoc f (take g (drop k' o)) (b ++ drop r o))
+            ∙ sym (λ i. front i ++ (b ++ behind i));
+      };
+    }
 
 -- A number at a place, as `le` writes it.
 pub wrote-le : (k x : ℕ) (o o' : List ℕ) (at : ℕ) → at + k ≤ length o

@@ -1,7 +1,8 @@
 -- Things as bytes, one after another: what it is to write them at a place, to find them there, and
 -- to read them again.
 use mathlib.Core.Path.{_≡_}
-use Prim.Native.Nat.{ℕ, suc, _+_, _^_, _≤_, _<_}
+use mathlib.Core.Bool.{Bool, true, false}
+use Prim.Native.Nat.{ℕ, suc, _+_, _*_, _^_, _≤_, _<_}
 use mathlib.Core.List.{List, [], _∷_, _++_}
 use lib.ListN.{length, take, drop}
 use Rattle.le.specs.Le.{le}
@@ -53,6 +54,11 @@ pub record Stands (bs src : List ℕ) (at r : ℕ) : Type 0 where
 pub record Read (k : ℕ) (src : List ℕ) (at : ℕ) (ws : List ℕ) (r : ℕ) : Type 0 where
   pub stands : Stands (cells k ws) src at r
   pub below : Below (256 ^ k) ws
+
+-- whether the numbers ws, of k bytes each, stand at `at`
+abbrev pub WordsAre : ℕ → List ℕ → List ℕ → ℕ → Bool → Type 0
+WordsAre k ws src at true = Stands (cells k ws) src at (at + length ws * k)
+WordsAre k ws src at false = Below (256 ^ k) ws → (r : ℕ) → Stands (cells k ws) src at r → ⊥
 
 module _ {A : Type 0} (enc : A → List ℕ) (Good : A → Type 0) (src : List ℕ) (at : ℕ) where
   -- a thing by form stands at `at`, and r is the place behind it

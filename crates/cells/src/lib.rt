@@ -1,7 +1,7 @@
 // Numbers one after another as bytes, each of the same width.
 ghost use Prim.Native.Nat.{_+_, _*_, _≤_};
 ghost use lib.ListN.{length};
-ghost use Rattle.cells.specs.Cells.{cells, Wrote, Room, Read};
+ghost use Rattle.cells.specs.Cells.{cells, Wrote, Room, Read, WordsAre};
 
 mod groups;
 mod headed;
@@ -47,4 +47,21 @@ pub fn get_words(src: &[u8], at: usize, k: usize, dst: &mut [u64]) -> usize
         i += 1;
     }
     p
+}
+
+// The numbers ws, of k bytes each, stand at `at`.
+pub fn has_words(src: &[u8], at: usize, k: usize, ws: &[u64]) -> bool
+    requires { ⌜ (at + length (now ws) * k ≤ length (now src)) × (k ≤ 8) ⌝ }
+    ensures { λ r. ⌜ WordsAre k (now (ws .entry)) (now (src .entry)) at r ⌝ }
+{
+    let mut p = at;
+    let mut i = 0;
+    while i < ws.len() {
+        if le::get_at(src, p, k) != ws[i] {
+            return false;
+        }
+        p += k;
+        i += 1;
+    }
+    true
 }

@@ -50,7 +50,7 @@ pub fn check_letter(src: &[u8], at: usize, j: u32) -> Walk
     requires { ⌜ j ≤ mostLoads ⌝ }
     ensures { λ r. ⌜ WalkIs letterBytes (GoodLetter j) (now (src .entry)) at r ⌝ }
 {
-    if src.len() - at < 20 {
+    if src.len() - at < image::LETTER_HEAD_BYTES {
         return Walk::Bad;
     }
     let mut w = [0u64; letter::HEAD];

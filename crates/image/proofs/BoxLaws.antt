@@ -15,8 +15,8 @@ use Rattle.rules.specs.Box.{Box}
 use Rattle.laws.proofs.Logic.{left, right, In}
 use Rattle.laws.proofs.FormLaws.{FormedBox, Peer, box-says}
 use Rattle.values.proofs.SetLaws.{set-fits}
-use Rattle.rules.specs.Numbers.{stateNumber, phaseNumber}
-use Rattle.row.specs.Row.{flagNumber, headOf, peersAt, countAt, headWords}
+use Rattle.rules.specs.Numbers.{flagNumber, stateNumber, phaseNumber}
+use Rattle.row.specs.Row.{headOf, peersAt, countAt, headWords}
 use Rattle.row.proofs.NumberLaws.{flag-back, state-back, phase-back, flag-in, state-in, phase-in}
 use Rattle.cells.specs.Cells.{cells, Each, All, Below}
 use Rattle.cells.specs.Groups.{groupsBytes, Outside}

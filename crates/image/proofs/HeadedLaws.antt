@@ -1,19 +1,20 @@
 -- Things whose bytes are the words of a head, in groups, and then records: boxes and letters. One
 -- family of laws: they are told from their bytes, and found or not where a head was read.
-use mathlib.Core.Path.{_≡_, sym, ap, _∙_, subst}
+use mathlib.Core.Path.{_≡_, refl, sym, ap, _∙_, subst}
 use mathlib.Core.Bool.{Bool, true, false, false≢true}
 use Prim.Native.Nat.{ℕ, _+_, _^_, _≤_, _<_}
 use native.Mathlib.Omega.{arith}
 use mathlib.Core.List.{List, _++_}
-use lib.ListN.{length, drop, getD}
+use lib.ListN.{length, drop, getD, replicate}
 use Rattle.cells.specs.declared.Walk.{Walk}
-use Rattle.cells.specs.Cells.{cells, All, Stands, Found, NoneAt, WalkIs, Many, Has}
+use Rattle.cells.specs.Cells.{cells, All, Stands, NoneAt, WalkIs, Many, Has}
 use Rattle.cells.specs.Groups.{Group, groupsOf, groupsBytes, groupsLength, Cut}
-use Rattle.cells.specs.Groups.{GroupedWords, RecordsThere, HeadedRead}
+use Rattle.cells.specs.Groups.{GroupedWords, GroupsRead, RecordsThere, HeadedRead}
+use Rattle.cells.specs.Stored.{StoredIs}
 use Rattle.cells.proofs.ChainLaws.{length-cells}
 use Rattle.cells.proofs.StandLaws.{stands-seq, stands-as}
 use Rattle.cells.proofs.CodeLaws.{Code, Parts, told, told-code}
-use Rattle.cells.proofs.GroupLaws.{groups-code}
+use Rattle.cells.proofs.GroupLaws.{groups-code, groups-grouped}
 use Rattle.image.specs.Parts.{GoodRecord}
 use Rattle.image.proofs.RecordLaws.{records-code, same-records}
 
@@ -66,10 +67,28 @@ pub record Judged {A : Type 0} {enc : A → List ℕ} {Range : A → Type 0} (H 
       → length rs ≡ getD w (H .count-at) 0 → w ≡ H .words (made w rs)
   pub records : (w rs : List ℕ) → rs ≡ H .records (made w rs)
 
+-- What `get_groups` asks, by the code's numbers ns for the groups.
+pub groups-asked : {A : Type 0} {enc : A → List ℕ} {Range : A → Type 0} (H : Headed enc Range)
+    (src : List ℕ) (at : ℕ) (ns : List ℕ) → groupsOf ns ≡ H .groups
+    → at + groupsLength (H .groups) ≤ length src
+    → Cut 0 (H .width) (groupsOf ns) × (at + groupsLength (groupsOf ns) ≤ length src)
+groups-asked H src at ns e room = rw e (H .cut, room)
+
+-- w is the head that `get_groups` has read into words that were all `rest`.
 module _ {A : Type 0} {enc : A → List ℕ} {Range : A → Type 0} (H : Headed enc Range)
-    {Good : A → Type 0} (T : Judged H Good) (src : List ℕ) (at p : ℕ) (w : List ℕ)
-    (g : GroupedWords (H .groups) (H .width) (H .rest) w)
-    (s : Stands (groupsBytes (H .groups) w) src at p) where
+    {Good : A → Type 0} (T : Judged H Good) {src : List ℕ} {at p : ℕ} {w : List ℕ} (ns : List ℕ)
+    (e : groupsOf ns ≡ H .groups)
+    (read : GroupsRead (groupsOf ns) src at (replicate (H .width) (H .rest)) w p) where
+  here : GroupedWords (H .groups) (H .width) (H .rest) w
+      × Stands (groupsBytes (H .groups) w) src at p
+  here = groups-grouped (H .groups) (H .width) (H .rest) ns e refl read
+
+  g : GroupedWords (H .groups) (H .width) (H .rest) w
+  g = here .0
+
+  s : Stands (groupsBytes (H .groups) w) src at p
+  s = here .1
+
   -- The words are those of any such thing that stands there.
   headed-told : (x : A) (q : ℕ) → Good x → Stands (enc x) src at q
       → (w ≡ H .words x) × Stands (cells 8 (H .records x)) src p q
@@ -80,9 +99,9 @@ module _ {A : Type 0} {enc : A → List ℕ} {Range : A → Type 0} (H : Headed 
       let same : T .test w ≡ true = ap (T .test) (headed-told x q h v .0) ∙ T .passes x h in
       absurd (false≢true (sym f ∙ same))
 
-  pub headed-then : T .test w ≡ true → (count : ℕ) → count ≡ getD w (H .count-at) 0 → (r : Walk)
+  pub headed-then : T .test w ≡ true → {count : ℕ} → count ≡ getD w (H .count-at) 0 → (r : Walk)
       → WalkIs (cells 8) (Many (λ i. GoodRecord) count) src p r → WalkIs enc Good src at r
-  headed-then t count c (Walk.Next q) f =
+  headed-then t c (Walk.Next q) f =
       let rs = f .thing in
       let x = T .made w rs in
       let n : length rs ≡ getD w (H .count-at) 0 = f .good .count ∙ c in
@@ -94,7 +113,7 @@ module _ {A : Type 0} {enc : A → List ℕ} {Range : A → Type 0} (H : Headed 
             (stands-seq (stands-as (ap (groupsBytes (H .groups)) e) s)
             (stands-as (ap (cells 8) (T .records w rs)) (f .stands)));
       }
-  headed-then t count c Walk.Bad none = λ x q h v.
+  headed-then t c Walk.Bad none = λ x q h v.
       let e = headed-told x q h v in
       none (H .records x) q
       (record {
@@ -145,21 +164,20 @@ module _ {A : Type 0} {enc : A → List ℕ} {Good : A → Type 0} (H : Headed e
         (sizes, (omega (arith, least (f .thing)), records-there m few h)),
       )
 
-  -- What was read is the thing that stands there.
-  pub headed-read : (ns : List ℕ) → groupsOf ns ≡ H .groups → {w z : List ℕ} {r : ℕ}
-      → HeadedRead (groupsOf ns) (H .width) (H .count-at) (H .rest) src at w z r
-      → (q : ℕ) (f : Found enc Good src at q)
-      → (z ≡ H .words (f .thing) ++ (H .records (f .thing)
-      ++ drop (H .width + length (H .records (f .thing))) w)) × (r ≡ q)
-  headed-read ns u {w} {z} {r} g' q f =
-      let g = subst (λ (gs : List Group).
-      HeadedRead gs (H .width) (H .count-at) (H .rest) src at w z r) u g' in
-      let x = f .thing in
-      let t = told (headed-parts H) (g .words) (g .grouped) (g .stands) x q (f .good) (f .stands) in
-      let n : length (g .records) ≡ length (H .records x) =
-      g .long ∙ ap (λ (l : List ℕ). getD l (H .count-at) 0) (t .0) ∙ H .count x in
-      let e = same-records (H .records x) (g .records) n (g .read) (t .1)
-      (H .proper x (f .good)) in (
-        g .row ∙ (λ i. t .0 i ++ (e .0 i ++ drop (H .width + length (e .0 i)) w)),
-        e .1,
-      )
+-- What was read is the thing that stands there, and words that begin with it hold it.
+pub headed-stored : {A : Type 0} {enc : A → List ℕ} {Good : A → Type 0} (H : Headed enc Good)
+    (Holds : List ℕ → A → Type 0)
+    → ((x : A) → Good x → (tail : List ℕ) → Holds (H .words x ++ (H .records x ++ tail)) x)
+    → (ns : List ℕ) → groupsOf ns ≡ H .groups → {src : List ℕ} {at : ℕ} {w z : List ℕ} {r : ℕ}
+    → HeadedRead (groupsOf ns) (H .width) (H .count-at) (H .rest) src at w z r
+    → StoredIs enc Good src at (Holds z) r
+headed-stored H Holds held ns u {src} {at} {w} {z} {r} g' q f =
+    let g = subst (λ (gs : List Group).
+    HeadedRead gs (H .width) (H .count-at) (H .rest) src at w z r) u g' in
+    let x = f .thing in
+    let t = told (headed-parts H) (g .words) (g .grouped) (g .stands) x q (f .good) (f .stands) in
+    let n : length (g .records) ≡ length (H .records x) =
+    g .long ∙ ap (λ (l : List ℕ). getD l (H .count-at) 0) (t .0) ∙ H .count x in
+    let e = same-records (H .records x) (g .records) n (g .read) (t .1) (H .proper x (f .good)) in
+    let row = g .row ∙ (λ i. t .0 i ++ (e .0 i ++ drop (H .width + length (g .records)) w)) in
+    (subst (λ (l : List ℕ). Holds l x) (sym row) (held x (f .good) _), e .1)

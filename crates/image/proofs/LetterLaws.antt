@@ -14,10 +14,10 @@ use Rattle.laws.proofs.Logic.{and-yes}
 use Rattle.laws.proofs.FormLaws.{FormedLetter, FormedKind, letter-says}
 use Rattle.letter.specs.Place.{mailAt, wordsOfMail, countAt, headWords}
 use Rattle.letter.proofs.KindLaws.{kind-back, kind-in}
-use Rattle.cells.specs.Cells.{chain, cells, Each, All}
+use Rattle.cells.specs.Cells.{chain, cells, Each, All, Stands, Read}
 use Rattle.cells.specs.Groups.{groupsBytes, GroupedWords}
 use Rattle.cells.proofs.ChainLaws.{each-one}
-use Rattle.cells.proofs.CodeLaws.{Code, Parts, cells-code, chain-code, told-code}
+use Rattle.cells.proofs.CodeLaws.{Code, Parts, cells-code, chain-code, told, told-code}
 use Rattle.image.specs.Image.{letterGroups, letterWords, letterBytes, linkBytes}
 use Rattle.image.specs.Parts.{GoodRecord, GoodLetter, GoodLink, Words}
 use Rattle.image.proofs.RecordLaws.{all-of}
@@ -136,3 +136,19 @@ module _ (J L : ℕ) (loads : J ≤ mostLoads) (mails : L ≤ mostMails) where
       let n : length a ≡ length b = ap (λ (w : List ℕ). getD w 0 0) (t .0) in
       let code = letter-code J loads in
       chain-code letterBytes (GoodLetter J) code a b r s n (g .letters) (h .letters) (t .1)
+
+-- w holds the count that was read at `at`.
+pub record CountRead (src : List ℕ) (at p : ℕ) (w : List ℕ) (count : ℕ) : Type 0 where
+  pub one : length w ≡ 1
+  pub read : Read 4 src at w p
+  pub said : count ≡ getD w 0 0
+
+module _ {J L : ℕ} (loads : J ≤ mostLoads) (mails : L ≤ mostMails) {src : List ℕ} {at p : ℕ}
+    {w : List ℕ} {count : ℕ} (g : CountRead src at p w count) where
+  -- Any link that stands there has so many letters, and they stand behind.
+  pub link-told : {ys : List Letter} {q : ℕ} → GoodLink J L ys → Stands (linkBytes ys) src at q
+      → (length ys ≡ count) × Stands (chain letterBytes ys) src p q
+  link-told {ys} {q} h v =
+      let t = told (link-parts J L loads mails) w
+      (record { width = g .one; below = g .read .below }) (g .read .stands) ys q h v in
+      (sym (g .said ∙ ap (λ (u : List ℕ). getD u 0 0) (t .0)), t .1)

@@ -1,11 +1,14 @@
--- Theorems about the image: one site, one image, and how long it is.
+-- Theorems about the image: one site, one image, and how long it is; what is told of its parts.
 pub mod OrderLaws
 pub mod RecordLaws
 pub mod CutLaws
 pub mod HeadedLaws
 pub mod LetterLaws
+pub mod LetterJudged
 pub mod BoxLaws
+pub mod BoxJudged
 pub mod ListedLaws
+pub mod GeneralLaws
 pub mod TableLaws
 pub mod OneImage
 pub mod SiteIn

@@ -2,22 +2,31 @@
 -- 4 bytes and records 8.
 use Prim.Native.Nat.{ℕ, _+_, _-_, _*_}
 
--- "number of bodies (n+2), then byte offset .. and length of each"
+-- "number of bodies (n+2), then byte offset .. and length of each": of so many bodies, of n boxes
+abbrev pub tableBytes : ℕ → ℕ
+tableBytes bodies = 4 + 8 * bodies
+
 abbrev pub tableLong : ℕ → ℕ
-tableLong n = 4 + 8 * (n + 2)
+tableLong n = tableBytes (n + 2)
 
 -- "general (n, J, L, epoch, present set ..)": five numbers
 abbrev pub generalLong : ℕ
 generalLong = 20
 
--- a box that holds r records: eleven numbers ("flag, state, .. accept set"), "three records" and
--- the "count of records held" are 72 bytes; "n peers' lasts"; "and these"
-abbrev pub boxLong : ℕ → ℕ → ℕ
-boxLong n r = 72 + 4 * n + 8 * r
+-- a box: eleven numbers ("flag, state, .. accept set"), "three records" and the "count of records
+-- held" are 72 bytes; "n peers' lasts"; and r records
+abbrev pub boxHeadLong : ℕ → ℕ
+boxHeadLong n = 72 + 4 * n
 
--- a mail with r records: five numbers ("kind .., pn, last, unagreed pn, record count"), "records"
+abbrev pub boxLong : ℕ → ℕ → ℕ
+boxLong n r = boxHeadLong n + 8 * r
+
+-- a mail: five numbers ("kind .., pn, last, unagreed pn, record count"); and r records
+abbrev pub letterHeadLong : ℕ
+letterHeadLong = 20
+
 abbrev pub letterLong : ℕ → ℕ
-letterLong r = 20 + 8 * r
+letterLong r = letterHeadLong + 8 * r
 
 -- "each a count and its mails", L of them with J records each
 abbrev pub linkLong : ℕ → ℕ → ℕ

@@ -14,11 +14,12 @@ use Rattle.words.proofs.RowLaws.{row-end}
 use Rattle.words.proofs.RingLaws.{slot-zero, previous-lt}
 use Rattle.rules.specs.Box.{Letter}
 use Rattle.rules.specs.Site.{twice}
+use Rattle.laws.proofs.Logic.{passed, and-both}
 use Rattle.letter.specs.Place.{letterAt, placeFits}
 use Rattle.letter.proofs.CopyLaws.{copied-letter, copied-fits}
 use Rattle.link.specs.Link.{placeWidth, places, linkOf, linkFits}
 use Rattle.link.specs.Holds.{placeStart, ReadableLink, Holds, HeadAt}
-use Rattle.link.proofs.TestLaws.{passed, and-both, each-cons}
+use Rattle.link.proofs.TestLaws.{each-cons}
 use Rattle.link.proofs.LinkLaws.{frontStart, afterFront, places-front}
 use Rattle.link.proofs.LinkLaws.{fits-says, fits-made, length-link, two-set}
 use Rattle.link.proofs.HoldLaws.{first-below}

@@ -15,11 +15,12 @@ use Rattle.words.proofs.RingLaws.{slot-zero, slot-lt, next-lt}
 use Rattle.rules.specs.Every.{each}
 use Rattle.rules.specs.Box.{Letter, letterOf}
 use Rattle.rules.specs.declared.model.Mail.{Mail}
+use Rattle.laws.proofs.Logic.{and-yes}
 use Rattle.letter.specs.Place.{letterAt, placeFits, placeForm}
 use Rattle.letter.specs.Lent.{Enclosed}
 use Rattle.link.specs.Link.{placeWidth, linkWidth, places, linkOf, linkFits, linkForm}
 use Rattle.link.specs.Holds.{placeStart, LinkSizes, LinkWords, ReadableLink, Holds, HeadAt}
-use Rattle.link.proofs.TestLaws.{and-yes, each-cons, each-snoc}
+use Rattle.link.proofs.TestLaws.{each-cons, each-snoc}
 use Rattle.link.proofs.LinkLaws.{headStart, headPlace, afterPop, endStart, afterPush}
 use Rattle.link.proofs.LinkLaws.{fits-says, fits-made, length-link, two-set}
 use Rattle.link.proofs.LinkLaws.{link-none, fits-none, places-pop, places-push, form-held}

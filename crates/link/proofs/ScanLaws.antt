@@ -6,11 +6,12 @@ use mathlib.Core.List.{List, []}
 use native.Mathlib.Omega.{arith}
 use lib.ListN.{length, drop, getD}
 use Rattle.rules.specs.Every.{each}
+use Rattle.laws.proofs.Logic.{passed}
 use Rattle.letter.specs.Place.{placeForm}
 use Rattle.values.proofs.AllLaws.{each-go, each-stop, each-end}
 use Rattle.link.specs.Link.{places, linkForm}
 use Rattle.link.specs.Holds.{placeIn}
-use Rattle.link.proofs.TestLaws.{passed, not-yes}
+use Rattle.link.proofs.TestLaws.{not-yes}
 use Rattle.link.proofs.LinkLaws.{LinkFits, fits-says, length-places, place-at, form-held}
 
 -- Where one of the two words is out of range, the link is not by form.

@@ -1,18 +1,11 @@
 -- Tests: what tests that passed say, and how tests are made to pass.
-use Prim.Native.Nat.{ℕ, zero, suc, _+_, _≤_}
-use mathlib.Core.Path.{_≡_, refl, sym, ap, _∙_, subst}
-use mathlib.Core.Bool.{Bool, true, false, _&&_, _||_, cond}
+use mathlib.Core.Path.{_≡_, refl, sym, ap}
+use mathlib.Core.Bool.{Bool, true, false, _&&_, _||_}
 use mathlib.Core.List.{List, [], _∷_, _++_, map}
-use native.Mathlib.Decide.{ℕ-discrete}
-use native.Mathlib.Omega.{arith}
-use lib.Dec.{T}
-use Rattle.rules.specs.Every.{all, each, every, tally}
-use Rattle.rules.proofs.BoundLaws.{first-of, second-of}
+use Rattle.rules.specs.Every.{each}
+use Rattle.laws.proofs.Logic.{both-no, and-yes, and-both}
 
 -- ---- one test and two
-
-pub both-no : {b : Bool} → b ≡ true → b ≡ false → ⊥
-both-no p q = subst T (sym p ∙ q) tt
 
 pub not-yes : (b : Bool) → (b ≡ true → ⊥) → false ≡ b
 not-yes true f = absurd (f refl)
@@ -24,37 +17,9 @@ same-test true c f g = sym (f refl)
 same-test false true f g = g refl
 same-test false false f g = refl
 
-pub and-yes : (a b : Bool) → (a && b) ≡ true → (a ≡ true) × (b ≡ true)
-and-yes a b e = (first-of a b e, second-of a b e)
-
-pub and-both : {a b : Bool} → a ≡ true → b ≡ true → (a && b) ≡ true
-and-both {a} {b} p q = rw p q
-
 pub or-else : (a b : Bool) → (a || b) ≡ true → a ≡ false → b ≡ true
 or-else true b e f = absurd (both-no refl f)
 or-else false b e f = e
-
--- ---- several tests; `Passed` computes to the product of what each says
-
-abbrev pub Passed : List Bool → Type 0
-Passed [] = Unit {0}
-Passed (b ∷ bs) = (b ≡ true) × Passed bs
-
-pub passed : (l : List Bool) → all l ≡ true → Passed l
-unfolding all
-passed [] e = tt
-passed (b ∷ bs) e = let p = and-yes b (all bs) e in (p .0, passed bs (p .1))
-
--- tests that pass, put together one by one: `made (p & q & none)`
-infixr 4 _&_
-pub data Passing : List Bool → Type 0 where
-  none : Passing []
-  _&_ : {b : Bool} {bs : List Bool} → b ≡ true → Passing bs → Passing (b ∷ bs)
-
-pub made : {l : List Bool} → Passing l → all l ≡ true
-unfolding all
-made none = refl
-made (p & q) = and-both p (made q)
 
 -- ---- each element of a list
 
@@ -90,34 +55,3 @@ module _ {ℓ} {A : Type ℓ} (p q t : A → Bool) where
       let u = and-yes (p x) (each p l) d in
       let v = and-yes (q x) (each q l) e in
       and-both (f x (u .0) (v .0)) (each-both f l (u .1) (v .1))
-
--- ---- every number of 1 to n
-
-pub every-at : (n : ℕ) (p : ℕ → Bool) → every n p ≡ true
-    → (i : ℕ) → 1 ≤ i → i ≤ n → p i ≡ true
-unfolding every
-every-at zero p e i h k = absurd (omega arith)
-every-at (suc n) p e i h k =
-    let q = and-yes (p (suc n)) (every n p) e in
-    go (ℕ-discrete i (suc n)) (q .0) (every-at n p (q .1) i h)
-  where
-    go : Dec (i ≡ suc n) → p (suc n) ≡ true → (i ≤ n → p i ≡ true) → p i ≡ true
-    go (yes d) last below = rw d last
-    go (no d) last below = below (omega arith)
-
-pub every-made : (n : ℕ) (p : ℕ → Bool) → ((i : ℕ) → 1 ≤ i → i ≤ n → p i ≡ true)
-    → every n p ≡ true
-unfolding every
-every-made zero p f = refl
-every-made (suc n) p f =
-    let below = every-made n p (λ i h k. f i h (omega arith)) in
-    and-both (f (suc n) (omega arith) (omega arith)) below
-
--- Two tests that agree on 1 to n are passed by as many.
-pub tally-same : (n : ℕ) (p q : ℕ → Bool) → ((i : ℕ) → 1 ≤ i → i ≤ n → p i ≡ q i)
-    → tally n p ≡ tally n q
-unfolding tally
-tally-same zero p q f = refl
-tally-same (suc n) p q f =
-    let below = tally-same n p q (λ i h k. f i h (omega arith)) in
-    λ t. cond (f (suc n) (omega arith) (omega arith) t) 1 0 + below t

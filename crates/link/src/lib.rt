@@ -21,7 +21,7 @@ ghost use Rattle.link.specs.Holds.{
 use rules::model::Mail;
 
 // Where the place begins that is i places on from the first, and that it ends within the link.
-fn place_at(j: u32, l: u32, first: usize, i: usize) -> usize
+pub fn place_at(j: u32, l: u32, first: usize, i: usize) -> usize
     requires { ⌜ LinkSizes j l ⌝ }
     requires { ⌜ (first < l) × (i ≤ l) ⌝ }
     ensures { λ r. ⌜ (r ≡ placeStart j l first i) × (r + placeWidth j ≤ linkWidth j l) ⌝ }

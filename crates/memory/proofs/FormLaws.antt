@@ -30,6 +30,7 @@ use Rattle.memory.specs.After.{settingAt, GeneralLent, boxesOf, linksOf,
 use Rattle.memory.specs.After.{linkRow}
 use Rattle.memory.specs.Parts.{generalForm, wordsForm, rowTest, leadsTest, rowsForm, linkTest}
 use Rattle.memory.specs.Parts.{linksForm}
+use Rattle.memory.proofs.EveryLaws.{PassTo}
 use Rattle.memory.proofs.LentLaws.{readable-rows, readable-links, readable-made}
 use Rattle.memory.proofs.LentLaws.{form-readable, form-site, form-both}
 use Rattle.memory.proofs.SizeLaws.{link-is, index-below, Numbered, numbered}
@@ -99,19 +100,17 @@ words-say s xs ls w =
 -- ---- the rows
 
 module _ (s : Setting) (xs : List ℕ) where
-  pub rows-not : (b : ℕ) → In b (s .n) → rowTest s xs b ≡ false → false ≡ rowsForm s xs
+  pub rows-not : false ≡ every (s .n) (rowTest s xs) → false ≡ rowsForm s xs
   unfolding rowsForm
-  rows-not b h f =
-      not-yes (rowsForm s xs)
-      (λ e. both-no (every-at (s .n) (rowTest s xs) (passed _ e .0) b h) f)
+  rows-not f = not-yes (rowsForm s xs) (λ e. both-no (passed _ e .0) (sym f))
 
   -- all n have passed, and so many lead
-  pub rows-end : (b leaders : ℕ) → b ≤ s .n → s .n ≤ b → every b (rowTest s xs) ≡ true
+  pub rows-end : {b leaders : ℕ} → PassTo (rowTest s xs) (s .n) b → s .n ≤ b
       → leaders ≡ tally b (leadsTest s xs) → leb leaders 1 ≡ rowsForm s xs
   unfolding rowsForm all
-  rows-end b leaders few all e f =
-      let n : b ≡ s .n = omega arith in
-      rw (rw n at e, and-true)
+  rows-end {b} to h f =
+      let n : b ≡ s .n = omega (arith, to .few) in
+      rw (rw n at (to .all), and-true)
       (ap (λ (k : ℕ). leb k 1) (f ∙ ap (λ (k : ℕ). tally k (leadsTest s xs)) n))
 
 -- ---- all of it; the setting is read as that of a box 0

@@ -9,5 +9,4 @@ pub mod EachLaws
 pub mod ElectLaws
 pub mod LinkLaws
 pub mod SendLaws
-pub mod ClearLaws
 pub mod FormLaws

@@ -33,9 +33,9 @@ module _ (s : Setting) (k : ℕ) (ls : List ℕ) {p e : ℕ}
   link-cut = part-cut (linkWidth (s .j) (s .l)) ls start end
 
   pub cut-set : k < s .n * (s .n - 1) → linksWords (s .n) (s .j) (s .l) ≤ length ls
-      → (ys : List ℕ) (zs : List Letter) → Holds (s .j) (s .l) ys zs
+      → {ys : List ℕ} {zs : List Letter} → Holds (s .j) (s .l) ys zs
       → LinkSet s k zs ls (splice ls p (e - p) ys)
-  cut-set h long ys zs f =
+  cut-set h long {ys} {zs} f =
       rw (part-put (linkWidth (s .j) (s .l)) ls start end ys) (link-set s k ls ys zs h long f)
 
 -- r is the row of link k
@@ -70,21 +70,8 @@ module _ (s : Setting) (a b : ℕ) (ls : List ℕ) {r : List ℕ} (lent : LinksL
   pub link-length : length (linkOf (s .j) (s .l) r) ≡ length (linksOf s ls a b)
   link-length = ap (λ (l : List Letter). length l) link-letters
 
-  pub link-some : 0 < length (linksOf s ls a b)
-      → (ReadableLink (s .j) (s .l) r) × (0 < length (linkOf (s .j) (s .l) r))
-  link-some more = (link-readable, omega (arith, link-length))
-
-  pub link-room : length (linksOf s ls a b) < s .l
-      → (ReadableLink (s .j) (s .l) r) × (length (linkOf (s .j) (s .l) r) < s .l)
-  link-room room = (link-readable, omega (arith, link-length))
-
-  pub link-both : (0 < length (linksOf s ls a b)) × (length (linksOf s ls a b) < s .l)
-      → (ReadableLink (s .j) (s .l) r)
-      × ((0 < length (linkOf (s .j) (s .l) r)) × (length (linkOf (s .j) (s .l) r) < s .l))
-  link-both both = (link-readable, (omega (arith, link-length), omega (arith, link-length)))
-
 -- its row, from p to e, becomes ys
-module _ (s : Setting) (a b : ℕ) (ls : List ℕ) {p e : ℕ} (lent : LinksLent s ls)
+module _ (a b : ℕ) {s : Setting} {ls : List ℕ} {p e : ℕ} (lent : LinksLent s ls)
     (h : isLink (s .n) a b ≡ true)
     (start : p ≡ linkStart (s .n) (s .j) (s .l) a b) (end : e ≡ p + linkWidth (s .j) (s .l)) where
   abbrev held : List ℕ
@@ -93,6 +80,17 @@ module _ (s : Setting) (a b : ℕ) (ls : List ℕ) {p e : ℕ} (lent : LinksLent
   row : held ≡ linkRow s ls (linkIndex (s .n) a b)
   row = link-cut s (linkIndex (s .n) a b) ls start end
 
+  -- it can be read, and holds as many mails
+  pub cut-readable : ReadableLink (s .j) (s .l) held
+  cut-readable = link-readable s a b ls lent h row
+
+  pub cut-length : length (linkOf (s .j) (s .l) held) ≡ length (linksOf s ls a b)
+  cut-length = link-length s a b ls lent h row
+
+  pub cut-some : 0 < length (linksOf s ls a b)
+      → (ReadableLink (s .j) (s .l) held) × (0 < length (linkOf (s .j) (s .l) held))
+  cut-some more = (cut-readable, omega (arith, cut-length))
+
   -- the link holds the letters zs now
   link-done : (ys : List ℕ) (zs : List Letter) → Holds (s .j) (s .l) ys zs
       → (f : ℕ → ℕ → List Letter)
@@ -100,8 +98,7 @@ module _ (s : Setting) (a b : ℕ) (ls : List ℕ) {p e : ℕ} (lent : LinksLent
       → LinksPut s f ls (splice ls p (e - p) ys)
   link-done ys zs holds =
       links-set s a b zs ls (splice ls p (e - p) ys) lent h
-      (cut-set s (linkIndex (s .n) a b) ls start end (index-below (s .n) a b h) (lent .words) ys zs
-      holds)
+      (cut-set s (linkIndex (s .n) a b) ls start end (index-below (s .n) a b h) (lent .words) holds)
 
   same-link : (g : List Letter → List Letter) (x y : ℕ) → (eqb x a && eqb y b) ≡ true
       → g (linkOf (s .j) (s .l) held) ≡ g (linksOf s ls x y)
@@ -111,18 +108,18 @@ module _ (s : Setting) (a b : ℕ) (ls : List ℕ) {p e : ℕ} (lent : LinksLent
       ∙ (λ i. linksOf s ls (sym (eqb-yes x a (t .0)) i) (sym (eqb-yes y b (t .1)) i)))
 
   -- its letters are changed by g
-  pub by-done : (g : List Letter → List Letter) (ys : List ℕ)
+  pub by-done : (g : List Letter → List Letter) {ys : List ℕ}
       → Holds (s .j) (s .l) ys (g (linkOf (s .j) (s .l) held))
       → LinksPut s (linksBy g s a b ls) ls (splice ls p (e - p) ys)
-  by-done g ys holds =
+  by-done g {ys} holds =
       link-done ys (g (linkOf (s .j) (s .l) held)) holds _
       (λ x y. cond-same (eqb x a && eqb y b) (same-link g x y) (λ d. refl))
 
   -- one letter more goes from a to b, which is in the set
-  pub send-done : (set : ℕ) → has set b ≡ true → (y : Letter) (ys : List ℕ)
+  pub send-done : (set : ℕ) → has set b ≡ true → (y : Letter) {ys : List ℕ}
       → Holds (s .j) (s .l) ys (linkOf (s .j) (s .l) held ++ (y ∷ []))
       → LinksPut s (sent (linksOf s ls) a (λ c. has set c && eqb c b) y) ls (splice ls p (e - p) ys)
-  send-done set in-set y ys holds =
+  send-done set in-set y {ys} holds =
       link-done ys _ holds _
       (λ x c. cond-same (eqb x a && eqb c b) (same-link (λ l. l ++ (y ∷ [])) x c) (λ d. refl)
       ∙ ap (λ (t : Bool). cond t (linksOf s ls x c ++ (y ∷ [])) (linksOf s ls x c))
@@ -138,10 +135,10 @@ pub not-sent : (link : ℕ → ℕ → List Letter) (c : ℕ) (p : ℕ → Bool)
 not-sent link c p y a b e = rw (e, and-false (eqb a c)) refl
 
 -- no letter goes from me to b, which is not in the set
-pub send-none : (s : Setting) (set b : ℕ) (ls : List ℕ) → LinksLent s ls → has set b ≡ false
+pub send-none : {s : Setting} (set b : ℕ) {ls : List ℕ} → LinksLent s ls → has set b ≡ false
     → (y : Letter)
     → LinksPut s (sent (linksOf s ls) (s .me) (λ c. has set c && eqb c b) y) ls ls
-send-none s set b ls lent out y = record {
+send-none {s} set b {ls} lent out y = record {
   links = λ t. λ x c.
       not-sent (linksOf s ls) (s .me) (λ k. has set k && eqb k b) y x c (off c (eqb c b) refl) t;
   past = refl;
@@ -155,12 +152,12 @@ send-none s set b ls lent out y = record {
 
 -- ---- the head of the link from a to me
 
-pub head-done : (s : Setting) (a : ℕ) (ls : List ℕ) (p e q : ℕ) → LinksLent s ls
+pub head-done : (a : ℕ) {s : Setting} {ls : List ℕ} {p e q : ℕ} → LinksLent s ls
     → isLink (s .n) a (s .me) ≡ true
     → p ≡ linkStart (s .n) (s .j) (s .l) a (s .me) → e ≡ p + linkWidth (s .j) (s .l)
     → HeadAt (s .j) (s .l) (take (e - p) (drop p ls)) q → HeadStands s a ls (p + q)
 unfolding placeForm
-head-done s a ls p e q lent h start end at =
+head-done a {s} {ls} {p} {e} {q} lent h start end at =
     let w = placeWidth (s .j) in
     let lw = linkWidth (s .j) (s .l) in
     let held = take (e - p) (drop p ls) in

@@ -21,7 +21,7 @@ use Rattle.laws.proofs.SetLaws.{set-in}
 use Rattle.laws.proofs.FormLaws.{Proper, FormedKind, letter-says, proper-some}
 use Rattle.letter.specs.Lent.{enclosedFrom, enclosedCount}
 use Rattle.link.specs.Holds.{Sendable}
-use Rattle.memory.specs.After.{linksOf, LinksLent, LinksPut, roomFor, sent}
+use Rattle.memory.specs.After.{linksOf, LinksLent, LinksPut, roomFor, sent, SendsTo}
 use Rattle.memory.proofs.LinkLaws.{not-sent}
 
 -- a box of the set is another, and has a link from me
@@ -31,15 +31,14 @@ other-link n me b set hm hb out in-set =
     and-both (and-both hm hb)
     (ap not (ne-eqb me b (λ e. both-no in-set (ap (has set) (sym e) ∙ out))))
 
--- there is room where it is asked for
-pub room-says : (s : Setting) (ls : List ℕ) (set b : ℕ) → roomFor s ls set b ≡ true
-    → has set b ≡ true → length (linksOf s ls (s .me) b) < s .l
-room-says s ls set b e f =
-    ltb-true _ _ (go (has set b) _ f e)
-  where
-    go : (t u : Bool) → t ≡ true → (not t || u) ≡ true → u ≡ true
-    go true u d e = e
-    go false u d e = absurd (both-no d refl)
+-- b is in the set: there is a link to it, which has room
+module _ {s : Setting} {ls : List ℕ} {set b : ℕ} {m : Mail} {rs : List ℕ}
+    (k : SendsTo s ls set b m rs) (in-set : has set b ≡ true) where
+  pub to-link : isLink (s .n) (s .me) b ≡ true
+  to-link = other-link (s .n) (s .me) b set (k .me) (k .box) (k .other) in-set
+
+  pub to-room : length (linksOf s ls (s .me) b) < s .l
+  to-room = ltb-true _ _ (rw in-set at (k .room))
 
 -- ---- the letter
 
@@ -98,7 +97,8 @@ module _ (s : Setting) (set : ℕ) (y : Letter) (ls₀ : List ℕ) where
     pub few : b ≤ s .n
     pub put : LinksPut s (sentUpTo b) ls₀ ls
 
-  pub sent-none : LinksLent s ls₀ → SentUpTo 0 ls₀
+module _ {s : Setting} {set : ℕ} {y : Letter} {ls₀ : List ℕ} where
+  pub sent-none : LinksLent s ls₀ → SentUpTo s set y ls₀ 0 ls₀
   unfolding has
   sent-none lent = record {
     few = omega arith;
@@ -115,7 +115,7 @@ module _ (s : Setting) (set : ℕ) (y : Letter) (ls₀ : List ℕ) where
       low zero = refl
       low (suc c) = rw (lt-leb (suc c) 0 (omega arith), and-false (has set (suc c))) refl
 
-  module _ (b : ℕ) (ls : List ℕ) (upTo : SentUpTo b ls) (h : b < s .n) where
+  module _ {b : ℕ} {ls : List ℕ} (upTo : SentUpTo s set y ls₀ b ls) (h : b < s .n) where
     -- the next link is as it was
     next-link : linksOf s ls (s .me) (b + 1) ≡ linksOf s ls₀ (s .me) (b + 1)
     next-link =
@@ -128,10 +128,10 @@ module _ (s : Setting) (set : ℕ) (y : Letter) (ls₀ : List ℕ) where
         ap (λ (l : List Letter). not (has set (b + 1)) || ltb (length l) (s .l)) next-link
         ∙ every-at (s .n) (roomFor s ls₀ set) room (b + 1) (omega arith, omega arith)
 
-    pub sent-more : (ls' : List ℕ)
+    pub sent-more : {ls' : List ℕ}
         → LinksPut s (sent (linksOf s ls) (s .me) (λ c. has set c && eqb c (b + 1)) y) ls ls'
-        → SentUpTo (b + 1) ls'
-    sent-more ls' put = record {
+        → SentUpTo s set y ls₀ (b + 1) ls'
+    sent-more put = record {
       few = omega arith;
       put = record {
         links = put .links ∙ (λ t. λ x c.
@@ -144,8 +144,8 @@ module _ (s : Setting) (set : ℕ) (y : Letter) (ls₀ : List ℕ) where
     }
       where
         next : (x c : ℕ)
-            → sent (sentUpTo b) (s .me) (λ k. has set k && eqb k (b + 1)) y x c
-            ≡ sentUpTo (b + 1) x c
+            → sent (sentUpTo s set y ls₀ b) (s .me) (λ k. has set k && eqb k (b + 1)) y x c
+            ≡ sentUpTo s set y ls₀ (b + 1) x c
         next x c =
             cond-next (eqb x (s .me)) (has set c) (eqb c (b + 1)) (leb c b) (leb c (b + 1))
             (linksOf s ls₀ x c) (λ l. l ++ (y ∷ []))
@@ -157,9 +157,9 @@ module _ (s : Setting) (set : ℕ) (y : Letter) (ls₀ : List ℕ) where
             apart ne true e = sym (le-leb c (b + 1) (omega (arith, leb-true c b e)))
             apart ne false e = sym (lt-leb c (b + 1) (omega (arith, leb-false c b e)))
 
-  pub sent-all : (b : ℕ) (ls : List ℕ) → SentUpTo b ls → s .n ≤ b → setForm (s .n) set ≡ true
-      → LinksPut s (sent (linksOf s ls₀) (s .me) (has set) y) ls₀ ls
-  sent-all b ls upTo h boxes = record {
+  pub sent-all : {b : ℕ} {ls : List ℕ} → SentUpTo s set y ls₀ b ls → s .n ≤ b
+      → setForm (s .n) set ≡ true → LinksPut s (sent (linksOf s ls₀) (s .me) (has set) y) ls₀ ls
+  sent-all {b} upTo h boxes = record {
     links = upTo .put .links ∙ (λ t. λ x c.
         cond (eqb x (s .me) && all c (has set c) refl t) (linksOf s ls₀ x c ++ (y ∷ []))
         (linksOf s ls₀ x c));

@@ -19,6 +19,7 @@ use Rattle.rules.specs.declared.model.Turn.{Turn}
 use Rattle.letter.specs.Place.{letterAt, placeForm}
 use Rattle.row.specs.Row.{boxOf, rowFits}
 use Rattle.link.specs.Link.{placeWidth, linkWidth, linkOf, linkFits}
+use Rattle.link.specs.Holds.{Sendable}
 use Rattle.memory.specs.Memory.{siteWords, linksWords, pastSite, pastLinks, rowAt, linkAt}
 use Rattle.memory.specs.Memory.{generalWords}
 use Rattle.memory.specs.Memory.{boxIn, linkIn}
@@ -135,6 +136,15 @@ pub record Sends (s : Setting) (ls : List ℕ) (set : ℕ) (m : Mail) (rs : List
   pub other : has set (s .me) ≡ false
   pub room : every (s .n) (roomFor s ls set) ≡ true
   pub letter : formLetter (s .j) (letterOf m rs) ≡ true
+
+-- the same of one box b, where it is in the set
+pub record SendsTo (s : Setting) (ls : List ℕ) (set b : ℕ) (m : Mail) (rs : List ℕ) : Type 0 where
+  pub lent : LinksLent s ls
+  pub me : isBox (s .n) (s .me) ≡ true
+  pub box : isBox (s .n) b ≡ true
+  pub other : has set (s .me) ≡ false
+  pub room : roomFor s ls set b ≡ true
+  pub letter : Sendable (s .j) m rs
 
 -- box me can take the turn t, by a mail with the records ms
 pub record Playable (s : Setting) (xs ms : List ℕ) (t : Turn) : Type 0 where

@@ -29,6 +29,7 @@ pub use links::pop;
 pub use links::send;
 pub use places::has_words;
 pub use places::link_count;
+pub use places::link_of;
 pub use places::link_start;
 pub use places::link_width;
 pub use places::row_of;

@@ -11,7 +11,6 @@ ghost use Rattle.rules.specs.Sets.{has};
 ghost use Rattle.rules.specs.Box.{letterOf};
 ghost use Rattle.rules.specs.Site.{isBox, isLink, posted, twice};
 ghost use Rattle.rules.specs.declared.model.Out.{Out};
-ghost use Rattle.link.specs.Holds.{Sendable};
 ghost use Rattle.memory.specs.Memory.{linksWords};
 ghost use Rattle.memory.specs.After.{
   boxesOf,
@@ -25,6 +24,7 @@ ghost use Rattle.memory.specs.After.{
   sent,
   roomFor,
   Sends,
+  SendsTo,
 };
 use crate::general;
 use crate::places;
@@ -142,12 +142,7 @@ pub fn has_room(links: &[u64], s: Setting, set: u32) -> bool
 
 // The mail goes from me to box b, where b is in the set, with its records of those.
 fn send_to(links: &mut [u64], s: Setting, set: u32, b: u32, m: Mail, records: &[u64])
-    requires { ⌜ LinksLent s (now links) ⌝ }
-    requires { ⌜ isBox (s .n) (s .me) ≡ true ⌝ }
-    requires { ⌜ isBox (s .n) b ≡ true ⌝ }
-    requires { ⌜ has set (s .me) ≡ false ⌝ }
-    requires { ⌜ roomFor s (now links) set b ≡ true ⌝ }
-    requires { ⌜ Sendable (s .j) m (now records) ⌝ }
+    requires { ⌜ SendsTo s (now links) set b m (now records) ⌝ }
     ensures { λ _.
         ⌜ LinksPut s
         (sent (linksOf s (now (links .entry))) (s .me) (λ y. has set y && eqb y b)

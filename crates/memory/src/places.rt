@@ -124,7 +124,7 @@ pub(crate) fn link_end(s: Setting, start: usize) -> usize
 }
 
 // The row of link k.
-pub(crate) fn link_of(links: &[u64], s: Setting, k: usize) -> &[u64]
+pub fn link_of(links: &[u64], s: Setting, k: usize) -> &[u64]
     requires { ⌜ sizesForm (s .n) (s .j) (s .l) ≡ true ⌝ }
     requires { ⌜ linksWords (s .n) (s .j) (s .l) ≤ length (now links) ⌝ }
     requires { ⌜ k < s .n * (s .n - 1) ⌝ }

@@ -26,13 +26,13 @@ use Rattle.own.specs.Entry.{rowOf, placeOf, ownBox, ownLetter, rowReads,
 
 module _ (w : ℕ) (ws : List ℕ) (fits form : Bool) where
   -- Where there are enough, their test is t ..
-  long-tested : (t : Bool) → w ≤ length ws → t ≡ all (fits ∷ form ∷ [])
+  pub long-tested : {t : Bool} → w ≤ length ws → t ≡ all (fits ∷ form ∷ [])
       → t ≡ (leb w (length ws) && fits && form)
   unfolding all
-  long-tested t h e = e ∙ rw (le-leb w (length ws) h, and-true)
+  long-tested h e = e ∙ rw (le-leb w (length ws) h, and-true)
 
   -- .. and where there are too few, they cannot be read.
-  short-tested : length ws < w → false ≡ (leb w (length ws) && fits && form)
+  pub short-tested : length ws < w → false ≡ (leb w (length ws) && fits && form)
   short-tested h = rw (lt-leb w (length ws) h)
 
   tested : (leb w (length ws) && fits && form) ≡ true
@@ -55,15 +55,6 @@ module _ (s : Setting) where
   abbrev pub placeTest : List ℕ → Bool
   placeTest p = placeReads (s .j) p && formLetter (s .j) (ownLetter s p)
 
-  pub row-tested : (t : Bool) (r : List ℕ) → headWords + s .j ≤ length r
-      → t ≡ rowForm (s .n) (s .j) (s .me) (rowOf (s .j) r) → t ≡ rowTest r
-  unfolding rowForm rowReads
-  row-tested t r h e = long-tested (headWords + s .j) r _ _ t h e
-
-  pub row-short : (r : List ℕ) → length r < headWords + s .j → false ≡ rowTest r
-  unfolding rowReads
-  row-short r h = short-tested (headWords + s .j) r _ _ h
-
   pub row-sized : (r : List ℕ) → sizesForm (s .n) (s .j) (s .l) ≡ true → headWords + s .j ≤ length r
       → RowSized (s .n) (s .j) (rowOf (s .j) r)
   row-sized r sizes h = let z = sizes-says sizes in
@@ -72,15 +63,6 @@ module _ (s : Setting) where
         boxes = z .few-boxes;
         loads = z .few-loads;
       }
-
-  pub place-tested : (t : Bool) (p : List ℕ) → letterHead + s .j ≤ length p
-      → t ≡ placeForm (s .j) (placeOf (s .j) p) → t ≡ placeTest p
-  unfolding placeForm placeReads
-  place-tested t p h e = long-tested (letterHead + s .j) p _ _ t h e
-
-  pub place-short : (p : List ℕ) → length p < letterHead + s .j → false ≡ placeTest p
-  unfolding placeReads
-  place-short p h = short-tested (letterHead + s .j) p _ _ h
 
   pub place-sized : (p : List ℕ) → sizesForm (s .n) (s .j) (s .l) ≡ true
       → letterHead + s .j ≤ length p

@@ -1,6 +1,6 @@
 -- Both round trips, over what `write` and `read` say of the lent buffers.
 use mathlib.Core.Path.{_≡_, refl, sym, ap, _∙_, subst}
-use mathlib.Core.Bool.{Bool, true, false, false≢true}
+use mathlib.Core.Bool.{true}
 use Prim.Native.Nat.{ℕ, _≤_}
 use native.Mathlib.Omega.{arith}
 use mathlib.Core.List.{List, _++_}
@@ -32,37 +32,17 @@ read-back s {xs} {ls} f room (reader.too-short t g e r) =
 read-back s {ys = ys} {ks = ks} f room (reader.done h) =
     (refl, one-image s (siteOf ys ks) f (held-form h) (sym (h .image)))
 
--- ---- what an answer is
-
-isLength : Written → Bool
-isLength (Written.Length n) = true
-isLength (Written.Refused r) = false
-
-lengthIn : Written → ℕ
-lengthIn (Written.Length n) = n
-lengthIn (Written.Refused r) = 0
-
-isDone : Answer → Bool
-isDone Answer.Done = true
-isDone Answer.Taken = false
-isDone (Answer.Discarded c) = false
-isDone (Answer.Refused r) = false
-
 -- ---- over the lent buffers
 
 -- The bytes that `write` has written.
 pub front-written : {us vs o o' : List ℕ} {w : Written} (n : ℕ) → w ≡ Written.Length n
     → WriteIs us vs o w o' → (memoryForm us vs ≡ true) × (take n o' ≡ imageOf (siteOf us vs))
-unfolding isLength lengthIn
-front-written n e (writer.not-by-form f) = absurd (false≢true (ap isLength e))
-front-written n e (writer.too-short f l) = absurd (false≢true (ap isLength e))
+front-written n e (writer.not-by-form f) = absurd (let z : _≡_ {A = ℕ} 0 1 = cc in omega arith)
+front-written n e (writer.too-short f l) = absurd (let z : _≡_ {A = ℕ} 0 1 = cc in omega arith)
 front-written {us} {vs} {o} n e (writer.written f l) =
     let bytes = imageOf (siteOf us vs) in
-    let rest = drop (length bytes) o in (
-      f,
-      ap (λ (k : ℕ). take k (bytes ++ rest)) (sym (ap lengthIn e))
-          ∙ take-at bytes rest (length bytes) refl,
-    )
+    let long : length bytes ≡ n = cc in
+    (f, take-at bytes (drop (length bytes) o) n long)
 
 -- WRITE, THEN READ: the same site.
 pub write-read : {us vs o o' xs ls ys ks : List ℕ} {w : Written} {a : Answer} (n : ℕ)
@@ -82,9 +62,9 @@ write-read {us} {vs} {xs = xs} {ls = ls} {ys = ys} {ks = ks} {a = a} n e w room 
 pub read-write : {image xs ls ys ks o o' : List ℕ} {w : Written} {a : Answer} → a ≡ Answer.Done
     → ReadIs image xs ls a ys ks → length image ≤ length o → WriteIs ys ks o w o'
     → (w ≡ Written.Length (length image)) × (o' ≡ image ++ drop (length image) o)
-unfolding isDone
-read-write e (reader.not-by-form p) room w = absurd (false≢true (ap isDone e))
-read-write e (reader.too-short s f d r) room w = absurd (false≢true (ap isDone e))
+read-write e (reader.not-by-form p) room w = absurd (let z : _≡_ {A = ℕ} 0 1 = cc in omega arith)
+read-write e (reader.too-short s f d r) room w =
+    absurd (let z : _≡_ {A = ℕ} 0 1 = cc in omega arith)
 read-write e (reader.done h) room (writer.not-by-form f) = absurd (both-no (h .form) f)
 read-write e (reader.done h) room (writer.too-short f l) =
     let same = ap length (h .image) in

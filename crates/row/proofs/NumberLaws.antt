@@ -4,10 +4,10 @@ use mathlib.Core.Bool.{Bool, true, false}
 use Prim.Native.Nat.{ℕ, zero, suc, _-_, _≤_}
 use native.Mathlib.Omega.{arith}
 use lib.Dec.{leb}
-use Rattle.rules.specs.Numbers.{stateNumber, phaseNumber}
+use Rattle.rules.specs.Numbers.{flagNumber, stateNumber, phaseNumber}
 use Rattle.rules.specs.declared.model.Phase.{Phase}
 use Rattle.rules.specs.declared.model.State.{State}
-use Rattle.row.specs.Row.{stateOf, phaseOf, flagOf, flagNumber}
+use Rattle.row.specs.Row.{stateOf, phaseOf, flagOf}
 
 pub state-back : (s : State) → stateOf (stateNumber s) ≡ s
 state-back State.Recovering = refl

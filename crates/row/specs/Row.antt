@@ -1,13 +1,13 @@
 -- A box in words: its fields in the image's order, and then room for J records.
 use Prim.Native.Nat.{ℕ, zero, suc, _+_}
-use mathlib.Core.Bool.{Bool, true, false, cond}
+use mathlib.Core.Bool.{Bool, cond}
 use mathlib.Core.List.{List, [], _∷_}
 use lib.Dec.{leb, eqb}
 use lib.ListN.{getD}
 use Rattle.words.specs.Rows.{part}
 use Rattle.rules.specs.Every.{all}
 use Rattle.rules.specs.Sizes.{unknown}
-use Rattle.rules.specs.Numbers.{stateNumber, phaseNumber}
+use Rattle.rules.specs.Numbers.{flagNumber, stateNumber, phaseNumber}
 use Rattle.rules.specs.Box.{Box}
 use Rattle.rules.specs.Form.{formBox}
 use Rattle.rules.specs.declared.model.BoxState.{BoxState}
@@ -106,10 +106,6 @@ phaseOf (suc (suc (suc (suc (suc x))))) = Phase.Commit
 
 abbrev pub flagOf : ℕ → Bool
 flagOf x = eqb x 1
-
-abbrev pub flagNumber : Bool → ℕ
-flagNumber true = 1
-flagNumber false = 0
 
 -- the last of peer k of n; a number above n is no box's, and its word is not read
 abbrev pub peerOf : ℕ → List ℕ → ℕ → ℕ

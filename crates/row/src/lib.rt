@@ -5,12 +5,12 @@ ghost use Prim.Native.Nat.{_+_, _-_, _≤_, _<_};
 ghost use lib.ListN.{length, getD, drop, set};
 ghost use Rattle.words.specs.Rows.{part, splice};
 ghost use Rattle.rules.specs.Sizes.{mostBoxes};
+ghost use Rattle.rules.specs.Numbers.{flagNumber};
 ghost use Rattle.rules.specs.Box.{own, mail, turnOf};
 ghost use Rattle.letter.specs.Place.{letterAt, headWords as letterHead};
 ghost use Rattle.row.specs.Row.{
   stateOf,
   phaseOf,
-  flagNumber,
   peerOf,
   headOf,
   boxOf,

@@ -1,8 +1,13 @@
 -- The paper's number for every case of every enum, and the tests that compare two cases by it.
 use Prim.Native.Nat.{ℕ, _+_}
-use mathlib.Core.Bool.{Bool}
+use mathlib.Core.Bool.{Bool, true, false}
 use lib.Dec.{eqb}
 use Rattle.rules.specs.Types.{State, Phase, Kind, Cause, Refusal, Answer}
+
+-- "leader flag": on 1, off 0
+abbrev pub flagNumber : Bool → ℕ
+flagNumber true = 1
+flagNumber false = 0
 
 -- "state (Recovering 0, Active 1, Updating 2, UpdatingPrevious 3, Refresh 4)"
 abbrev pub stateNumber : State → ℕ

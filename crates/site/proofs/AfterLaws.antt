@@ -10,14 +10,14 @@ use Rattle.rules.specs.Site.{Site, Outcome, room, played}
 use Rattle.rules.specs.Needs.{Need, need, ruled}
 use Rattle.rules.specs.Step.{refused, byAnswer, byTurn}
 use Rattle.rules.specs.declared.model.Answer.{Answer}
-use Rattle.rules.specs.declared.model.Cause.{Cause}
 use Rattle.rules.specs.declared.model.Refusal.{Refusal}
 use Rattle.rules.specs.declared.model.Turn.{Turn}
 use Rattle.laws.proofs.Logic.{true≠false, both-no}
-use Rattle.laws.proofs.StepLaws.{changed}
+use Rattle.laws.proofs.StepLaws.{changed, accepted-kept}
 use Rattle.memory.specs.Memory.{pastSite, pastLinks, siteOf, readable, generalWords}
 use Rattle.memory.specs.After.{settingAt, boxesOf, linksOf, RowsPut, LinksPut}
-use Rattle.memory.proofs.LentLaws.{general-same, setting-same, readable-rows, readable-made}
+use Rattle.memory.proofs.LentLaws.{general-same, setting-same, readable-rows, readable-links}
+use Rattle.memory.proofs.LentLaws.{readable-made}
 use Rattle.rules.specs.Answers.{isRefusal, isAccepted}
 use Rattle.site.specs.Entries.{After}
 
@@ -73,68 +73,6 @@ refused-after xs ls why o e = record {
   readable = λ r. r;
 }
 
--- nothing changes, and it is no refusal
-pub same-after : (xs ls : List ℕ) (o : Outcome) (a : Answer)
-    → o ≡ record { answer = a; next = siteOf xs ls }
-    → After o xs ls xs ls a
-same-after xs ls o a e = record {
-  answer = ap (λ (r : Outcome). r .answer) (sym e);
-  site = ap (λ (r : Outcome). r .next) (sym e);
-  kept = λ t. (refl, refl);
-  past-site = refl;
-  past-links = refl;
-  site-words = refl;
-  links-words = refl;
-  readable = λ r. r;
-}
-
--- ---- turns
-
-module _ (xs ls : List ℕ) (c : ℕ) (link : ℕ → ℕ → List Letter) (t : Turn) (ms : List ℕ) where
-  abbrev base : Site
-  base = changed (siteOf xs ls) (siteOf xs ls .box) link
-
-  abbrev outcome : Outcome
-  outcome = byTurn (siteOf xs ls) base c t ms
-
-  -- the turn refuses
-  pub turn-refused : (why : Refusal) → t .answer ≡ Answer.Refused why
-      → outcome ≡ refused (siteOf xs ls) why
-  unfolding byAnswer
-  turn-refused why e = rw e refl
-
-  -- the turn discards
-  pub turn-discarded : (why : Cause) → t .answer ≡ Answer.Discarded why
-      → outcome ≡ record { answer = Answer.Discarded why; next = base }
-  unfolding byAnswer
-  turn-discarded why e = rw e refl
-
-  -- the turn goes on, and there is no room for its mails
-  pub turn-full : isAccepted (t .answer) ≡ true → room base c (t .out) ≡ false
-      → outcome ≡ refused (siteOf xs ls) Refusal.Link
-  unfolding byAnswer
-  turn-full h r = go (t .answer) h
-    where
-      go : (a : Answer) → isAccepted a ≡ true
-          → byAnswer a (siteOf xs ls) base c t ms ≡ refused (siteOf xs ls) Refusal.Link
-      go Answer.Done h = need-not _ _ _ _ _ r
-      go Answer.Taken h = need-not _ _ _ _ _ r
-      go (Answer.Discarded why) h = absurd (true≠false (sym h))
-      go (Answer.Refused why) h = absurd (true≠false (sym h))
-
-  -- the turn goes on, and is played
-  pub turn-played : isAccepted (t .answer) ≡ true → room base c (t .out) ≡ true
-      → outcome ≡ record { answer = t .answer; next = played base c t ms }
-  unfolding byAnswer
-  turn-played h r = go (t .answer) h
-    where
-      go : (a : Answer) → isAccepted a ≡ true
-          → byAnswer a (siteOf xs ls) base c t ms ≡ record { answer = a; next = played base c t ms }
-      go Answer.Done h = need-met _ _ _ _ _ r ∙ no-needs _ _
-      go Answer.Taken h = need-met _ _ _ _ _ r ∙ no-needs _ _
-      go (Answer.Discarded why) h = absurd (true≠false (sym h))
-      go (Answer.Refused why) h = absurd (true≠false (sym h))
-
 -- the rows and the links hold what a site of other boxes and links has
 pub changed-after : (xs ls xs' ls' : List ℕ) (c : ℕ) (f : ℕ → Box) (g : ℕ → ℕ → List Letter)
     (o : Outcome)
@@ -172,3 +110,80 @@ rows-same xs ls c r = record {
   words = refl;
   lent = readable-rows xs ls c r;
 }
+
+-- the links as they were
+pub links-same : (xs ls : List ℕ) (c : ℕ) → readable xs ls ≡ true
+    → LinksPut (settingAt xs c) (linksOf (settingAt xs c) ls) ls ls
+links-same xs ls c r = record {
+  links = refl;
+  past = refl;
+  words = refl;
+  lent = readable-links xs ls c r;
+}
+
+-- ---- turns
+
+-- o is what the turn t of box c comes to, on links that the mail it takes has left
+module _ (xs ls : List ℕ) (c : ℕ) (link : ℕ → ℕ → List Letter) (t : Turn) (ms : List ℕ)
+    (o : Outcome)
+    (is : o ≡ byTurn (siteOf xs ls) (changed (siteOf xs ls) (siteOf xs ls .box) link) c t ms) where
+  abbrev base : Site
+  base = changed (siteOf xs ls) (siteOf xs ls .box) link
+
+  abbrev by : Answer → Outcome
+  by a = byAnswer a (siteOf xs ls) base c t ms
+
+  -- the turn refuses
+  pub turn-refused : isRefusal (t .answer) ≡ true → After o xs ls xs ls (t .answer)
+  unfolding byAnswer
+  turn-refused r = go (t .answer) r is
+    where
+      go : (a : Answer) → isRefusal a ≡ true → o ≡ by a → After o xs ls xs ls a
+      go Answer.Done r e = absurd (true≠false (sym r))
+      go Answer.Taken r e = absurd (true≠false (sym r))
+      go (Answer.Discarded why) r e = absurd (true≠false (sym r))
+      go (Answer.Refused why) r e = refused-after xs ls why o e
+
+  -- the turn discards
+  pub turn-discarded : {ls' : List ℕ} → isRefusal (t .answer) ≡ false
+      → isAccepted (t .answer) ≡ false → readable xs ls ≡ true
+      → LinksPut (settingAt xs c) link ls ls' → After o xs ls xs ls' (t .answer)
+  unfolding siteOf byAnswer
+  turn-discarded {ls'} r h ok put = go (t .answer) r h is
+    where
+      go : (a : Answer) → isRefusal a ≡ false → isAccepted a ≡ false → o ≡ by a
+          → After o xs ls xs ls' a
+      go Answer.Done r h e = absurd (both-no refl h)
+      go Answer.Taken r h e = absurd (both-no refl h)
+      go (Answer.Discarded why) r h e =
+          changed-after xs ls xs ls' c _ _ o (Answer.Discarded why) e refl (rows-same xs ls c ok)
+          put
+      go (Answer.Refused why) r h e = absurd (both-no refl r)
+
+  -- the turn goes on
+  module _ (h : isAccepted (t .answer) ≡ true) where
+    by-room : (a : Answer) → isAccepted a ≡ true → o ≡ by a
+        → o ≡ ruled (refused (siteOf xs ls)) (need Refusal.Link (room base c (t .out)) ∷ [])
+        (record { answer = a; next = played base c t ms })
+    unfolding byAnswer
+    by-room Answer.Done h e = e
+    by-room Answer.Taken h e = e
+    by-room (Answer.Discarded why) h e = absurd (true≠false (sym h))
+    by-room (Answer.Refused why) h e = absurd (true≠false (sym h))
+
+    -- there is no room for its mails
+    pub turn-full : room base c (t .out) ≡ false
+        → After o xs ls xs ls (Answer.Refused Refusal.Link)
+    turn-full r =
+        refused-after xs ls Refusal.Link o (by-room (t .answer) h is ∙ need-not _ _ _ _ _ r)
+
+    -- it is played
+    pub turn-played : {xs' ls' : List ℕ} → room base c (t .out) ≡ true
+        → RowsPut (settingAt xs c) (played base c t ms .box) xs xs'
+        → LinksPut (settingAt xs c) (played base c t ms .link) ls ls'
+        → After o xs ls xs' ls' (t .answer)
+    unfolding siteOf
+    turn-played {xs'} {ls'} r rows links =
+        changed-after xs ls xs' ls' c _ _ o (t .answer)
+        (by-room (t .answer) h is ∙ need-met _ _ _ _ _ r ∙ no-needs _ _)
+        (accepted-kept (t .answer) h) rows links

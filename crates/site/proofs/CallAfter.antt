@@ -5,7 +5,7 @@ use mathlib.Core.Bool.{true}
 use mathlib.Core.List.{List, []}
 use native.Mathlib.Omega.{arith}
 use lib.ListN.{length, set}
-use Rattle.rules.specs.Box.{Letter}
+use Rattle.rules.specs.Box.{Box, Letter}
 use Rattle.rules.specs.Site.{Site, Outcome, relinked}
 use Rattle.rules.specs.Needs.{Need, ruled}
 use Rattle.rules.specs.Step.{refused, did, elect, presented, risen}
@@ -14,6 +14,7 @@ use Rattle.rules.specs.declared.model.Refusal.{Refusal}
 use Rattle.rules.specs.declared.model.Setting.{Setting}
 use Rattle.rules.specs.declared.model.Verdict.{Verdict}
 use Rattle.laws.proofs.Logic.{true≠false}
+use Rattle.laws.proofs.StepLaws.{changed}
 use Rattle.memory.specs.Memory.{rowWidth, pastSite, pastLinks, siteOf, readable, generalWords}
 use Rattle.memory.specs.Memory.{memoryForm}
 use Rattle.memory.specs.After.{settingAt, linksBy, RowsPut, LinksPut}
@@ -23,7 +24,8 @@ use Rattle.site.proofs.GeneralLaws.{general-length, general-past, gener
 use Rattle.site.proofs.GeneralLaws.{general-readable}
 use Rattle.site.specs.Entries.{After}
 use Rattle.site.specs.Verdicts.{verdictOf}
-use Rattle.site.proofs.AfterLaws.{refused-after, changed-after, rows-same, site-changed}
+use Rattle.site.proofs.AfterLaws.{refused-after, changed-after, rows-same, links-same}
+use Rattle.site.proofs.AfterLaws.{site-changed}
 use Rattle.site.proofs.CallLaws.{verdict-refuse}
 
 module _ (xs ls : List ℕ) (f : memoryForm xs ls ≡ true) where
@@ -45,32 +47,17 @@ module _ (xs ls : List ℕ) (f : memoryForm xs ls ≡ true) where
 
   -- ---- the epoch and the present set
 
-  -- presence is w, and the epoch has risen
-  pub presented-after : (o : Outcome) (w : ℕ) → o ≡ did (presented s w)
-      → After o xs ls (generalPut (risen (s .epoch)) w xs) ls Answer.Done
-  unfolding presented
-  presented-after o w e = record {
-    answer = ap (λ (r : Outcome). r .answer) (sym e);
-    site = general-put xs (risen (s .epoch)) w ls five ∙ ap (λ (r : Outcome). r .next) (sym e);
-    kept = λ t. absurd (true≠false (sym t));
-    past-site = general-past xs _ _ (o .next .n * rowWidth (o .next .J));
-    past-links = refl;
-    site-words = general-length xs _ _;
-    links-words = refl;
-    readable = general-readable xs (risen (s .epoch)) w ls;
-  }
-
-  -- ---- an election
-
-  pub elected-after : (c : ℕ) (o : Outcome) (xs' ls' : List ℕ) → o ≡ did (elect s c)
-      → RowsPut (at c) (elect s c .box) xs xs' → LinksPut (at c) (λ a b. []) ls ls'
-      → After o xs ls (generalPut (s .epoch + 1) (s .present) xs') ls' Answer.Done
-  unfolding elect siteOf
-  elected-after c o xs' ls' e rows links = record {
+  -- where the rows and the links hold what a site of other boxes and links has
+  general-after : (epoch present c : ℕ) {f : ℕ → Box} {g : ℕ → ℕ → List Letter} (o : Outcome)
+      {xs' ls' : List ℕ} → o ≡ did (withGeneral epoch present (changed s f g))
+      → RowsPut (at c) f xs xs' → LinksPut (at c) g ls ls'
+      → After o xs ls (generalPut epoch present xs') ls' Answer.Done
+  unfolding siteOf
+  general-after epoch present c o {xs'} {ls'} e rows links = record {
     answer = ap (λ (r : Outcome). r .answer) (sym e);
     site =
-        general-put xs' (s .epoch + 1) (s .present) ls' (omega (arith, five, rows .words))
-        ∙ ap (withGeneral (s .epoch + 1) (s .present))
+        general-put xs' epoch present ls' (omega (arith, five, rows .words))
+        ∙ ap (withGeneral epoch present)
         (site-changed xs ls xs' ls' c _ _ (rows .general) (rows .boxes) (links .links))
         ∙ ap (λ (r : Outcome). r .next) (sym e);
     kept = λ t. absurd (true≠false (sym t));
@@ -84,11 +71,26 @@ module _ (xs ls : List ℕ) (f : memoryForm xs ls ≡ true) where
     site-words = general-length xs' _ _ ∙ rows .words;
     links-words = links .words;
     readable = λ h.
-        general-readable xs' (s .epoch + 1) (s .present) ls'
+        general-readable xs' epoch present ls'
         (readable-made xs' ls' c
         (rw (setting-same xs xs' c (rows .general)) (rows .lent))
         (rw (setting-same xs xs' c (rows .general)) (links .lent)));
   }
+
+  -- presence is w, and the epoch has risen
+  pub presented-after : (o : Outcome) (w : ℕ) → o ≡ did (presented s w)
+      → After o xs ls (generalPut (risen (s .epoch)) w xs) ls Answer.Done
+  unfolding presented siteOf
+  presented-after o w e =
+      let ok = form-readable xs ls f in
+      general-after (risen (s .epoch)) w 0 o e (rows-same xs ls 0 ok) (links-same xs ls 0 ok)
+
+  -- an election
+  pub elected-after : (c : ℕ) (o : Outcome) {xs' ls' : List ℕ} → o ≡ did (elect s c)
+      → RowsPut (at c) (elect s c .box) xs xs' → LinksPut (at c) (λ a b. []) ls ls'
+      → After o xs ls (generalPut (s .epoch + 1) (s .present) xs') ls' Answer.Done
+  unfolding elect siteOf
+  elected-after c o e rows links = general-after (s .epoch + 1) (s .present) c o e rows links
 
   -- ---- one link changed
 

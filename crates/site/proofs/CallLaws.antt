@@ -1,16 +1,17 @@
 -- What a call comes to on a site by form: its needs after form are a verdict, and then it is done.
 use Prim.Native.Nat.{ℕ}
 use mathlib.Core.Path.{_≡_, refl, ap, _∙_}
-use mathlib.Core.Bool.{Bool, true, false, cond}
+use mathlib.Core.Bool.{Bool, true, false, not, cond}
 use mathlib.Core.List.{List, [], _∷_}
 use native.Mathlib.Omega.{arith}
+use lib.Dec.{eqb}
+use lib.ListN.{length}
 use Rattle.rules.specs.Box.{Letter, own, mail, turnOf}
 use Rattle.rules.specs.Site.{Site, Outcome, isBox, isLink, popped, doubled}
 use Rattle.rules.specs.Form.{form}
 use Rattle.rules.specs.Needs.{Need, need, ruled}
 use Rattle.rules.specs.Step.{refused, did, byTurn, atBox, atLink, acting, delivered, elect}
 use Rattle.rules.specs.Step.{presented, step, agreedAs, holds}
-use Rattle.rules.specs.Sets.{joined, without}
 use Rattle.rules.specs.declared.model.Act.{Act}
 use Rattle.rules.specs.declared.model.Answer.{Answer}
 use Rattle.rules.specs.declared.model.Call.{Call}
@@ -21,8 +22,10 @@ use Rattle.memory.specs.Memory.{siteOf, memoryForm}
 use Rattle.memory.specs.After.{settingAt, boxesOf}
 use Rattle.memory.proofs.LentLaws.{form-site}
 use Rattle.site.specs.Verdicts.{verdictOf}
-use Rattle.rules.specs.Step.{electNeeds, stopNeeds, returnNeeds, timeoutNeeds, loseNeeds}
-use Rattle.rules.specs.Step.{repeatNeeds}
+use Rattle.rules.specs.Step.{electNeeds, loseNeeds, repeatNeeds}
+use Rattle.site.specs.Calls.{presenceCall, presenceNeeds, presentThen, linkCall}
+use Rattle.site.specs.declared.mail.OnLink.{OnLink}
+use Rattle.site.specs.declared.presence.Presence.{Presence}
 use Rattle.site.proofs.AfterLaws.{no-needs, need-met, need-not}
 
 -- ---- needs as a verdict
@@ -109,37 +112,21 @@ module _ (xs ls : List ℕ) (f : memoryForm xs ls ≡ true) where
     unfolding siteOf step
     elect-needs h = at-box c _ _ h
 
-    pub stop-no-box : isBox (s .n) c ≡ false → step s (Call.Stop c) ≡ refused s Refusal.Box
+    pub presence-no-box : (what : Presence) → isBox (s .n) c ≡ false
+        → step s (presenceCall what c) ≡ refused s Refusal.Box
     unfolding step
-    stop-no-box h = no-box c _ _ h
+    presence-no-box Presence.Stop h = no-box c _ _ h
+    presence-no-box Presence.Return h = no-box c _ _ h
+    presence-no-box Presence.Timeout h = no-box c _ _ h
 
-    pub stop-needs : isBox (s .n) c ≡ true
-        → step s (Call.Stop c)
-        ≡ ruled (refused s) (stopNeeds (settingAt xs c))
-        (did (presented s (without (s .present) c)))
+    pub presence-needs : (what : Presence) → isBox (s .n) c ≡ true
+        → step s (presenceCall what c)
+        ≡ ruled (refused s) (presenceNeeds what (settingAt xs c))
+        (did (presented s (presentThen what (settingAt xs c))))
     unfolding siteOf step
-    stop-needs h = at-box c _ _ h
-
-    pub return-no-box : isBox (s .n) c ≡ false → step s (Call.Return c) ≡ refused s Refusal.Box
-    unfolding step
-    return-no-box h = no-box c _ _ h
-
-    pub return-needs : isBox (s .n) c ≡ true
-        → step s (Call.Return c)
-        ≡ ruled (refused s) (returnNeeds (settingAt xs c))
-        (did (presented s (joined (s .present) c)))
-    unfolding siteOf step
-    return-needs h = at-box c _ _ h
-
-    pub timeout-no-box : isBox (s .n) c ≡ false → step s (Call.Timeout c) ≡ refused s Refusal.Box
-    unfolding step
-    timeout-no-box h = no-box c _ _ h
-
-    pub timeout-needs : isBox (s .n) c ≡ true
-        → step s (Call.Timeout c)
-        ≡ ruled (refused s) (timeoutNeeds (settingAt xs c)) (did (presented s (s .present)))
-    unfolding siteOf step
-    timeout-needs h = at-box c _ _ h
+    presence-needs Presence.Stop h = at-box c _ _ h
+    presence-needs Presence.Return h = at-box c _ _ h
+    presence-needs Presence.Timeout h = at-box c _ _ h
 
     pub holds-no-box : (k left right : ℕ) → isBox (s .n) c ≡ false
         → holds s c k left right ≡ Answer.Refused Refusal.Box
@@ -161,39 +148,46 @@ module _ (xs ls : List ℕ) (f : memoryForm xs ls ≡ true) where
         need-met _ _ _ _ _ (form-site xs ls f) ∙ need-met _ _ _ _ _ h ∙ need-not _ _ _ _ _ e
 
   module _ (a b : ℕ) where
-    pub lose-no-link : isLink (s .n) a b ≡ false → step s (Call.Lose a b) ≡ refused s Refusal.Box
+    pub no-link-call : (what : OnLink) → isLink (s .n) a b ≡ false
+        → step s (linkCall what a b) ≡ refused s Refusal.Box
     unfolding step
-    lose-no-link h = no-link a b _ _ h
+    no-link-call OnLink.Deliver h = no-link a b [] _ h
+    no-link-call OnLink.Lose h = no-link a b _ _ h
+    no-link-call OnLink.Repeat h = no-link a b _ _ h
 
-    pub lose-needs : isLink (s .n) a b ≡ true
-        → step s (Call.Lose a b) ≡ ruled (refused s) (loseNeeds (s .link a b)) (did (popped s a b))
-    unfolding step
-    lose-needs h = at-link a b _ _ h
+    module _ (h : isLink (s .n) a b ≡ true) where
+      pub lose-needs : step s (Call.Lose a b)
+          ≡ ruled (refused s) (loseNeeds (s .link a b)) (did (popped s a b))
+      unfolding step
+      lose-needs = at-link a b _ _ h
 
-    pub repeat-no-link : isLink (s .n) a b ≡ false
-        → step s (Call.Repeat a b) ≡ refused s Refusal.Box
-    unfolding step
-    repeat-no-link h = no-link a b _ _ h
+      pub repeat-needs : step s (Call.Repeat a b)
+          ≡ ruled (refused s) (repeatNeeds (s .L) (s .link a b)) (did (doubled s a b))
+      unfolding step
+      repeat-needs = at-link a b _ _ h
 
-    pub repeat-needs : isLink (s .n) a b ≡ true
-        → step s (Call.Repeat a b)
-        ≡ ruled (refused s) (repeatNeeds (s .L) (s .link a b)) (did (doubled s a b))
-    unfolding step
-    repeat-needs h = at-link a b _ _ h
+      deliver-head : step s (Call.Deliver a b) ≡ delivered s a b (s .link a b)
+      unfolding step
+      deliver-head = at-link a b [] _ h ∙ no-needs _ _
 
-    pub deliver-no-link : isLink (s .n) a b ≡ false
-        → step s (Call.Deliver a b) ≡ refused s Refusal.Box
-    unfolding step
-    deliver-no-link h = no-link a b [] _ h
+      -- by its head
+      pub deliver-turn : (y : Letter) (ys : List Letter) → s .link a b ≡ y ∷ ys
+          → step s (Call.Deliver a b)
+          ≡ byTurn s (popped s a b) b (turnOf (settingAt xs b) (boxesOf (settingAt xs b) xs b)
+          (mail a y)) (y .records)
+      unfolding siteOf delivered
+      deliver-turn y ys head = deliver-head ∙ ap (delivered s a b) head
 
-    pub deliver-head : isLink (s .n) a b ≡ true
-        → step s (Call.Deliver a b) ≡ delivered s a b (s .link a b)
-    unfolding step
-    deliver-head h = at-link a b [] _ h ∙ no-needs _ _
-
-    pub delivered-turn : (y : Letter) (ys : List Letter)
-        → delivered s a b (y ∷ ys)
-        ≡ byTurn s (popped s a b) b (turnOf (settingAt xs b) (boxesOf (settingAt xs b) xs b)
-        (mail a y)) (y .records)
-    unfolding siteOf delivered
-    delivered-turn y ys = refl
+      pub empty-call : (what : OnLink) → length (s .link a b) ≡ 0
+          → step s (linkCall what a b) ≡ refused s Refusal.Condition
+      unfolding delivered
+      empty-call OnLink.Deliver z = deliver-head ∙ none (s .link a b) z
+        where
+          none : (ys : List Letter) → length ys ≡ 0
+              → delivered s a b ys ≡ refused s Refusal.Condition
+          none [] e = refl
+          none (y ∷ ys) e = absurd (omega (arith, e))
+      empty-call OnLink.Lose z =
+          lose-needs ∙ need-not _ _ _ _ _ (ap (λ (k : ℕ). not (eqb k 0)) z)
+      empty-call OnLink.Repeat z =
+          repeat-needs ∙ need-not _ _ _ _ _ (ap (λ (k : ℕ). not (eqb k 0)) z)

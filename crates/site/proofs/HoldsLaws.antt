@@ -8,7 +8,6 @@ use lib.ListN.{length, getD, drop, length-take}
 use borrow.Author.Tests.{leb-true}
 use Rattle.rules.specs.Every.{all}
 use Rattle.rules.specs.Box.{Box}
-use Rattle.rules.specs.Site.{isBox}
 use Rattle.rules.specs.Form.{formBox}
 use Rattle.rules.specs.Step.{agreedAs, holds}
 use Rattle.rules.specs.declared.model.Answer.{Answer}
@@ -17,11 +16,12 @@ use Rattle.rules.specs.declared.model.Setting.{Setting}
 use Rattle.laws.proofs.Logic.{passed}
 use Rattle.laws.proofs.FormLaws.{FormedBox, box-says}
 use Rattle.row.specs.Row.{boxOf, rowFits, countAt, headWords}
-use Rattle.memory.specs.Memory.{rowAt, rowWidth, siteOf, memoryForm}
-use Rattle.memory.specs.After.{settingAt, boxesOf, BoxLent}
+use Rattle.memory.specs.Memory.{rowAt, rowWidth, siteOf}
+use Rattle.memory.specs.After.{boxesOf, BoxLent}
 use Rattle.site.specs.Records.{AgreedLie}
 use Rattle.memory.proofs.RowLaws.{row-by-form}
 use Rattle.site.proofs.CallLaws.{holds-true, holds-untrue}
+use Rattle.site.proofs.KnownLaws.{AtBox}
 use Rattle.site.proofs.TurnKnown.{box-lent}
 
 -- a row that fits and holds a box by form
@@ -48,28 +48,33 @@ module _ {s : Setting} {xs : List ℕ} (h : BoxLent s xs) where
       lie (s .n) (s .j) (s .me) row w (h .rows .fits (s .me) (h .me))
       (box-says (ap (formBox (s .n) (s .j) (s .me)) (sym here) ∙ h .form))
 
-module _ (xs ls : List ℕ) (f : memoryForm xs ls ≡ true) (c : ℕ) (is : isBox (getD xs 0 0) c ≡ true)
-    (s : Setting) (e : s ≡ settingAt xs c) (k l r : ℕ) (t : Bool)
-    (p : t ≡ agreedAs (boxOf (s .n) (rowAt (s .j) xs c)) k l r) where
-  agreed-is : agreedAs (siteOf xs ls .box c) k l r ≡ t
-  unfolding siteOf
-  agreed-is =
-      ap (λ (x : Box). agreedAs x k l r) (rw is refl)
-      ∙ sym (p ∙ (λ i. agreedAs (boxOf (e i .n) (rowAt (e i .j) xs c)) k l r))
+-- the row r of box c, of words by form
+module _ {xs ls : List ℕ} {c : ℕ} {s : Setting} (k : AtBox xs ls c s) {r : List ℕ}
+    (cut : r ≡ rowAt (s .j) xs c) where
+  pub row-lies : AgreedLie r
+  row-lies =
+      let h = box-lent k in
+      let me : r ≡ rowAt (s .j) xs (s .me) =
+      cut ∙ ap (λ (b : ℕ). rowAt (s .j) xs b) (sym (ap (λ (t : Setting). t .me) (k .setting))) in
+      rw me (agreed-lie h (row-by-form s xs h .size .words))
 
-  pub holds-yes : t ≡ true → Answer.Done ≡ holds (siteOf xs ls) c k l r
-  unfolding siteOf
-  holds-yes q = sym (holds-true xs ls f c k l r is (agreed-is ∙ q))
+  module _ (number left right : ℕ) {t : Bool} (p : t ≡ agreedAs (boxOf (s .n) r) number left right)
+    where
+      agreed-is : agreedAs (siteOf xs ls .box c) number left right ≡ t
+      unfolding siteOf
+      agreed-is =
+          ap (λ (x : Box). agreedAs x number left right) (rw (k .box) refl)
+          ∙ sym (p ∙ ap (λ (q : List ℕ). agreedAs (boxOf (s .n) q) number left right) cut
+          ∙ (λ i. agreedAs (boxOf (k .setting i .n) (rowAt (k .setting i .j) xs c)) number left
+          right))
 
-  pub holds-no : t ≡ false → Answer.Refused Refusal.Untrue ≡ holds (siteOf xs ls) c k l r
-  unfolding siteOf
-  holds-no q = sym (holds-untrue xs ls f c k l r is (agreed-is ∙ q))
+      pub holds-yes : t ≡ true → Answer.Done ≡ holds (siteOf xs ls) c number left right
+      unfolding siteOf
+      holds-yes q =
+          sym (holds-true xs ls (k .form) c number left right (k .box) (agreed-is ∙ q))
 
--- the row of a box of a site by form
-pub row-lies : (xs ls : List ℕ) → memoryForm xs ls ≡ true → (c : ℕ) (s : Setting)
-    → s ≡ settingAt xs c
-    → isBox (getD xs 0 0) c ≡ true → (r : List ℕ) → r ≡ rowAt (s .j) xs c → AgreedLie r
-row-lies xs ls f c s e is r here =
-    let h = box-lent xs ls f c is (settingAt xs c) refl in
-    rw (here ∙ ap (λ (k : Setting). rowAt (k .j) xs c) e)
-    (agreed-lie h (row-by-form (settingAt xs c) xs h .size .words))
+      pub holds-no : t ≡ false
+          → Answer.Refused Refusal.Untrue ≡ holds (siteOf xs ls) c number left right
+      unfolding siteOf
+      holds-no q =
+          sym (holds-untrue xs ls (k .form) c number left right (k .box) (agreed-is ∙ q))

@@ -1,7 +1,6 @@
 -- Laws of the engine, from one word to the whole call.
 pub mod AfterLaws
 pub mod CallLaws
-pub mod TurnAfter
 pub mod GeneralLaws
 pub mod CallAfter
 pub mod FreshAfter

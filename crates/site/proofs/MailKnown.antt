@@ -1,18 +1,18 @@
 -- What the code knows of a mail at the head of a link of words by form.
 use Prim.Native.Nat.{ℕ, zero, suc, _+_, _-_, _≤_, _<_}
 use mathlib.Core.Path.{_≡_, refl, sym, ap, _∙_, subst}
-use mathlib.Core.Bool.{Bool, true, false, not, _&&_, _||_, cond}
-use mathlib.Core.List.{List, _∷_, tail}
+use mathlib.Core.Bool.{Bool, true, not, _&&_, _||_, cond}
+use mathlib.Core.List.{List, tail}
 use native.Mathlib.Omega.{arith}
 use lib.Dec.{eqb, ltb}
 use lib.ListN.{length, getD}
-use borrow.Author.Tests.{ne-eqb, lt-ltb, le-ltb, not-true, not-false}
+use borrow.Author.Tests.{ne-eqb, lt-ltb, le-ltb}
 use Rattle.words.specs.Rows.{part}
+use Rattle.words.proofs.TestLaws.{fails}
 use Rattle.rules.specs.Every.{every}
 use Rattle.rules.specs.Sets.{has}
-use Rattle.rules.specs.Box.{Box, Letter, mail, turned}
-use Rattle.rules.specs.Site.{isBox, isLink, upd, posted, room, popped, twice}
-use Rattle.rules.specs.Form.{formLetter}
+use Rattle.rules.specs.Box.{Box, Letter, turned}
+use Rattle.rules.specs.Site.{isLink, upd, posted, room, popped, twice}
 use Rattle.rules.specs.Step.{step}
 use Rattle.rules.specs.declared.model.Answer.{Answer}
 use Rattle.rules.specs.declared.model.Call.{Call}
@@ -20,79 +20,137 @@ use Rattle.rules.specs.declared.model.Refusal.{Refusal}
 use Rattle.rules.specs.declared.model.Out.{Out}
 use Rattle.rules.specs.declared.model.Setting.{Setting}
 use Rattle.rules.specs.declared.model.Turn.{Turn}
-use Rattle.laws.proofs.Logic.{In, All, All-head}
-use Rattle.laws.proofs.FormLaws.{FormedLetter, letter-made, is-link, box-is}
-use Rattle.laws.proofs.Receivers.{Foreign}
-use Rattle.laws.proofs.TurnForm.{EventFits}
-use Rattle.letter.specs.Place.{letterAt, placeForm, headWords as letterHead}
+use Rattle.laws.proofs.FormLaws.{is-link}
+use Rattle.letter.specs.Place.{letterAt, headWords as letterHead}
 use Rattle.link.specs.Link.{placeWidth}
 use Rattle.memory.specs.Memory.{siteOf, memoryForm}
 use Rattle.memory.specs.After.{settingAt, boxesOf, linksOf, linksBy, RowsPut, LinksPut}
-use Rattle.memory.specs.After.{HeadStands, Playable}
-use Rattle.site.specs.Carry.{roomOut, lessHead, Posts, TakesMail, Knows, Carried}
+use Rattle.memory.specs.After.{LinksLent, Playable}
+use Rattle.site.specs.Calls.{linkCall}
+use Rattle.site.specs.Carry.{roomOut, lessHead, Posts, TakesMail, HasHead, Carried}
 use Rattle.site.specs.Entries.{After}
+use Rattle.site.specs.declared.mail.OnLink.{OnLink}
 use Rattle.site.proofs.AfterLaws.{no-needs, need-met, need-not, refused-after}
-use Rattle.site.proofs.CallLaws.{lose-needs, repeat-needs}
+use Rattle.site.proofs.CallLaws.{no-link-call, empty-call, lose-needs, repeat-needs}
 use Rattle.site.proofs.CallAfter.{relinked-after}
-use Rattle.site.proofs.KnownLaws.{formed}
+use Rattle.site.proofs.KnownLaws.{knows-of, links-lent}
 use Rattle.site.proofs.CarryLaws.{playable, posts-after, sent-after}
 
 positive : (n : ℕ) → (n ≡ 0 → ⊥) → 0 < n
 positive zero k = absurd (k refl)
 positive (suc n) k = omega arith
 
--- ---- a test of two numbers
+-- ---- a test of two numbers, and the count of mails on their link
 
-module _ (xs : List ℕ) (a b : ℕ) (s : Setting) (e : s ≡ settingAt xs b) where
-  pub link-yes : (r : Bool) → r ≡ isLink (s .n) a b → not r ≡ false
-      → isLink (getD xs 0 0) a b ≡ true
-  link-yes r p q = ap (λ (k : Setting). isLink (k .n) a b) (sym e) ∙ sym p ∙ not-false r q
+pub not-link : {xs ls : List ℕ} {s : Setting} {r : Bool} (what : OnLink) (a b : ℕ)
+    → memoryForm xs ls ≡ true → s ≡ settingAt xs b → r ≡ isLink (s .n) a b → not r ≡ true
+    → After (step (siteOf xs ls) (linkCall what a b)) xs ls xs ls (Answer.Refused Refusal.Box)
+unfolding siteOf
+not-link {xs} {ls} what a b f e p q =
+    refused-after xs ls Refusal.Box _
+    (no-link-call xs ls f a b what
+    (ap (λ (k : Setting). isLink (k .n) a b) (sym e) ∙ fails p q))
 
-  pub link-not : (r : Bool) → r ≡ isLink (s .n) a b → not r ≡ true
-      → isLink (getD xs 0 0) a b ≡ false
-  link-not r p q = ap (λ (k : Setting). isLink (k .n) a b) (sym e) ∙ sym p ∙ not-true r q
+pub record AtLink (xs ls : List ℕ) (a b : ℕ) (s : Setting) : Type 0 where
+  pub form : memoryForm xs ls ≡ true
+  pub setting : s ≡ settingAt xs b
+  pub link : isLink (s .n) a b ≡ true
 
-  pub link-count : (ls : List ℕ) (n : ℕ) → n ≡ length (linksOf s ls a b)
-      → n ≡ length (linksOf (settingAt xs b) ls a b)
-  link-count ls n h = h ∙ (λ k. length (linksOf (e k) ls a b))
+module _ {xs ls : List ℕ} {a b : ℕ} {s : Setting} (k : AtLink xs ls a b s) where
+  link-there : isLink (getD xs 0 0) a b ≡ true
+  link-there = ap (λ (t : Setting). isLink (t .n) a b) (sym (k .setting)) ∙ k .link
 
-pub link-box : (n a b : ℕ) → isLink n a b ≡ true → isBox n b ≡ true
-link-box n a b h = let l : (In a n) × (In b n) × (a ≡ b → ⊥) = is-link h in box-is (l .1)
+  pub counts : LinksLent s ls × (isLink (s .n) a b ≡ true)
+  counts = (links-lent (knows-of (k .form) b (k .setting)), k .link)
 
--- ---- the head
+  module _ {n : ℕ} (h : n ≡ length (linksOf s ls a b)) where
+    held : n ≡ length (linksOf (settingAt xs b) ls a b)
+    held = h ∙ (λ i. length (linksOf (k .setting i) ls a b))
 
-module _ (xs ls : List ℕ) (f : memoryForm xs ls ≡ true) (a b : ℕ)
-    (is : isLink (getD xs 0 0) a b ≡ true)
-    (s : Setting) (e : s ≡ settingAt xs b) (p : ℕ) (h : HeadStands s a ls p) where
-  abbrev at : Setting
-  at = settingAt xs b
+    pub is-empty : (what : OnLink) → n ≡ 0
+        → After (step (siteOf xs ls) (linkCall what a b)) xs ls xs ls
+        (Answer.Refused Refusal.Condition)
+    unfolding siteOf
+    is-empty what z =
+        refused-after xs ls Refusal.Condition _
+        (empty-call xs ls (k .form) a b link-there what (sym held ∙ z))
 
-  abbrev letter : Letter
-  letter = letterAt (part ls p (placeWidth (s .j)))
+    pub has-head : (n ≡ 0 → ⊥) → HasHead s a xs ls
+    has-head z =
+        let some : 0 < length (linksOf (settingAt xs b) ls a b) = omega (arith, held, positive n z)
+        in
+        rw (k .setting) (record {
+          know = record { form = k .form; setting = refl };
+          link = link-there;
+          some = some;
+        })
 
-  pub head-is : linksOf at ls a b ≡ letter ∷ tail (linksOf at ls a b)
-  head-is = (λ k. linksOf (sym e k) ls a (sym e k .me)) ∙ h .letters
-      ∙ (λ k. letter ∷ tail (linksOf (e k) ls a (e k .me)))
+    pub same-count : n ≡ length (linksOf s ls a (s .me))
+    same-count = held ∙ (λ i. length (linksOf (sym (k .setting) i) ls a (sym (k .setting) i .me)))
 
-  letter-formed : FormedLetter (at .j) letter
+  -- the outcome at me is the outcome at b
+  pub at-receiver : (what : OnLink) {xs' ls' : List ℕ} {r : Answer}
+      → After (step (siteOf xs ls) (linkCall what a (s .me))) xs ls xs' ls' r
+      → After (step (siteOf xs ls) (linkCall what a b)) xs ls xs' ls' r
+  at-receiver what {xs'} {ls'} {r} h =
+      subst
+      (λ (t : Setting). After (step (siteOf xs ls) (linkCall what a (t .me))) xs ls xs' ls' r)
+      (k .setting) h
+
+-- ---- a head that is lost or repeated
+
+module _ {s : Setting} {a : ℕ} {xs ls : List ℕ} (w : HasHead s a xs ls) where
+  abbrev e : s ≡ settingAt xs (s .me)
+  e = w .know .setting
+
+  pub link-is : isLink (getD xs 0 0) a (s .me) ≡ true
+  link-is = ap (λ (t : Setting). isLink (t .n) a (s .me)) (sym e) ∙ w .link
+
+  abbrev mails : ℕ
+  mails = length (linksOf (settingAt xs (s .me)) ls a (s .me))
+
+  same-mails : length (linksOf s ls a (s .me)) ≡ mails
+  same-mails = λ i. length (linksOf (e i) ls a (s .me))
+
+  some-head : not (eqb mails 0) ≡ true
+  some-head = ap not (ne-eqb mails 0 (omega (arith, same-mails, w .some)))
+
+  pub head-lent : LinksLent s ls × ((isLink (s .n) a (s .me) ≡ true)
+      × (0 < length (linksOf s ls a (s .me))))
+  head-lent = (links-lent (w .know), (w .link, w .some))
+
+  pub lost-known : {ls' : List ℕ} → LinksPut s (lessHead s a ls) ls ls'
+      → After (step (siteOf xs ls) (Call.Lose a (s .me))) xs ls xs ls' Answer.Done
   unfolding siteOf
-  letter-formed = let l = is-link is in
-      All-head (subst (All (FormedLetter (at .j))) head-is
-      (formed xs ls f .links a b (l .0) (l .1) (l .2) .letters))
+  lost-known {ls'} put =
+      relinked-after xs ls (w .know .form) tail a (s .me) _ ls'
+      (lose-needs xs ls (w .know .form) a (s .me) link-is ∙ need-met _ _ _ _ _ some-head
+      ∙ no-needs _ _)
+      (subst (λ (k : Setting). LinksPut k (lessHead k a ls) ls ls') e put)
 
-  pub place-formed : placeForm (s .j) (part ls p (placeWidth (s .j))) ≡ true
-  place-formed = h .form (subst (λ (k : Setting). formLetter (k .j) letter ≡ true) (sym e)
-      (letter-made letter-formed))
+  -- it holds n mails
+  module _ {n : ℕ} (h : n ≡ length (linksOf s ls a (s .me))) where
+    most : s .l ≡ settingAt xs (s .me) .l
+    most = ap (λ (k : Setting). k .l) e
 
-  pub event-fits : EventFits at (mail a letter)
-  event-fits = let l = is-link is in (l .0, l .2, letter-formed)
+    pub repeated-full : s .l ≤ n
+        → After (step (siteOf xs ls) (Call.Repeat a (s .me))) xs ls xs ls
+        (Answer.Refused Refusal.Link)
+    unfolding siteOf
+    repeated-full full =
+        refused-after xs ls Refusal.Link _
+        (repeat-needs xs ls (w .know .form) a (s .me) link-is ∙ need-met _ _ _ _ _ some-head
+        ∙ need-not _ _ _ _ _ (le-ltb mails _ (omega (arith, same-mails, most))))
 
-  pub event-foreign : Foreign at (mail a letter)
-  unfolding siteOf
-  event-foreign =
-      let l = is-link is in
-      let few = formed xs ls f .sizes .few-boxes in
-      ((l .0 .0, omega (arith, l .0 .1, few)), l .2)
+    pub repeated-known : n < s .l → {ls' : List ℕ}
+        → LinksPut s (linksBy twice s a (s .me) ls) ls ls'
+        → After (step (siteOf xs ls) (Call.Repeat a (s .me))) xs ls xs ls' Answer.Done
+    unfolding siteOf
+    repeated-known room {ls'} put =
+        relinked-after xs ls (w .know .form) twice a (s .me) _ ls'
+        (repeat-needs xs ls (w .know .form) a (s .me) link-is ∙ need-met _ _ _ _ _ some-head
+        ∙ need-met _ _ _ _ _ (lt-ltb mails _ (omega (arith, same-mails, most))) ∙ no-needs _ _)
+        (subst (λ (k : Setting). LinksPut k (linksBy twice k a (k .me) ls) ls ls') e put)
 
 -- ---- the links after the head has left
 
@@ -135,104 +193,6 @@ room-base xs ls a b is (Out.To set m) =
 -- the place of a mail, as the code cuts it
 pub place-cut : (ls : List ℕ) (p q w : ℕ) → q ≡ p + w → part ls p (q - p) ≡ part ls p w
 place-cut ls p q w e = let d : q - p ≡ w = omega (arith, e) in ap (part ls p) d
-
--- ---- what the count of a link says
-
-module _ (xs : List ℕ) (a b : ℕ) (s : Setting) (e : s ≡ settingAt xs b) where
-  pub count-none : (ls : List ℕ) (n : ℕ) → n ≡ length (linksOf s ls a b) → n ≡ 0
-      → length (linksOf (settingAt xs b) ls a b) ≡ 0
-  count-none ls n h z = sym (link-count xs a b s e ls n h) ∙ z
-
--- the link is empty
-module _ (xs ls : List ℕ) (f : memoryForm xs ls ≡ true) (a b : ℕ)
-    (is : isLink (getD xs 0 0) a b ≡ true)
-    (z : length (linksOf (settingAt xs b) ls a b) ≡ 0) where
-  no-head : not (eqb (length (linksOf (settingAt xs b) ls a b)) 0) ≡ false
-  no-head = ap (λ (k : ℕ). not (eqb k 0)) z
-
-  pub lost-empty : After (step (siteOf xs ls) (Call.Lose a b)) xs ls xs ls
-      (Answer.Refused Refusal.Condition)
-  unfolding siteOf
-  lost-empty =
-      refused-after xs ls Refusal.Condition _
-      (lose-needs xs ls f a b is ∙ need-not _ _ _ _ _ no-head)
-
-  pub repeated-empty : After (step (siteOf xs ls) (Call.Repeat a b)) xs ls xs ls
-      (Answer.Refused Refusal.Condition)
-  unfolding siteOf
-  repeated-empty =
-      refused-after xs ls Refusal.Condition _
-      (repeat-needs xs ls f a b is ∙ need-not _ _ _ _ _ no-head)
-
--- the link holds n mails, at least one
-module _ (xs ls : List ℕ) (f : memoryForm xs ls ≡ true) (a b : ℕ) (s : Setting)
-    (e : s ≡ settingAt xs b) (is : isLink (getD xs 0 0) a b ≡ true) (n : ℕ)
-    (h : n ≡ length (linksOf s ls a b)) (z : n ≡ 0 → ⊥) where
-  abbrev mails : ℕ
-  mails = length (linksOf (settingAt xs b) ls a b)
-
-  held : n ≡ mails
-  held = link-count xs a b s e ls n h
-
-  -- the mail at the head, as the code that takes it wants to know of it
-  pub known-mail : Knows s xs ls × ((isLink (s .n) a (s .me) ≡ true)
-      × (0 < length (linksOf s ls a (s .me))))
-  known-mail =
-      let some : 0 < mails = omega (arith, held, positive n z) in
-      rw e (record { form = f; setting = refl }, (is, some))
-
-  some-head : not (eqb mails 0) ≡ true
-  some-head = ap (λ (k : ℕ). not (eqb k 0)) (sym held) ∙ ap not (ne-eqb n 0 z)
-
-  pub lost-known : {ls' : List ℕ} → LinksPut s (lessHead s a ls) ls ls'
-      → After (step (siteOf xs ls) (Call.Lose a b)) xs ls xs ls' Answer.Done
-  unfolding siteOf
-  lost-known {ls'} put =
-      relinked-after xs ls f tail a b _ ls'
-      (lose-needs xs ls f a b is ∙ need-met _ _ _ _ _ some-head ∙ no-needs _ _)
-      (subst (λ (k : Setting). LinksPut k (lessHead k a ls) ls ls') e put)
-
-  -- the room that it has
-  most : s .l ≡ settingAt xs b .l
-  most = ap (λ (k : Setting). k .l) e
-
-  module _ (full : s .l ≤ n) where
-    no-room : ltb mails (settingAt xs b .l) ≡ false
-    no-room = le-ltb mails (settingAt xs b .l) (omega (arith, held, most))
-
-    pub repeated-full : After (step (siteOf xs ls) (Call.Repeat a b)) xs ls xs ls
-        (Answer.Refused Refusal.Link)
-    unfolding siteOf
-    repeated-full =
-        refused-after xs ls Refusal.Link _
-        (repeat-needs xs ls f a b is ∙ need-met _ _ _ _ _ some-head ∙ need-not _ _ _ _ _ no-room)
-
-  module _ (room : n < s .l) where
-    some-room : ltb mails (settingAt xs b .l) ≡ true
-    some-room = lt-ltb mails (settingAt xs b .l) (omega (arith, held, most))
-
-    pub known-room : length (linksOf s ls a (s .me)) < s .l
-    known-room =
-        subst (λ (k : Setting). length (linksOf k ls a (k .me)) < k .l) (sym e)
-        (omega (arith, held, most))
-
-    pub repeated-known : {ls' : List ℕ} → LinksPut s (linksBy twice s a (s .me) ls) ls ls'
-        → After (step (siteOf xs ls) (Call.Repeat a b)) xs ls xs ls' Answer.Done
-    unfolding siteOf
-    repeated-known {ls'} put =
-        relinked-after xs ls f twice a b _ ls'
-        (repeat-needs xs ls f a b is ∙ need-met _ _ _ _ _ some-head
-        ∙ need-met _ _ _ _ _ some-room ∙ no-needs _ _)
-        (subst (λ (k : Setting). LinksPut k (linksBy twice k a (k .me) ls) ls ls') e put)
-
--- the outcome at me is the outcome at b
-pub delivered-known : (xs ls : List ℕ) (a b : ℕ) (s : Setting) → s ≡ settingAt xs b
-    → {xs' ls' : List ℕ} (r : Answer)
-    → After (step (siteOf xs ls) (Call.Deliver a (s .me))) xs ls xs' ls' r
-    → After (step (siteOf xs ls) (Call.Deliver a b)) xs ls xs' ls' r
-delivered-known xs ls a b s e {xs'} {ls'} r h =
-    subst (λ (k : Setting). After (step (siteOf xs ls) (Call.Deliver a (k .me))) xs ls xs' ls' r) e
-    h
 
 -- ---- a mail that is carried out
 

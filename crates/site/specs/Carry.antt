@@ -1,8 +1,9 @@
 -- A turn carried out in the words.
-use Prim.Native.Nat.{ℕ, _+_}
+use Prim.Native.Nat.{ℕ, _+_, _<_}
 use mathlib.Core.Path.{_≡_}
 use mathlib.Core.Bool.{Bool, true}
 use mathlib.Core.List.{List, [], tail}
+use lib.ListN.{length}
 use Rattle.rules.specs.Every.{every}
 use Rattle.rules.specs.Sets.{setForm}
 use Rattle.rules.specs.Box.{Box, Letter, BookFits, letterOf, turned}
@@ -19,8 +20,8 @@ use Rattle.letter.specs.Place.{letterAt}
 use Rattle.link.specs.Link.{placeWidth}
 use Rattle.memory.specs.Memory.{memoryForm}
 use Rattle.site.specs.General.{generalPut}
-use Rattle.memory.specs.After.{settingAt, boxesOf, linksBy, roomFor, electedBoxes, HeadStands}
-use Rattle.memory.specs.After.{LinksLent, BoxLent, RowsPut, LinksPut, Sends}
+use Rattle.memory.specs.After.{settingAt, boxesOf, linksOf, linksBy, roomFor, electedBoxes}
+use Rattle.memory.specs.After.{LinksLent, BoxLent, RowsPut, LinksPut, HeadStands, Sends}
 
 -- every link that is sent on has room
 abbrev pub roomOut : Setting → List ℕ → Out → Bool
@@ -67,6 +68,12 @@ pub record TakesMail (s : Setting) (a p : ℕ) (xs ls : List ℕ) (t : Turn) : T
 pub record Knows (s : Setting) (xs ls : List ℕ) : Type 0 where
   pub form : memoryForm xs ls ≡ true
   pub setting : s ≡ settingAt xs (s .me)
+
+-- the same, and the link from a to me holds a mail
+pub record HasHead (s : Setting) (a : ℕ) (xs ls : List ℕ) : Type 0 where
+  pub know : Knows s xs ls
+  pub link : isLink (s .n) a (s .me) ≡ true
+  pub some : 0 < length (linksOf s ls a (s .me))
 
 -- a verdict carried out: the rows are elected, the links empty, the epoch has risen; or all stays
 abbrev pub ElectIs : Verdict → Setting → List ℕ → List ℕ → List ℕ → List ℕ → Answer → Type 0

@@ -4,3 +4,4 @@ pub mod Verdicts
 pub mod Records
 pub mod General
 pub mod Carry
+pub mod Calls

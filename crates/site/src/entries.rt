@@ -7,7 +7,9 @@ ghost use Rattle.memory.specs.Memory.{siteOf, memoryForm};
 ghost use Rattle.site.specs.Entries.{After, FormedStep, stepOn, holdsOn};
 use crate::elections;
 use crate::mail;
+use crate::mail::OnLink;
 use crate::presence;
+use crate::presence::Presence;
 use crate::records;
 use crate::turns;
 use rules::model::Act;
@@ -32,12 +34,12 @@ pub fn step_formed(site: &mut [u64], links: &mut [u64], call: Call) -> Answer
         Call::Propose(c) => turns::acting(site, links, c, Act::Propose),
         Call::Agree(c) => turns::acting(site, links, c, Act::Agree),
         Call::Finish(c) => turns::acting(site, links, c, Act::Finish),
-        Call::Stop(c) => presence::stop(site, links, c),
-        Call::Return(c) => presence::come_back(site, links, c),
-        Call::Timeout(c) => presence::time_out(site, links, c),
-        Call::Lose(a, b) => mail::lose(site, links, a, b),
-        Call::Repeat(a, b) => mail::repeat(site, links, a, b),
-        Call::Deliver(a, b) => mail::deliver(site, links, a, b),
+        Call::Stop(c) => presence::change(site, links, c, Presence::Stop),
+        Call::Return(c) => presence::change(site, links, c, Presence::Return),
+        Call::Timeout(c) => presence::change(site, links, c, Presence::Timeout),
+        Call::Lose(a, b) => mail::on_link(site, links, a, b, OnLink::Lose),
+        Call::Repeat(a, b) => mail::on_link(site, links, a, b, OnLink::Repeat),
+        Call::Deliver(a, b) => mail::on_link(site, links, a, b, OnLink::Deliver),
     }
 }
 

@@ -2,11 +2,10 @@
 // is lost, and one that is repeated.
 ghost use mathlib.Core.Path.{_≡_};
 ghost use mathlib.Core.Bool.{true};
-ghost use Prim.Native.Nat.{_<_};
 ghost use lib.ListN.{length};
 ghost use Rattle.words.specs.Rows.{part};
 ghost use Rattle.rules.specs.Box.{turned};
-ghost use Rattle.rules.specs.Site.{isLink, posted};
+ghost use Rattle.rules.specs.Site.{posted};
 ghost use Rattle.rules.specs.Step.{step};
 ghost use Rattle.rules.specs.declared.model.Call.{Call};
 ghost use Rattle.link.specs.Link.{placeWidth};
@@ -14,7 +13,8 @@ ghost use Rattle.letter.specs.Place.{letterAt};
 ghost use Rattle.memory.specs.Memory.{siteOf, memoryForm};
 ghost use Rattle.memory.specs.After.{boxesOf, linksOf};
 ghost use Rattle.site.specs.Entries.{After};
-ghost use Rattle.site.specs.Carry.{lessHead, TakesMail, Knows, Carried};
+ghost use Rattle.site.specs.Carry.{lessHead, TakesMail, HasHead, Carried};
+ghost use Rattle.site.specs.Calls.{linkCall};
 use crate::turns;
 use rules::answers;
 use rules::model::Answer;
@@ -22,6 +22,13 @@ use rules::model::Refusal;
 use rules::model::Setting;
 use rules::model::Turn;
 use rules::ranges;
+
+// What is done with the head of a link.
+pub enum OnLink {
+    Deliver,
+    Lose,
+    Repeat,
+}
 
 // The turn of box me by the mail that stands at p, the head of the link from a.
 fn carry_mail(site: &mut [u64], links: &mut [u64], s: Setting, a: u32, p: usize, t: Turn)
@@ -44,9 +51,7 @@ fn carry_mail(site: &mut [u64], links: &mut [u64], s: Setting, a: u32, p: usize,
 
 // The head of the link from a to me is taken, discarded or refused.
 fn hand_over(site: &mut [u64], links: &mut [u64], s: Setting, a: u32) -> Answer
-    requires { ⌜ Knows s (now site) (now links) ⌝ }
-    requires { ⌜ isLink (s .n) a (s .me) ≡ true ⌝ }
-    requires { ⌜ 0 < length (linksOf s (now links) a (s .me)) ⌝ }
+    requires { ⌜ HasHead s a (now site) (now links) ⌝ }
     ensures { λ r.
         ⌜ After (step (siteOf (now (site .entry)) (now (links .entry))) (Call.Deliver a (s .me)))
         (now (site .entry)) (now (links .entry)) (now (site .exit)) (now (links .exit)) r ⌝ }
@@ -69,44 +74,37 @@ fn hand_over(site: &mut [u64], links: &mut [u64], s: Setting, a: u32) -> Answer
     answer
 }
 
-pub(crate) fn deliver(site: &mut [u64], links: &mut [u64], a: u32, b: u32) -> Answer
-    requires { ⌜ memoryForm (now site) (now links) ≡ true ⌝ }
+// The head is dropped.
+fn lose(site: &[u64], links: &mut [u64], s: Setting, a: u32) -> Answer
+    requires { ⌜ HasHead s a (now site) (now links) ⌝ }
     ensures { λ r.
-        ⌜ After (step (siteOf (now (site .entry)) (now (links .entry))) (Call.Deliver a b))
-        (now (site .entry)) (now (links .entry)) (now (site .exit)) (now (links .exit)) r ⌝ }
-{
-    let s = memory::setting_of(site, b);
-    if !ranges::is_link(s.n, a, b) {
-        return Answer::Refused(Refusal::Box);
-    }
-    if memory::count(links, s, a, b) == 0 {
-        return Answer::Refused(Refusal::Condition);
-    }
-    hand_over(site, links, s, a)
-}
-
-pub(crate) fn lose(site: &[u64], links: &mut [u64], a: u32, b: u32) -> Answer
-    requires { ⌜ memoryForm (now site) (now links) ≡ true ⌝ }
-    ensures { λ r.
-        ⌜ After (step (siteOf (now (site .entry)) (now (links .entry))) (Call.Lose a b))
+        ⌜ After (step (siteOf (now (site .entry)) (now (links .entry))) (Call.Lose a (s .me)))
         (now (site .entry)) (now (links .entry)) (now (site .entry)) (now (links .exit)) r ⌝ }
 {
-    let s = memory::setting_of(site, b);
-    if !ranges::is_link(s.n, a, b) {
-        return Answer::Refused(Refusal::Box);
-    }
-    if memory::count(links, s, a, b) == 0 {
-        return Answer::Refused(Refusal::Condition);
-    }
     memory::pop(links, s, a);
     Answer::Done
 }
 
-pub(crate) fn repeat(site: &[u64], links: &mut [u64], a: u32, b: u32) -> Answer
+// The head is doubled, where there is room; the link holds so many mails.
+fn repeat(site: &[u64], links: &mut [u64], s: Setting, a: u32, held: usize) -> Answer
+    requires { ⌜ HasHead s a (now site) (now links) ⌝ }
+    requires { ⌜ held ≡ length (linksOf s (now links) a (s .me)) ⌝ }
+    ensures { λ r.
+        ⌜ After (step (siteOf (now (site .entry)) (now (links .entry))) (Call.Repeat a (s .me)))
+        (now (site .entry)) (now (links .entry)) (now (site .entry)) (now (links .exit)) r ⌝ }
+{
+    if held < s.l as usize {
+        memory::double(links, s, a);
+        return Answer::Done;
+    }
+    Answer::Refused(Refusal::Link)
+}
+
+pub(crate) fn on_link(site: &mut [u64], links: &mut [u64], a: u32, b: u32, what: OnLink) -> Answer
     requires { ⌜ memoryForm (now site) (now links) ≡ true ⌝ }
     ensures { λ r.
-        ⌜ After (step (siteOf (now (site .entry)) (now (links .entry))) (Call.Repeat a b))
-        (now (site .entry)) (now (links .entry)) (now (site .entry)) (now (links .exit)) r ⌝ }
+        ⌜ After (step (siteOf (now (site .entry)) (now (links .entry))) (linkCall what a b))
+        (now (site .entry)) (now (links .entry)) (now (site .exit)) (now (links .exit)) r ⌝ }
 {
     let s = memory::setting_of(site, b);
     if !ranges::is_link(s.n, a, b) {
@@ -116,9 +114,9 @@ pub(crate) fn repeat(site: &[u64], links: &mut [u64], a: u32, b: u32) -> Answer
     if held == 0 {
         return Answer::Refused(Refusal::Condition);
     }
-    if held < s.l as usize {
-        memory::double(links, s, a);
-        return Answer::Done;
+    match what {
+        OnLink::Deliver => hand_over(site, links, s, a),
+        OnLink::Lose => lose(site, links, s, a),
+        OnLink::Repeat => repeat(site, links, s, a, held),
     }
-    Answer::Refused(Refusal::Link)
 }

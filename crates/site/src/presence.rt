@@ -5,10 +5,10 @@ ghost use Prim.Native.Nat.{_≤_};
 ghost use lib.ListN.{length};
 ghost use Rattle.rules.specs.Sizes.{mostEpoch};
 ghost use Rattle.rules.specs.Step.{risen, step};
-ghost use Rattle.rules.specs.declared.model.Call.{Call};
 ghost use Rattle.memory.specs.Memory.{siteOf, memoryForm, generalWords};
 ghost use Rattle.site.specs.Entries.{After};
 ghost use Rattle.site.specs.General.{generalPut, Presented};
+ghost use Rattle.site.specs.Calls.{presenceCall, presentThen};
 use crate::verdicts;
 use rules::model::Answer;
 use rules::model::Refusal;
@@ -16,6 +16,13 @@ use rules::model::Setting;
 use rules::model::Verdict;
 use rules::ranges;
 use rules::sets;
+
+// The calls that change nothing else.
+pub enum Presence {
+    Stop,
+    Return,
+    Timeout,
+}
 
 // The epoch and the present set are written.
 pub(crate) fn put_general(site: &mut [u64], epoch: u32, present: u32)
@@ -54,25 +61,21 @@ fn present_as(site: &mut [u64], s: Setting, w: u32, v: Verdict) -> Answer
     }
 }
 
-pub(crate) fn stop(site: &mut [u64], links: &[u64], c: u32) -> Answer
-    requires { ⌜ memoryForm (now site) (now links) ≡ true ⌝ }
-    ensures { λ r.
-        ⌜ After (step (siteOf (now (site .entry)) (now (links .entry))) (Call.Stop c))
-        (now (site .entry)) (now (links .entry)) (now (site .exit)) (now (links .entry)) r ⌝ }
+// Who is present then.
+fn present_then(s: Setting, what: Presence) -> u32
+    ensures { λ r. ⌜ r ≡ presentThen what s ⌝ }
 {
-    let s = memory::setting_of(site, c);
-    if !ranges::is_box(s.n, c) {
-        return Answer::Refused(Refusal::Box);
+    match what {
+        Presence::Stop => sets::without_box(s.present, s.me),
+        Presence::Return => sets::with_box(s.present, s.me),
+        Presence::Timeout => s.present,
     }
-    let here = memory::has(s.present, c);
-    let v = verdicts::stop_verdict(s, here);
-    present_as(site, s, sets::without_box(s.present, c), v)
 }
 
-pub(crate) fn come_back(site: &mut [u64], links: &[u64], c: u32) -> Answer
+pub(crate) fn change(site: &mut [u64], links: &[u64], c: u32, what: Presence) -> Answer
     requires { ⌜ memoryForm (now site) (now links) ≡ true ⌝ }
     ensures { λ r.
-        ⌜ After (step (siteOf (now (site .entry)) (now (links .entry))) (Call.Return c))
+        ⌜ After (step (siteOf (now (site .entry)) (now (links .entry))) (presenceCall what c))
         (now (site .entry)) (now (links .entry)) (now (site .exit)) (now (links .entry)) r ⌝ }
 {
     let s = memory::setting_of(site, c);
@@ -80,21 +83,7 @@ pub(crate) fn come_back(site: &mut [u64], links: &[u64], c: u32) -> Answer
         return Answer::Refused(Refusal::Box);
     }
     let here = memory::has(s.present, c);
-    let v = verdicts::return_verdict(s, here);
-    present_as(site, s, sets::with_box(s.present, c), v)
-}
-
-pub(crate) fn time_out(site: &mut [u64], links: &[u64], c: u32) -> Answer
-    requires { ⌜ memoryForm (now site) (now links) ≡ true ⌝ }
-    ensures { λ r.
-        ⌜ After (step (siteOf (now (site .entry)) (now (links .entry))) (Call.Timeout c))
-        (now (site .entry)) (now (links .entry)) (now (site .exit)) (now (links .entry)) r ⌝ }
-{
-    let s = memory::setting_of(site, c);
-    if !ranges::is_box(s.n, c) {
-        return Answer::Refused(Refusal::Box);
-    }
-    let here = memory::has(s.present, c);
-    let v = verdicts::timeout_verdict(s, here);
-    present_as(site, s, s.present, v)
+    let v = verdicts::presence_verdict(s, here, what);
+    let w = present_then(s, what);
+    present_as(site, s, w, v)
 }

@@ -5,8 +5,10 @@ ghost use Prim.Native.Nat.{_≤_};
 ghost use Rattle.rules.specs.Sets.{has};
 ghost use Rattle.rules.specs.Sizes.{mostBoxes};
 ghost use Rattle.rules.specs.declared.model.Verdict.{Verdict};
-ghost use Rattle.rules.specs.Step.{electNeeds, stopNeeds, returnNeeds, timeoutNeeds};
+ghost use Rattle.rules.specs.Step.{electNeeds};
 ghost use Rattle.site.specs.Verdicts.{verdictOf};
+ghost use Rattle.site.specs.Calls.{presenceNeeds};
+use crate::presence::Presence;
 use rules::model::Refusal;
 use rules::model::Setting;
 use rules::model::Verdict;
@@ -31,28 +33,17 @@ pub(crate) fn elect_verdict(s: Setting, here: bool) -> Verdict
     need(due, Refusal::Condition, b)
 }
 
-pub(crate) fn stop_verdict(s: Setting, here: bool) -> Verdict
+pub(crate) fn presence_verdict(s: Setting, here: bool, what: Presence) -> Verdict
     requires { ⌜ here ≡ has (s .present) (s .me) ⌝ }
-    ensures { λ r. ⌜ r ≡ verdictOf (stopNeeds s) ⌝ }
+    ensures { λ r. ⌜ r ≡ verdictOf (presenceNeeds what s) ⌝ }
 {
-    let b = need(s.epoch < 1000000, Refusal::Epoch, Verdict::Go);
-    need(here, Refusal::Condition, b)
-}
-
-pub(crate) fn return_verdict(s: Setting, here: bool) -> Verdict
-    requires { ⌜ here ≡ has (s .present) (s .me) ⌝ }
-    ensures { λ r. ⌜ r ≡ verdictOf (returnNeeds s) ⌝ }
-{
-    let b = need(s.epoch < 1000000, Refusal::Epoch, Verdict::Go);
-    need(!here, Refusal::Condition, b)
-}
-
-pub(crate) fn timeout_verdict(s: Setting, here: bool) -> Verdict
-    requires { ⌜ here ≡ has (s .present) (s .me) ⌝ }
-    ensures { λ r. ⌜ r ≡ verdictOf (timeoutNeeds s) ⌝ }
-{
-    let even = sets::is_even(s.epoch);
-    let c = need(s.epoch < 1000000, Refusal::Epoch, Verdict::Go);
-    let b = need(even, Refusal::Condition, c);
-    need(here, Refusal::Condition, b)
+    let last = need(s.epoch < 1000000, Refusal::Epoch, Verdict::Go);
+    match what {
+        Presence::Stop => need(here, Refusal::Condition, last),
+        Presence::Return => need(!here, Refusal::Condition, last),
+        Presence::Timeout => {
+            let even = need(sets::is_even(s.epoch), Refusal::Condition, last);
+            need(here, Refusal::Condition, even)
+        }
+    }
 }

@@ -1,5 +1,4 @@
--- The laws of storing: of any rows, and of what each part's words hold.
-pub mod RowsLaws
+-- What each part's words hold.
 pub mod MailLaws
 pub mod BoxLaws
 pub mod SiteLaws

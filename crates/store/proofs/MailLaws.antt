@@ -18,13 +18,13 @@ use Rattle.letter.proofs.KindLaws.{kind-in}
 use Rattle.link.specs.Link.{placeWidth, linkWidth, places, linkOf}
 use Rattle.link.specs.Holds.{LinkSizes, Holds}
 use Rattle.link.proofs.LinkLaws.{fits-made, two-set, length-link}
-use Rattle.cells.specs.Cells.{chain, Stands, Read, Found, Many, Has}
-use Rattle.cells.proofs.CodeLaws.{told}
+use Rattle.cells.specs.Cells.{chain, Found, Many, Has}
+use Rattle.cells.specs.Stored.{HoldsRows, StoredIs}
 use Rattle.image.specs.Image.{letterWords, letterBytes, linkBytes}
 use Rattle.image.specs.Parts.{GoodLetter, GoodLink}
-use Rattle.image.proofs.LetterLaws.{mail-back, countWord, link-parts}
+use Rattle.image.proofs.LetterLaws.{mail-back, CountRead, link-told}
 use Rattle.image.proofs.Lengths as lengths
-use Rattle.store.specs.Store.{HoldsLetter, HoldsRows, StoredIs}
+use Rattle.store.specs.Store.{HoldsLetter}
 
 -- ---- a letter
 
@@ -42,9 +42,9 @@ letter-held J y tail room =
 
 -- ---- a link
 
-pub link-room : (J L : ℕ) (src : List ℕ) (at : ℕ) → Has linkBytes (GoodLink J L) src at
+pub link-room : {J L : ℕ} {src : List ℕ} {at : ℕ} → Has linkBytes (GoodLink J L) src at
     → at + 4 ≤ length src
-link-room J L src at x =
+link-room x =
     let f = x .found in
     let next = f .stands .next in
     let room = f .stands .room in
@@ -88,65 +88,51 @@ module _ (J L c : ℕ) (some : 1 ≤ L) (most : c ≤ L) (d : List ℕ) where
       rs : List (List ℕ)
       rs = rows (placeWidth J) c d
 
--- w is the count that was read.
-module _ (J L : ℕ) (sizes : LinkSizes J L) (src : List ℕ) (at p : ℕ) (w : List ℕ)
-    (one : length w ≡ 1) (g : Read 4 src at w p) (c : ℕ) (ec : c ≡ getD w 0 0) where
-  link-is : (ys : List Letter) (q : ℕ) → GoodLink J L ys → Stands (linkBytes ys) src at q
-      → (w ≡ countWord ys) × Stands (chain letterBytes ys) src p q
-  link-is ys q =
-      told (link-parts J L (sizes .few-loads) (sizes .few-mails)) w
-      (record { width = one; below = g .below }) (g .stands) ys q
-
-  count-is : {q : ℕ} (f : Found linkBytes (GoodLink J L) src at q) → length (f .thing) ≡ c
-  count-is {q} f =
-      sym (ec ∙ ap (λ (v : List ℕ). getD v 0 0) (link-is (f .thing) q (f .good) (f .stands) .0))
-
+-- The count was read.
+module _ {J L : ℕ} (sizes : LinkSizes J L) {src : List ℕ} {at p : ℕ} {w : List ℕ} {c : ℕ}
+    (g : CountRead src at p w c) where
   -- So many letters stand behind it ..
-  pub letters-has : Has linkBytes (GoodLink J L) src at
-      → Has (chain letterBytes) (Many (λ i. GoodLetter J) c) src p
-  letters-has x =
-      let f = x .found in
+  abbrev letters-found : {q : ℕ} (f : Found linkBytes (GoodLink J L) src at q)
+      → Found (chain letterBytes) (Many (λ i. GoodLetter J) c) src p q
+  letters-found f =
+      let t = link-told (sizes .few-loads) (sizes .few-mails) g (f .good) (f .stands) in
       record {
-        place = x .place;
-        found = record {
-          thing = f .thing;
-          good = record { count = count-is f; each = f .good .letters };
-          stands = link-is (f .thing) (x .place) (f .good) (f .stands) .1;
-        };
+        thing = f .thing;
+        good = record { count = t .0; each = f .good .letters };
+        stands = t .1;
       }
 
-  -- .. and have room in the link's places.
-  pub letters-few : Has linkBytes (GoodLink J L) src at → c ≤ L
-  letters-few x = let f = x .found in omega (arith, f .good .room, count-is f)
+  module _ (x : Has linkBytes (GoodLink J L) src at) where
+    pub letters-has : Has (chain letterBytes) (Many (λ i. GoodLetter J) c) src p
+    letters-has = record { place = x .place; found = letters-found (x .found) }
 
-  pub letters-room : (row : List ℕ) → length row ≡ linkWidth J L
-      → Has linkBytes (GoodLink J L) src at → c * placeWidth J ≤ length row - 2
-  letters-room row wide x = omega (arith, mul-le-mul-right (placeWidth J) (letters-few x))
+    -- .. and have room in the link's places.
+    pub letters-room : (row : List ℕ) → length row ≡ linkWidth J L
+        → c * placeWidth J ≤ length row - 2
+    letters-room row wide =
+        let f = x .found in
+        let few : c ≤ L = omega (arith, f .good .room, letters-found f .good .count) in
+        omega (arith, mul-le-mul-right (placeWidth J) few)
 
   -- The row when the first place, the count and then the places ds are in it.
-  pub link-stored : (row ds : List ℕ) (e r : ℕ) → length row ≡ linkWidth J L → e ≡ length row
-      → length ds ≡ e - 2 → (v : ℕ) → v ≡ c → (zs : List ℕ)
+  pub link-stored : (row ds : List ℕ) {r v : ℕ} → length row ≡ linkWidth J L
+      → length ds ≡ length row - 2 → v ≡ c → (zs : List ℕ)
       → StoredIs (chain letterBytes) (Many (λ i. GoodLetter J) c) src p
       (HoldsRows (HoldsLetter J) (placeWidth J) c (letterAt []) zs ds) r
       → StoredIs linkBytes (GoodLink J L) src at
-      (Holds J L (splice (set (set row 0 0) 1 v) 2 (e - 2) ds)) r
-  link-stored row ds e r wide end long v ev zs got q f =
-      let ys = f .thing in
-      let t = link-is ys q (f .good) (f .stands) in
-      let z = got q (record {
-        thing = ys;
-        good = record { count = count-is f; each = f .good .letters };
-        stands = t .1;
-      }) in
+      (Holds J L (splice (set (set row 0 0) 1 v) 2 (length row - 2) ds)) r
+  link-stored row ds {v = v} wide long ev zs got q f =
+      let l = letters-found f in
+      let z = got q l in
       let tail = drop 2 row in
-      let size : e - 2 ≡ length tail = omega (arith, length-drop 2 row) in
-      let none : drop (e - 2) tail ≡ [] =
+      let size : length row - 2 ≡ length tail = omega (arith, length-drop 2 row) in
+      let none : drop (length row - 2) tail ≡ [] =
       ap (λ (k : ℕ). drop k tail) size ∙ drop-length tail in
-      let here : splice (set (set row 0 0) 1 v) 2 (e - 2) ds ≡ 0 ∷ c ∷ ds =
-      ap (λ (l : List ℕ). splice l 2 (e - 2) ds) (two-set row 0 v (omega arith))
+      let here : splice (set (set row 0 0) 1 v) 2 (length row - 2) ds ≡ 0 ∷ c ∷ ds =
+      ap (λ (l : List ℕ). splice l 2 (length row - 2) ds) (two-set row 0 v (omega arith))
       ∙ (λ i. 0 ∷ ev i ∷ (ds ++ none i)) ∙ ap (λ (l : List ℕ). 0 ∷ c ∷ l) (append-nil ds) in (
-        subst (λ (l : List ℕ). Holds J L l ys) (sym here)
-            (link-flat J L c (sizes .some-mails) (omega (arith, f .good .room, count-is f)) ds ys
-            (count-is f) (omega arith) (z .0 .each)),
+        subst (λ (l : List ℕ). Holds J L l (f .thing)) (sym here)
+            (link-flat J L c (sizes .some-mails) (omega (arith, f .good .room, l .good .count)) ds
+            (f .thing) (l .good .count) (omega arith) (z .0 .each)),
         z .1,
       )

@@ -1,10 +1,9 @@
 -- What lent words hold when what stands in an image was stored in them.
 use mathlib.Core.Path.{_≡_}
 use mathlib.Core.Bool.{true}
-use Prim.Native.Nat.{ℕ, _*_, _≤_, _<_}
+use Prim.Native.Nat.{ℕ, _≤_}
 use mathlib.Core.List.{List}
-use lib.ListN.{length, drop, getD}
-use Rattle.words.specs.Rows.{part}
+use lib.ListN.{length}
 use Rattle.rules.specs.Box.{Box, Letter}
 use Rattle.letter.specs.Place.{letterAt, placeFits}
 use Rattle.row.specs.Row.{boxOf, rowFits}
@@ -21,18 +20,6 @@ pub record HoldsLetter (J : ℕ) (p : List ℕ) (y : Letter) : Type 0 where
 pub record HoldsBox (n J : ℕ) (r : List ℕ) (x : Box) : Type 0 where
   pub box : boxOf n r ≡ x
   pub fits : rowFits J r ≡ true
-
-module _ {A : Type 0} where
-  -- the words xs have become ys: their first n rows of w words hold the things l, in order, and
-  -- what follows these rows is as it was; d is read past the end of l
-  pub record HoldsRows (Holds : List ℕ → A → Type 0) (w n : ℕ) (d : A) (xs ys : List ℕ)
-      (l : List A) : Type 0 where
-    pub each : (i : ℕ) → i < n → Holds (part ys (i * w) w) (getD l i d)
-    pub rest : drop (n * w) ys ≡ drop (n * w) xs
-
-  -- H holds of whatever thing by form stands at `at`, and r is the place behind it
-  abbrev pub StoredIs : (A → List ℕ) → (A → Type 0) → List ℕ → ℕ → (A → Type 0) → ℕ → Type 0
-  StoredIs enc Good src at H r = (q : ℕ) (f : Found enc Good src at q) → H (f .thing) × (r ≡ q)
 
 -- the words xs and ls are enough for the bodies that stand at `at`
 pub record RoomFor (src : List ℕ) (at : ℕ) (xs ls : List ℕ) : Type 0 where

@@ -7,9 +7,10 @@ ghost use Rattle.rules.specs.Sizes.{mostBoxes, mostLoads};
 ghost use Rattle.row.specs.Row.{boxOf};
 ghost use Rattle.memory.specs.Memory.{rowWidth};
 ghost use Rattle.cells.specs.Cells.{chain, Many, Has};
+ghost use Rattle.cells.specs.Stored.{HoldsRows, StoredIs};
 ghost use Rattle.image.specs.Image.{boxBody};
 ghost use Rattle.image.specs.Parts.{SomeBox};
-ghost use Rattle.store.specs.Store.{HoldsBox, HoldsRows, StoredIs};
+ghost use Rattle.store.specs.Store.{HoldsBox};
 
 // A box of n goes into its row; the words of peers above n say that they are unknown.
 fn store_box(src: &[u8], at: usize, n: u32, j: u32, row: &mut [u64]) -> usize

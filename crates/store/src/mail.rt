@@ -9,9 +9,10 @@ ghost use Rattle.letter.specs.Lent.{PlaceSized};
 ghost use Rattle.link.specs.Link.{placeWidth, linkWidth};
 ghost use Rattle.link.specs.Holds.{LinkSizes, LinkWords, Holds};
 ghost use Rattle.cells.specs.Cells.{chain, Many, Has};
+ghost use Rattle.cells.specs.Stored.{HoldsRows, StoredIs};
 ghost use Rattle.image.specs.Image.{letterBytes, linkBytes};
 ghost use Rattle.image.specs.Parts.{GoodLetter, GoodLink};
-ghost use Rattle.store.specs.Store.{HoldsLetter, HoldsRows, StoredIs};
+ghost use Rattle.store.specs.Store.{HoldsLetter};
 
 // A letter goes into its place.
 fn store_letter(src: &[u8], at: usize, j: u32, place: &mut [u64]) -> usize

@@ -1,5 +1,4 @@
 -- From what a part's walk finds to what the whole's does.
-pub mod BoxLaws
 pub mod BoxesLaws
 pub mod BodiesLaws
 pub mod ImageLaws

@@ -1,8 +1,9 @@
 -- The contract of `check_image` leaves one answer: two that meet it are the same.
 use mathlib.Core.Path.{_≡_, refl, sym, ap, _∙_}
-use Prim.Native.Nat.{ℕ, _+_, _*_}
+use Prim.Native.Nat.{ℕ}
 use mathlib.Core.List.{List}
 use Rattle.cells.specs.declared.Walk.{Walk}
+use Rattle.image.specs.Longest.{tableLong}
 use Rattle.image.proofs.OneImage.{one-image}
 use Rattle.whole.specs.Whole.{ImageFound, ImageIs}
 
@@ -11,7 +12,7 @@ one-place : (src : List ℕ) (p q : ℕ) → ImageFound src p → ImageFound src
 one-place src p q f g =
     let image = f .image ∙ sym (g .image) in
     let same = one-image (f .site) (g .site) (f .by-form) (g .by-form) image in
-    f .place ∙ ap (λ (n : ℕ). 4 + 8 * (n + 2)) (same .n) ∙ sym (g .place)
+    f .place ∙ ap tableLong (same .n) ∙ sym (g .place)
 
 pub check-once : (src : List ℕ) (a b : Walk) → ImageIs src a → ImageIs src b → a ≡ b
 check-once src (Walk.Next p) (Walk.Next q) f g = ap Walk.Next (one-place src p q f g)

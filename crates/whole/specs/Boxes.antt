@@ -10,6 +10,32 @@ use Rattle.cells.specs.Cells.{chain, Found, NoneAt}
 use Rattle.image.specs.Image.{boxBody, contents}
 use Rattle.image.specs.Parts.{GoodBoxes, leaders}
 
+-- ---- the words of a table of contents: the count of bodies, and for each body two, its entry
+
+abbrev pub countEntry : ℕ
+countEntry = 0
+
+abbrev pub generalEntry : ℕ
+generalEntry = 1
+
+-- box i's, counted from 0
+abbrev pub boxEntry : ℕ → ℕ
+boxEntry i = 3 + 2 * i
+
+-- the mail's, behind those of n boxes
+abbrev pub mailEntry : ℕ → ℕ
+mailEntry n = boxEntry n
+
+-- all of them
+abbrev pub tableWords : ℕ → ℕ
+tableWords n = 5 + 2 * n
+
+-- the same by the count of bodies
+abbrev pub listWords : ℕ → ℕ
+listWords count = 1 + 2 * count
+
+-- ---- the boxes
+
 -- "at most one leader"
 pub record LedBoxes (n J : ℕ) (xs : List Box) : Type 0 where
   pub boxes : GoodBoxes n J xs
@@ -19,7 +45,7 @@ pub record LedBoxes (n J : ℕ) (xs : List Box) : Type 0 where
 -- behind those of the count and the general body, are their entries
 pub record BoxesFound (n J : ℕ) (src : List ℕ) (at : ℕ) (front ws : List ℕ) (p : ℕ) : Type 0 where
   pub found : Found (chain (boxBody n)) (LedBoxes n J) src at p
-  pub entries : take (3 + 2 * n) ws ≡ front ++ contents at (map (boxBody n) (found .thing))
+  pub entries : take (mailEntry n) ws ≡ front ++ contents at (map (boxBody n) (found .thing))
 
 abbrev pub BoxesAre : ℕ → ℕ → List ℕ → ℕ → List ℕ → List ℕ → Walk → Type 0
 BoxesAre n J src at front ws (Walk.Next p) = BoxesFound n J src at front ws p

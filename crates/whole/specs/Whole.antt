@@ -1,17 +1,18 @@
 -- What the functions on the bodies of an image and on a whole image answer.
 use mathlib.Core.Path.{_≡_}
-use mathlib.Core.Bool.{Bool, true, false}
-use Prim.Native.Nat.{ℕ, _+_, _*_, _^_}
+use mathlib.Core.Bool.{true}
+use Prim.Native.Nat.{ℕ, _+_}
 use mathlib.Core.List.{List, [], _∷_, _++_, map}
 use lib.ListN.{length, take}
 use Rattle.rules.specs.Box.{Box, Letter}
 use Rattle.rules.specs.Site.{Site}
 use Rattle.rules.specs.Form.{form}
 use Rattle.cells.specs.declared.Walk.{Walk}
-use Rattle.cells.specs.Cells.{chain, cells, Below, Stands, Found, NoneAt}
+use Rattle.cells.specs.Cells.{chain, Found, NoneAt}
 use Rattle.image.specs.Image.{boxBody, linkBytes, contents, imageOf}
+use Rattle.image.specs.Longest.{tableLong}
 use Rattle.image.specs.Parts.{GoodLinks, nIn, bodiesIn, listedBytes, GoodListed}
-use Rattle.whole.specs.Boxes.{LedBoxes}
+use Rattle.whole.specs.Boxes.{mailEntry, tableWords, LedBoxes}
 
 -- ---- the mail
 
@@ -19,8 +20,8 @@ use Rattle.whole.specs.Boxes.{LedBoxes}
 -- boxes, which are among the words ws, their own has come into the words vs
 pub record MailFound (n J L : ℕ) (src : List ℕ) (at : ℕ) (ws vs : List ℕ) (p : ℕ) : Type 0 where
   pub found : Found (chain linkBytes) (GoodLinks n J L) src at p
-  pub entry : take (5 + 2 * n) vs
-      ≡ take (3 + 2 * n) ws ++ (at ∷ length (chain linkBytes (found .thing)) ∷ [])
+  pub entry : take (tableWords n) vs
+      ≡ take (mailEntry n) ws ++ (at ∷ length (chain linkBytes (found .thing)) ∷ [])
 
 abbrev pub MailIs : ℕ → ℕ → ℕ → List ℕ → ℕ → List ℕ → List ℕ → Walk → Type 0
 MailIs n J L src at ws vs (Walk.Next p) = MailFound n J L src at ws vs p
@@ -46,7 +47,7 @@ restEntries n at c =
 
 pub record RestFound (n J L : ℕ) (src : List ℕ) (at : ℕ) (front ws : List ℕ) (p : ℕ) : Type 0 where
   pub found : Found (restBytes n) (GoodRest n J L) src at p
-  pub entries : take (5 + 2 * n) ws ≡ front ++ restEntries n at (found .thing)
+  pub entries : take (tableWords n) ws ≡ front ++ restEntries n at (found .thing)
 
 abbrev pub RestIs : ℕ → ℕ → ℕ → List ℕ → ℕ → List ℕ → List ℕ → Walk → Type 0
 RestIs n J L src at front ws (Walk.Next p) = RestFound n J L src at front ws p
@@ -58,7 +59,7 @@ RestIs n J L src at front ws Walk.Bad = NoneAt (restBytes n) (GoodRest n J L) sr
 -- contents
 pub record ListedFound (src : List ℕ) (at : ℕ) (ws : List ℕ) (p : ℕ) : Type 0 where
   pub found : Found listedBytes GoodListed src at p
-  pub table : take (5 + 2 * nIn (found .thing)) ws
+  pub table : take (tableWords (nIn (found .thing))) ws
       ≡ (nIn (found .thing) + 2) ∷ contents at (bodiesIn (found .thing))
 
 abbrev pub ListedIs : List ℕ → ℕ → List ℕ → Walk → Type 0
@@ -67,18 +68,13 @@ ListedIs src at ws Walk.Bad = NoneAt listedBytes GoodListed src at
 
 -- ---- the image
 
--- whether the numbers ws, of 4 bytes each, stand at `at`
-abbrev pub WordsAre : List ℕ → List ℕ → ℕ → Bool → Type 0
-WordsAre ws src at true = Stands (cells 4 ws) src at (at + length ws * 4)
-WordsAre ws src at false = Below (256 ^ 4) ws → (r : ℕ) → Stands (cells 4 ws) src at r → ⊥
-
 -- the bytes are the image of a site by form, and its general body is at `at`, behind the table of
 -- contents: "number of bodies (n+2), then byte offset .. and length of each"
 pub record ImageFound (src : List ℕ) (at : ℕ) : Type 0 where
   pub site : Site
   pub by-form : form site ≡ true
   pub image : imageOf site ≡ src
-  pub place : at ≡ 4 + 8 * (site .n + 2)
+  pub place : at ≡ tableLong (site .n)
 
 -- what `check_image` answers: where the general body is, or that no site by form has this image
 abbrev pub ImageIs : List ℕ → Walk → Type 0

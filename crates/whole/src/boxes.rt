@@ -5,13 +5,13 @@ use words::size;
 use words::word;
 ghost use mathlib.Core.Path.{_≡_};
 ghost use mathlib.Core.List.{[], _∷_, _++_};
-ghost use Prim.Native.Nat.{_+_, _-_, _*_, _≤_};
+ghost use Prim.Native.Nat.{_+_, _-_, _≤_};
 ghost use lib.ListN.{length, take};
 ghost use Rattle.rules.specs.Sizes.{mostBoxes, mostLoads};
 ghost use Rattle.cells.specs.Cells.{WalkIs};
 ghost use Rattle.image.specs.Image.{boxBody};
 ghost use Rattle.image.specs.Parts.{GoodBox};
-ghost use Rattle.whole.specs.Boxes.{BoxesAre};
+ghost use Rattle.whole.specs.Boxes.{boxEntry, mailEntry, BoxesAre};
 
 // Box b of n.
 pub fn check_box(src: &[u8], at: usize, n: u32, j: u32, b: u32) -> Walk
@@ -20,7 +20,8 @@ pub fn check_box(src: &[u8], at: usize, n: u32, j: u32, b: u32) -> Walk
     ensures { λ r. ⌜ WalkIs (boxBody n) (GoodBox n j b) (now (src .entry)) at r ⌝ }
 {
     let peers = n as usize;
-    if src.len() - at < 72 + 4 * peers {
+    let least = image::box_head_bytes(peers);
+    if src.len() - at < least {
         return Walk::Bad;
     }
     let mut w = [row::UNKNOWN; row::HEAD];
@@ -33,6 +34,20 @@ pub fn check_box(src: &[u8], at: usize, n: u32, j: u32, b: u32) -> Walk
         Fault::At(_) => Walk::Bad,
     }
 }
+
+// The words of a table of contents: the count of bodies, and for each body two, where it begins and
+// how long it is. The general body's entry, the first box's; the most bodies, and their words.
+pub const COUNT: usize = 0;
+
+pub const ENTRY: usize = 2;
+
+pub const GENERAL: usize = 1;
+
+pub const BOXES: usize = 3;
+
+pub const BODIES: usize = 7;
+
+pub const TABLE: usize = 15;
 
 // The entry of a body from p to q goes behind the first k words of a table of contents.
 pub fn enter(table: &mut [u64], k: usize, p: usize, q: usize)
@@ -48,9 +63,10 @@ pub fn enter(table: &mut [u64], k: usize, p: usize, q: usize)
 // the entry of the general body.
 pub fn check_boxes(src: &[u8], at: usize, n: u32, j: u32, table: &mut [u64]) -> Walk
     requires { ⌜ at ≤ length (now src) ⌝ }
-    requires { ⌜ (n ≤ mostBoxes) × (j ≤ mostLoads) × (3 + 2 * n ≤ length (now table)) ⌝ }
+    requires { ⌜ (n ≤ mostBoxes) × (j ≤ mostLoads) × (mailEntry n ≤ length (now table)) ⌝ }
     ensures { λ r.
-        ⌜ BoxesAre n j (now (src .entry)) at (take 3 (now (table .entry))) (now (table .exit)) r ⌝ }
+        ⌜ BoxesAre n j (now (src .entry)) at (take (boxEntry 0) (now (table .entry)))
+        (now (table .exit)) r ⌝ }
 {
     let mut p = at;
     let mut leaders: u64 = 0;
@@ -60,7 +76,7 @@ pub fn check_boxes(src: &[u8], at: usize, n: u32, j: u32, table: &mut [u64]) -> 
         match r {
             Walk::Next(q) => {
                 leaders += le::get_at(src, p, 4);
-                enter(table, 3 + 2 * i as usize, p, q);
+                enter(table, BOXES + ENTRY * i as usize, p, q);
                 p = q;
                 i += 1;
             }

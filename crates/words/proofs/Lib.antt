@@ -3,3 +3,4 @@ pub mod PartLaws
 pub mod RowLaws
 pub mod RingLaws
 pub mod WriteLaws
+pub mod TestLaws

@@ -1,8 +1,8 @@
 -- From lent words to the groups of numbers that their bytes are.
-pub mod MailLaws
+pub mod PutLaws
 pub mod BoxLaws
-pub mod ContentsLaws
-pub mod MemoryLaws
+pub mod MailLaws
+pub mod EntryLaws
 pub mod WholeLaws
 pub mod Once
 pub mod RoomLaws

@@ -1,140 +1,158 @@
--- A place's words are a letter's numbers, a link's places its letters, the links' words the links.
-use mathlib.Core.Path.{_≡_, refl, sym, ap, _∙_, subst}
+-- The links in order, the place of a mail, and the groups of a link's bytes.
+use mathlib.Core.Path.{_≡_, sym, ap, _∙_, subst}
+use mathlib.Core.Bool.{true}
 use Prim.Native.Nat.{ℕ, _+_, _-_, _*_, _≤_, _<_}
-use native.Mathlib.Nat.{zero-add}
 use native.Mathlib.Omega.{arith}
 use mathlib.Core.List.{List, [], _∷_, _++_}
-use lib.ListN.{length, take, drop, getD, length-map, List·getD-map}
-use Rattle.words.specs.Rows.{part, rows}
+use lib.ListN.{length, getD, length-append, List·getD-map}
+use Rattle.words.specs.Rows.{part}
 use Rattle.words.specs.Ring.{slot}
-use Rattle.words.proofs.PartLaws.{length-part, gets-part, part-drop, cut-at}
-use Rattle.words.proofs.RowLaws.{rows-at, row-end}
-use Rattle.words.proofs.RingLaws.{slot-lt, length-ring, ring-at}
+use Rattle.words.proofs.PartLaws.{length-part, gets-part}
+use Rattle.words.proofs.RowLaws.{row-end}
+use Rattle.words.proofs.RingLaws.{slot-lt}
 use Rattle.rules.specs.Box.{Letter}
-use Rattle.letter.specs.Place.{letterAt, kindAt, countAt, headWords}
+use Rattle.rules.specs.declared.model.Setting.{Setting}
+use Rattle.laws.proofs.Logic as logic
+use Rattle.laws.proofs.FormLaws.{is-link}
+use Rattle.letter.specs.Place.{letterAt, placeFits, kindAt, countAt, headWords}
+use Rattle.letter.specs.Lent.{PlaceSized}
 use Rattle.letter.proofs.KindLaws.{kind-number-back}
 use Rattle.letter.proofs.FormLaws.{fits-says}
-use Rattle.link.specs.Link.{placeWidth, linkWidth, places, linkOf}
+use Rattle.link.specs.Link.{placeWidth, places, linkOf}
+use Rattle.link.specs.Holds.{LinkSizes, ReadableLink, placeIn}
+use Rattle.link.proofs.LinkLaws.{length-places, length-link, place-at}
+use Rattle.link.proofs.LinkLaws as link
+use Rattle.memory.specs.After.{linksOf, LinksLent, linkRow}
+use Rattle.memory.proofs.SizeLaws.{numbered}
+use Rattle.memory.proofs.LinkLaws.{link-readable, link-letters}
 use Rattle.cells.specs.Cells.{chain, cells, Each, All}
-use Rattle.cells.specs.Groups.{Cut, headedBytes}
+use Rattle.cells.proofs.ChainLaws.{length-cells}
 use Rattle.cells.proofs.GroupLaws.{SameIn, groups-as, cut-more}
-use Rattle.image.specs.Image.{numbersFrom, letterGroups, letterWords, letterBytes}
-use Rattle.image.specs.Image.{linkBytes}
-use Rattle.image.proofs.OrderLaws.{map-at, length-from, from-at}
+use Rattle.image.specs.Image.{letterGroups, letterWords, letterBytes, linkBytes}
+use Rattle.image.specs.Longest.{letterLong}
+use Rattle.image.proofs.OrderLaws.{length-pairs, pairs-at}
 use Rattle.image.proofs.CutLaws.{letter-cut}
 use Rattle.image.proofs.LetterLaws.{letter-split}
 use Rattle.image.proofs.Lengths.{length-letter}
-use Rattle.writer.specs.Fits.{LetterFits, letterPlace, LinkFits, LetterIs, linkRow, LinksFit}
-use Rattle.writer.specs.Fits.{linksIn}
+use Rattle.writer.specs.Bodies.{linksIn, linkIn, letterIn}
+use Rattle.writer.proofs.PutLaws.{Put}
 
--- ---- a letter
+-- ---- the links in order
 
-module _ (J : ℕ) (p : List ℕ) (f : LetterFits J p) where
+pub length-links-in : (s : Setting) (ls : List ℕ) → length (linksIn s ls) ≡ s .n * (s .n - 1)
+unfolding linksIn
+length-links-in s ls = length-pairs (s .n) (linksOf s ls)
+
+-- r is the row of link k
+pub record LinkOf (s : Setting) (ls : List ℕ) (k : ℕ) (r : List ℕ) : Type 0 where
+  pub readable : ReadableLink (s .j) (s .l) r
+  pub letters : linkIn s ls k ≡ linkOf (s .j) (s .l) r
+
+pub link-is : (s : Setting) (ls : List ℕ) (k : ℕ) {r : List ℕ} → LinksLent s ls
+    → k < s .n * (s .n - 1) → r ≡ linkRow s ls k → LinkOf s ls k r
+unfolding linksIn
+link-is s ls k lent h e =
+    let m = numbered (s .n) k h in
+    let row = e ∙ ap (linkRow s ls) (sym (m .index)) in
+    let t = is-link (m .link) in
+    record {
+      readable = link-readable s (m .from) (m .to) ls lent (m .link) row;
+      letters =
+          ap (linkIn s ls) (sym (m .index))
+          ∙ pairs-at (s .n) (linksOf s ls) (m .from) (m .to) [] (t .0) (t .1) (t .2)
+          ∙ sym (link-letters s (m .from) (m .to) ls lent (m .link) row);
+    }
+
+-- ---- the place of mail i of the link r
+
+pub record PlaceOf (J L : ℕ) (r : List ℕ) (i : ℕ) (p : List ℕ) : Type 0 where
+  pub size : PlaceSized J p
+  pub fits : placeFits J p ≡ true
+  pub letter : letterIn J L r i ≡ letterAt p
+
+-- Where the code looks for it.
+pub place-needs : (J L : ℕ) (r : List ℕ) (i : ℕ) {first : ℕ} → ReadableLink J L r
+    → i < length (linkOf J L r) → first ≡ getD r 0 0
+    → LinkSizes J L × ((first < L) × (i ≤ L))
+place-needs J L r i f h e =
+    let t : link.LinkFits J L r = link.fits-says (f .fits) in
+    (f .words .sizes, (omega (arith, t .first), omega (arith, t .count, length-link J L r)))
+
+pub place-is : (J L : ℕ) (r : List ℕ) (i : ℕ) {p : List ℕ} → ReadableLink J L r
+    → i < length (linkOf J L r) → p ≡ placeIn J L (getD r 0 0) i r → PlaceOf J L r i p
+unfolding linkOf
+place-is J L r i {p} f h e =
+    let t : link.LinkFits J L r = link.fits-says (f .fits) in
+    let few : i < getD r 1 0 = omega (arith, length-link J L r) in
+    let w = placeWidth J in
+    let q = slot L (getD r 0 0) i in
+    let inside : q < L = slot-lt L (getD r 0 0) i (t .first) (omega (arith, t .count)) in
+    let here : getD (places J L r) i [] ≡ p = place-at J L r (t .first) (t .count) i few ∙ sym e in
+    let long = f .words .width in
+    record {
+      size = record {
+        words = ap length e ∙ length-part (2 + q * w) w r (omega (arith, row-end w inside));
+        most = f .words .sizes .few-loads;
+      };
+      fits = subst (λ (x : List ℕ). placeFits J x ≡ true) here
+          (logic.each-at (placeFits J) (places J L r) [] (t .held) i
+          (omega (arith, length-places J L r)));
+      letter = List·getD-map letterAt (places J L r) i [] ∙ ap letterAt here;
+    }
+
+module _ {J L : ℕ} {r : List ℕ} {i : ℕ} {p : List ℕ} (f : PlaceOf J L r i p) where
+  pub place-count : getD p countAt 0 ≤ J
+  place-count = fits-says J p (f .fits) .2
+
   -- It holds as many records as its count says.
-  letter-held : length (letterAt p .records) ≡ getD p countAt 0
-  letter-held = let w = f .width in let r = fits-says J p (f .fits) .2 in
-      length-part headWords (getD p countAt 0) p (omega arith)
+  held : length (letterAt p .records) ≡ getD p countAt 0
+  held = length-part headWords (getD p countAt 0) p (omega (arith, place-count, f .size .words))
 
-  pub letter-long : length (letterBytes (letterAt p)) ≡ 20 + 8 * getD p countAt 0
-  letter-long = length-letter (letterAt p) ∙ ap (λ (k : ℕ). 20 + 8 * k) letter-held
+  pub letter-long : length (letterBytes (letterIn J L r i)) ≡ letterLong (getD p countAt 0)
+  letter-long =
+      ap (λ (y : Letter). length (letterBytes y)) (f .letter)
+      ∙ length-letter (letterAt p) ∙ ap letterLong held
 
   -- Its words are those of the place, and so its bytes are.
-  letter-groups : All (SameIn (letterWords (letterAt p)) p) letterGroups
+  groups : All (SameIn (letterWords (letterAt p)) p) letterGroups
   unfolding Each
-  letter-groups =
-      let w = f .width in
+  groups =
+      let w = f .size .words in
       let t = fits-says J p (f .fits) in
       let k = kind-number-back (getD p kindAt 0) (t .0) (t .1) in (
-        (λ i. k i ∷ getD p 1 0 ∷ getD p 2 0 ∷ getD p 3 0 ∷ letter-held i ∷ [])
+        (λ i. k i ∷ getD p 1 0 ∷ getD p 2 0 ∷ getD p 3 0 ∷ held i ∷ [])
             ∙ gets-part 0 p 0 headWords (omega arith),
         tt,
       )
 
-  pub letter-bytes : letterBytes (letterAt p) ≡ headedBytes letterGroups headWords countAt p
-  letter-bytes =
-      letter-split (letterAt p)
-      ∙ ap (λ (l : List ℕ). l ++ cells 8 (letterAt p .records))
-      (groups-as (letterWords (letterAt p)) p letterGroups letter-groups)
-
-  pub place-cut-groups : Cut 0 (length p) letterGroups
-  place-cut-groups = let w = f .width in cut-more letterGroups 0 (omega arith) letter-cut
-
-  pub place-room : headWords + getD p countAt 0 ≤ length p
-  place-room = let w = f .width in let t = fits-says J p (f .fits) .2 in omega arith
-
--- ---- a link
-
-module _ (J L : ℕ) (r : List ℕ) where
-  pub length-link-of : length (linkOf J L r) ≡ getD r 1 0
-  unfolding linkOf places
-  length-link-of =
-      length-map (places J L r) letterAt
-      ∙ length-ring [] L (getD r 0 0) (getD r 1 0) (rows (placeWidth J) L (drop 2 r))
-
-  -- Letter i is what its place holds.
-  letter-place : (i : ℕ) → getD r 0 0 < L → getD r 1 0 ≤ L → i < getD r 1 0
-      → getD (linkOf J L r) i (letterAt []) ≡ letterAt (letterPlace J L r i)
-  unfolding linkOf places
-  letter-place i first count h =
-      let w = placeWidth J in
-      let p = slot L (getD r 0 0) i in
-      let k : p < L = slot-lt L (getD r 0 0) i first (omega arith) in
-      List·getD-map letterAt (places J L r) i []
-      ∙ ap letterAt
-      (ring-at [] L (getD r 0 0) (getD r 1 0) i (rows w L (drop 2 r)) first count h
-      ∙ rows-at w L p (drop 2 r) k ∙ part-drop 2 (p * w) w r)
-
-  pub letter-is : LinkFits J L r → (i p a : ℕ) → i < getD r 1 0
-      → p ≡ slot L (getD r 0 0) i → p < L → a ≡ 2 + p * placeWidth J → LetterIs J L r i a
-  letter-is f i p a h e k u =
-      let w = f .width in
-      let same : part r a (placeWidth J) ≡ letterPlace J L r i =
-      ap (λ (b : ℕ). part r b (placeWidth J)) (u ∙ ap (λ (q : ℕ). 2 + q * placeWidth J) e) in
+  pub letter-put : Put letterGroups headWords countAt p (letterBytes (letterIn J L r i))
+  letter-put =
+      let w = f .size .words in
       record {
-        inside = omega (arith, row-end (placeWidth J) k);
-        letter = ap letterAt same ∙ sym (letter-place i (f .first) (f .count) h);
-        fits = subst (LetterFits J) (sym same) (f .letters i h);
+        cut = cut-more letterGroups 0 (omega arith) letter-cut;
+        inside = omega arith;
+        room = omega (arith, place-count);
+        bytes =
+            ap letterBytes (f .letter) ∙ letter-split (letterAt p)
+            ∙ ap (λ (l : List ℕ). l ++ cells 8 (letterAt p .records))
+            (groups-as (letterWords (letterAt p)) p letterGroups groups);
       }
 
-  pub link-groups : 2 ≤ length r
-      → linkBytes (linkOf J L r) ≡ cells 4 (part r 1 1) ++ chain letterBytes (linkOf J L r)
+-- ---- a link: its count, and its mails
+
+module _ {s : Setting} {ls : List ℕ} {k : ℕ} {r : List ℕ} (f : LinkOf s ls k r) where
+  pub link-groups : linkBytes (linkIn s ls k)
+      ≡ cells 4 (part r 1 1) ++ chain letterBytes (linkOf (s .j) (s .l) r)
   unfolding linkBytes
-  link-groups h =
-      ap (λ (l : List ℕ). cells 4 l ++ chain letterBytes (linkOf J L r))
-      (ap (λ (x : ℕ). x ∷ []) length-link-of ∙ gets-part 0 r 1 1 (omega arith))
+  link-groups =
+      let width = f .readable .words .width in
+      ap linkBytes (f .letters)
+      ∙ ap (λ (l : List ℕ). cells 4 l ++ chain letterBytes (linkOf (s .j) (s .l) r))
+      (ap (λ (x : ℕ). x ∷ []) (length-link (s .j) (s .l) r) ∙ gets-part 0 r 1 1 (omega arith))
 
--- The place as the code cuts it out, from a to a + w.
-pub place-cut : (J L : ℕ) (r : List ℕ) (i a w : ℕ) → LetterIs J L r i a → w ≡ placeWidth J
-    → (letterAt (take (a + w - a) (drop a r)) ≡ getD (linkOf J L r) i (letterAt []))
-    × LetterFits J (take (a + w - a) (drop a r))
-place-cut J L r i a w f e =
-    let same = cut-at {a = a} r refl e in
-    (ap letterAt same ∙ f .letter, subst (LetterFits J) (sym same) (f .fits))
-
--- ---- the links
-
-module _ (m J L : ℕ) (ls : List ℕ) where
-  pub length-links-in : length (linksIn m J L ls) ≡ m
-  unfolding linksIn
-  length-links-in =
-      length-map (numbersFrom 0 m) (λ k. linkOf J L (linkRow J L ls k)) ∙ length-from 0 m
-
-  pub links-in-at : (k : ℕ) → k < m
-      → getD (linksIn m J L ls) k [] ≡ linkOf J L (linkRow J L ls k)
-  unfolding linksIn
-  links-in-at k h =
-      map-at (λ k. linkOf J L (linkRow J L ls k)) (numbersFrom 0 m) k [] 0
-      (omega (arith, length-from 0 m))
-      ∙ ap (λ (i : ℕ). linkOf J L (linkRow J L ls i)) (from-at 0 m k 0 h ∙ zero-add k)
-
-  -- Link k as the code cuts it out, from a to a + w.
-  pub link-cut : LinksFit m J L ls → (k a w : ℕ) → k < m → a ≡ k * w → w ≡ linkWidth J L
-      → (linkOf J L (take (a + w - a) (drop a ls)) ≡ getD (linksIn m J L ls) k [])
-      × LinkFits J L (take (a + w - a) (drop a ls))
-  link-cut f k a w h e u =
-      let start : a ≡ k * linkWidth J L = e ∙ ap (λ (x : ℕ). k * x) u in
-      let same = cut-at ls start u in (
-        ap (linkOf J L) same ∙ sym (links-in-at k h),
-        subst (LinkFits J L) (sym same)
-            (f .each k h),
-      )
+  pub link-long : length (linkBytes (linkIn s ls k))
+      ≡ 4 + length (chain letterBytes (linkOf (s .j) (s .l) r))
+  unfolding linkBytes
+  link-long =
+      ap (λ (ys : List Letter). length (linkBytes ys)) (f .letters)
+      ∙ simp (length-append, length-cells) (omega arith)

@@ -1,3 +1,3 @@
 -- What the contracts of `writer` cite.
-pub mod Fits
+pub mod Bodies
 pub mod Writer

@@ -2,18 +2,15 @@
 -- else the image and its length, and the rest of a longer buffer as it was.
 use mathlib.Core.Path.{_≡_}
 use mathlib.Core.Bool.{true, false}
-use Prim.Native.Nat.{ℕ, _-_, _*_, _≤_, _<_}
+use Prim.Native.Nat.{ℕ, _≤_, _<_}
 use mathlib.Core.List.{List, _++_}
-use lib.ListN.{length, drop, getD}
-use Rattle.rules.specs.Sizes.{mostBoxes, mostLoads}
+use lib.ListN.{length, drop}
 use Rattle.rules.specs.declared.model.Refusal.{Refusal}
 use Rattle.memory.specs.Memory.{siteOf, memoryForm}
-use Rattle.cells.specs.Cells.{chain}
-use Rattle.image.specs.Image.{imageOf, boxBody, linkBytes}
-use Rattle.image.specs.Longest.{boxLong}
+use Rattle.memory.specs.After.{settingAt}
+use Rattle.image.specs.Image.{imageOf}
 use Rattle.writer.specs.declared.Extent.{Extent}
 use Rattle.writer.specs.declared.Written.{Written}
-use Rattle.writer.specs.Fits.{boxesIn, linksIn}
 
 abbrev pub image : List ℕ → List ℕ → List ℕ
 image xs ls = imageOf (siteOf xs ls)
@@ -43,11 +40,5 @@ pub data LengthIs (xs ls : List ℕ) : Written → Type 0 where
 
 -- what is known of words by form before the first byte is written
 pub record Measured (xs ls : List ℕ) (e : Extent) : Type 0 where
-  pub n : e .n ≡ getD xs 0 0
-  pub j : e .j ≡ getD xs 1 0
-  pub l : e .l ≡ getD xs 2 0
-  pub pairs : e .pairs ≡ e .n * (e .n - 1)
-  pub boxes : e .boxes ≡ length (chain (boxBody (e .n)) (boxesIn (e .n) (e .j) xs))
-  pub few : e .boxes ≤ mostBoxes * boxLong mostBoxes mostLoads
-  pub mail : e .mail ≡ length (chain linkBytes (linksIn (e .pairs) (e .j) (e .l) ls))
+  pub setting : e .setting ≡ settingAt xs 0
   pub total : e .total ≡ length (image xs ls)

@@ -1,101 +1,76 @@
 // The boxes' bodies, and their entries in the table of contents.
+use rules::model::Setting;
 use words::size;
-use words::word;
 ghost use mathlib.Core.Path.{_≡_};
-ghost use mathlib.Core.List.{map};
-ghost use Prim.Native.Nat.{_+_, _*_, _≤_};
+ghost use mathlib.Core.List.{[], _∷_, map};
+ghost use Prim.Native.Nat.{_<_};
 ghost use lib.ListN.{length};
-ghost use Rattle.rules.specs.Sizes.{mostBoxes, mostLoads};
-ghost use Rattle.row.specs.Row.{boxOf};
-ghost use Rattle.cells.specs.Cells.{chain, cells, Room, Wrote};
-ghost use Rattle.image.specs.Image.{boxBody, contents};
-ghost use Rattle.image.specs.Longest.{boxLong};
-ghost use Rattle.writer.specs.Fits.{BoxFits, BoxesFit, boxesIn};
+ghost use Rattle.memory.specs.After.{RowsLent};
+ghost use Rattle.cells.specs.Cells.{chain, Room, Wrote};
+ghost use Rattle.image.specs.Image.{boxBody};
+ghost use Rattle.writer.specs.Bodies.{boxesIn, boxAt, Short, Space, Entered};
+use crate::entry;
 
-fn box_length(row: &[u64], n: usize, j: u32) -> usize
-    requires { ⌜ BoxFits n j (now row) ⌝ }
-    ensures { λ r.
-        ⌜ (r ≡ length (boxBody n (boxOf n (now (row .entry)))))
-        × (r ≤ boxLong mostBoxes mostLoads) ⌝ }
+fn box_length(site: &[u64], s: Setting, i: u32) -> usize
+    requires { ⌜ RowsLent s (now site) × (i < s .n) ⌝ }
+    ensures { λ r. ⌜ r ≡ length (boxBody (s .n) (boxAt s (now (site .entry)) i)) ⌝ }
 {
-    72 + 4 * n + 8 * size(row[row::COUNT])
+    let row = memory::row_of(site, s, i + 1);
+    image::box_head_bytes(s.n as usize) + 8 * size(row[row::COUNT])
 }
 
 // How long the bodies of boxes 1 to n are together.
-pub fn boxes_length(site: &[u64], n: usize, j: u32) -> usize
-    requires { ⌜ BoxesFit n j (now site) ⌝ }
-    ensures { λ r.
-        ⌜ (r ≡ length (chain (boxBody n) (boxesIn n j (now (site .entry)))))
-        × (r ≤ mostBoxes * boxLong mostBoxes mostLoads) ⌝ }
+pub fn boxes_length(site: &[u64], s: Setting) -> usize
+    requires { ⌜ RowsLent s (now site) ⌝ }
+    requires { ⌜ Short (chain (boxBody (s .n)) (boxesIn s (now site))) ⌝ }
+    ensures { λ r. ⌜ r ≡ length (chain (boxBody (s .n)) (boxesIn s (now (site .entry)))) ⌝ }
 {
-    let w = row::HEAD + j as usize;
     let mut total = 0;
     let mut i = 0;
-    while i < n {
-        let a = memory::GENERAL + words::row_at(i, w, n);
-        total += box_length(&site[a..a + w], n, j);
+    while i < s.n {
+        total += box_length(site, s, i);
         i += 1;
     }
     total
 }
 
-// Their offsets and lengths, the first body at `start`.
-pub fn write_contents(
-    out: &mut [u8],
-    at: usize,
-    start: usize,
-    site: &[u64],
-    n: usize,
-    j: u32,
-) -> usize
-    requires { ⌜ BoxesFit n j (now site) ⌝ }
-    requires { ⌜ start ≤ 80 ⌝ }
-    requires { ⌜ Room (cells 4 (contents start (map (boxBody n) (boxesIn n j (now site)))))
-        (now out) at ⌝ }
+fn write_box(out: &mut [u8], at: usize, site: &[u64], s: Setting, i: u32) -> usize
+    requires { ⌜ RowsLent s (now site) × (i < s .n) ⌝ }
+    requires { ⌜ Room (boxBody (s .n) (boxAt s (now site) i)) (now out) at ⌝ }
     ensures { λ r.
-        ⌜ Wrote (cells 4 (contents start (map (boxBody n) (boxesIn n j (now (site .entry))))))
+        ⌜ Wrote (boxBody (s .n) (boxAt s (now (site .entry)) i))
         (now (out .entry)) at (now (out .exit)) r ⌝ }
 {
-    let w = row::HEAD + j as usize;
-    let mut p = at;
-    let mut o = start;
-    let mut i = 0;
-    while i < n {
-        let a = memory::GENERAL + words::row_at(i, w, n);
-        let length = box_length(&site[a..a + w], n, j);
-        let entry = [word(o), word(length)];
-        p = cells::put_words(out, p, 4, &entry);
-        o += length;
-        i += 1;
-    }
-    p
-}
-
-fn write_box(out: &mut [u8], at: usize, row: &[u64], n: usize, j: u32) -> usize
-    requires { ⌜ BoxFits n j (now row) ⌝ }
-    requires { ⌜ Room (boxBody n (boxOf n (now row))) (now out) at ⌝ }
-    ensures { λ r.
-        ⌜ Wrote (boxBody n (boxOf n (now (row .entry))))
-        (now (out .entry)) at (now (out .exit)) r ⌝ }
-{
-    let groups = image::box_groups(n);
+    let groups = image::box_groups(s.n as usize);
+    let row = memory::row_of(site, s, i + 1);
     cells::put_headed(out, at, &groups, row::HEAD, row::COUNT, row)
 }
 
-// The bodies of boxes 1 to n.
-pub fn write_boxes(out: &mut [u8], at: usize, site: &[u64], n: usize, j: u32) -> usize
-    requires { ⌜ BoxesFit n j (now site) ⌝ }
-    requires { ⌜ Room (chain (boxBody n) (boxesIn n j (now site))) (now out) at ⌝ }
+// A box's body at `at`, its entry at k.
+fn enter_box(out: &mut [u8], k: usize, at: usize, site: &[u64], s: Setting, i: u32) -> usize
+    requires { ⌜ RowsLent s (now site) × (i < s .n) ⌝ }
+    requires { ⌜ Space (boxBody (s .n) (boxAt s (now site) i) ∷ []) (now out) k at ⌝ }
     ensures { λ r.
-        ⌜ Wrote (chain (boxBody n) (boxesIn n j (now (site .entry))))
-        (now (out .entry)) at (now (out .exit)) r ⌝ }
+        ⌜ Entered (boxBody (s .n) (boxAt s (now (site .entry)) i) ∷ [])
+        (now (out .entry)) k at (now (out .exit)) r ⌝ }
 {
-    let w = row::HEAD + j as usize;
+    let end = write_box(out, at, site, s, i);
+    entry::enter(out, k, at, end);
+    end
+}
+
+// The bodies of boxes 1 to n from `at` on, their entries from k on.
+pub fn write_boxes(out: &mut [u8], k: usize, at: usize, site: &[u64], s: Setting) -> usize
+    requires { ⌜ RowsLent s (now site) ⌝ }
+    requires { ⌜ Space (map (boxBody (s .n)) (boxesIn s (now site))) (now out) k at ⌝ }
+    ensures { λ r.
+        ⌜ Entered (map (boxBody (s .n)) (boxesIn s (now (site .entry))))
+        (now (out .entry)) k at (now (out .exit)) r ⌝ }
+{
     let mut p = at;
     let mut i = 0;
-    while i < n {
-        let a = memory::GENERAL + words::row_at(i, w, n);
-        p = write_box(out, p, &site[a..a + w], n, j);
+    while i < s.n {
+        p = enter_box(out, k + 8 * i as usize, p, site, s, i);
         i += 1;
     }
     p

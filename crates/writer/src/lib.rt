@@ -1,19 +1,22 @@
-// The writer of the site image: its length first, then every byte straight into the lent buffer.
+// The writer of the site image: its length first, then every byte straight into the lent buffer,
+// each body's entry in the table of contents when the body is written.
 use rules::model::Refusal;
+use rules::model::Setting;
 use words::word;
 ghost use mathlib.Core.Path.{_≡_};
 ghost use mathlib.Core.Bool.{true};
-ghost use Prim.Native.Nat.{_+_, _*_, _≤_};
+ghost use mathlib.Core.List.{[], _∷_};
+ghost use Prim.Native.Nat.{_+_, _≤_};
 ghost use lib.ListN.{length};
-ghost use Rattle.rules.specs.Sizes.{mostBoxes, mostLoads};
-ghost use Rattle.memory.specs.Memory.{memoryForm};
-ghost use Rattle.cells.specs.Cells.{chain, Room, Wrote};
-ghost use Rattle.image.specs.Image.{boxBody};
-ghost use Rattle.image.specs.Longest.{boxLong};
-ghost use Rattle.writer.specs.Fits.{BoxesFit, LinksFit, boxesIn, tableIn, bodiesOf};
-ghost use Rattle.writer.specs.Writer.{Measured, LengthIs, WriteIs};
+ghost use Rattle.words.specs.Rows.{part};
+ghost use Rattle.memory.specs.Memory.{memoryForm, generalWords};
+ghost use Rattle.memory.specs.After.{settingAt};
+ghost use Rattle.cells.specs.Cells.{cells, Room, Wrote};
+ghost use Rattle.writer.specs.Bodies.{Space, Entered};
+ghost use Rattle.writer.specs.Writer.{image, Measured, LengthIs, WriteIs};
 
 mod boxes;
+mod entry;
 mod mail;
 
 pub enum Written {
@@ -21,23 +24,10 @@ pub enum Written {
     Refused(Refusal),
 }
 
-// How long the table of contents of n boxes, the general body and the mail is.
-fn table_length(n: usize) -> usize
-    requires { ⌜ n ≤ 5 ⌝ }
-    ensures { λ r. ⌜ (r ≡ 4 + 8 * (n + 2)) × (r ≤ 60) ⌝ }
-{
-    4 + 8 * (n + 2)
-}
-
-// What has to be known of a site before its first byte is written: its sizes, how many links it
-// has, how long its boxes, its mail and the whole image are.
+// What has to be known of a site before its first byte is written: its sizes, and how long the
+// whole image is.
 pub struct Extent {
-    pub n: usize,
-    pub j: u32,
-    pub l: u32,
-    pub pairs: usize,
-    pub boxes: usize,
-    pub mail: usize,
+    pub setting: Setting,
     pub total: usize,
 }
 
@@ -47,61 +37,43 @@ fn measure(site: &[u64], links: &[u64]) -> Extent
     ensures { λ r. ⌜ Measured (now (site .entry)) (now (links .entry)) r ⌝ }
 {
     let s = memory::setting_of(site, 0);
-    let n = s.n as usize;
-    let m = memory::link_count(s);
-    let boxes = boxes::boxes_length(site, n, s.j);
-    let mail = mail::links_length(links, m, s.j, s.l);
-    let total = table_length(n) + 20 + boxes + mail;
+    let table = image::table_bytes(s.n as usize + 2);
+    let boxes = boxes::boxes_length(site, s);
+    let mail = mail::links_length(links, s);
     Extent {
-        n: n,
-        j: s.j,
-        l: s.l,
-        pairs: m,
-        boxes: boxes,
-        mail: mail,
-        total: total,
+        setting: s,
+        total: table + image::GENERAL_BYTES + boxes + mail,
     }
 }
 
-// The table of contents: the count, and the entries of the general body, the boxes and the mail.
-fn write_table(out: &mut [u8], site: &[u64], n: usize, j: u32, boxes: usize, mail: usize) -> usize
-    requires { ⌜ BoxesFit n j (now site) ⌝ }
-    requires { ⌜ boxes ≡ length (chain (boxBody n) (boxesIn n j (now site))) ⌝ }
-    requires { ⌜ boxes ≤ mostBoxes * boxLong mostBoxes mostLoads ⌝ }
-    requires { ⌜ Room (tableIn n j (now site) mail) (now out) 0 ⌝ }
+// The general body at `at`, its entry at k.
+fn write_general(out: &mut [u8], k: usize, at: usize, site: &[u64]) -> usize
+    requires { ⌜ generalWords ≤ length (now site) ⌝ }
+    requires { ⌜ Space (cells 4 (part (now site) 0 generalWords) ∷ []) (now out) k at ⌝ }
     ensures { λ r.
-        ⌜ Wrote (tableIn n j (now (site .entry)) mail) (now (out .entry)) 0 (now (out .exit)) r ⌝ }
+        ⌜ Entered (cells 4 (part (now (site .entry)) 0 generalWords) ∷ [])
+        (now (out .entry)) k at (now (out .exit)) r ⌝ }
 {
-    let start = table_length(n);
-    let first = start + 20;
-    let last = first + boxes;
-    let head = [word(n + 2), word(start), 20];
-    let a = cells::put_words(out, 0, 4, &head);
-    let b = boxes::write_contents(out, a, first, site, n, j);
-    let entry = [word(last), word(mail)];
-    cells::put_words(out, b, 4, &entry)
+    let end = cells::put_words(out, at, 4, &site[0..memory::GENERAL]);
+    entry::enter(out, k, at, end);
+    end
 }
 
-// The general body, the boxes and the mail.
-fn write_bodies(
-    out: &mut [u8],
-    at: usize,
-    site: &[u64],
-    links: &[u64],
-    n: usize,
-    j: u32,
-    l: u32,
-    m: usize,
-) -> usize
-    requires { ⌜ BoxesFit n j (now site) × LinksFit m j l (now links) ⌝ }
-    requires { ⌜ Room (bodiesOf n j l m (now site) (now links)) (now out) at ⌝ }
+// The image of a site by form whose setting is s, to the front of `out`.
+fn write_image(out: &mut [u8], site: &[u64], links: &[u64], s: Setting) -> usize
+    requires { ⌜ (memoryForm (now site) (now links) ≡ true) × (s ≡ settingAt (now site) 0) ⌝ }
+    requires { ⌜ Room (image (now site) (now links)) (now out) 0 ⌝ }
     ensures { λ r.
-        ⌜ Wrote (bodiesOf n j l m (now (site .entry)) (now (links .entry)))
-        (now (out .entry)) at (now (out .exit)) r ⌝ }
+        ⌜ Wrote (image (now (site .entry)) (now (links .entry)))
+        (now (out .entry)) 0 (now (out .exit)) r ⌝ }
 {
-    let a = cells::put_words(out, at, 4, &site[0..memory::GENERAL]);
-    let b = boxes::write_boxes(out, a, site, n, j);
-    mail::write_links(out, b, links, m, j, l)
+    let count = s.n as usize + 2;
+    let start = image::table_bytes(count);
+    let head = [word(count)];
+    let k = cells::put_words(out, 0, 4, &head);
+    let a = write_general(out, k, start, site);
+    let b = boxes::write_boxes(out, k + 8, a, site, s);
+    mail::write_mail(out, start - 8, b, links, s)
 }
 
 // The image of a site by form goes to the front of `out`; too short a buffer stays as it is.
@@ -115,8 +87,7 @@ pub fn write_formed(site: &[u64], links: &[u64], out: &mut [u8]) -> Written
     if out.len() < e.total {
         return Written::Refused(Refusal::Buffer);
     }
-    let at = write_table(out, site, e.n, e.j, e.boxes, e.mail);
-    let end = write_bodies(out, at, site, links, e.n, e.j, e.l, e.pairs);
+    let end = write_image(out, site, links, e.setting);
     Written::Length(end)
 }
 

@@ -1,79 +1,74 @@
 // The mail body: each link's count, and its mails in order round the ring.
+use rules::model::Setting;
 use words::size;
 ghost use mathlib.Core.Path.{_≡_};
-ghost use Prim.Native.Nat.{_+_, _*_, _≤_, _<_};
+ghost use mathlib.Core.List.{[], _∷_};
+ghost use Prim.Native.Nat.{_-_, _*_, _<_};
 ghost use lib.ListN.{length, getD};
-ghost use Rattle.rules.specs.Sizes.{mostLoads, mostMails};
-ghost use Rattle.letter.specs.Place.{letterAt};
 ghost use Rattle.link.specs.Link.{linkOf};
+ghost use Rattle.link.specs.Holds.{ReadableLink, placeIn};
+ghost use Rattle.memory.specs.After.{LinksLent};
 ghost use Rattle.cells.specs.Cells.{chain, Room, Wrote};
 ghost use Rattle.image.specs.Image.{letterBytes, linkBytes};
-ghost use Rattle.image.specs.Longest.{letterLong, linkLong};
-ghost use Rattle.writer.specs.Fits.{LetterFits, LinkFits, LetterIs, LinksFit, linksIn};
+ghost use Rattle.writer.specs.Bodies.{letterIn, linksIn, linkIn, Short, Space, Entered};
+use crate::entry;
 
-// Where the place of letter i begins.
-pub fn letter_at(link: &[u64], j: u32, l: u32, i: usize) -> usize
-    requires { ⌜ LinkFits j l (now link) ⌝ }
-    requires { ⌜ i < getD (now link) 1 0 ⌝ }
-    ensures { λ r. ⌜ LetterIs j l (now (link .entry)) i r ⌝ }
+// The place of mail i.
+fn place_of(link: &[u64], j: u32, l: u32, i: usize) -> &[u64]
+    requires { ⌜ ReadableLink j l (now link) × (i < length (linkOf j l (now link))) ⌝ }
+    ensures { λ r.
+        ⌜ now r ≡ placeIn j l (getD (now (link .entry)) 0 0) i (now (link .entry)) ⌝ }
 {
-    let first = size(link[0]);
-    let p = words::place(l as usize, first, i);
-    2 + words::row_at(p, letter::HEAD + j as usize, l as usize)
+    let start = link::place_at(j, l, size(link[0]), i);
+    let width = letter::HEAD + j as usize;
+    let end = start + width;
+    &link[start..end]
 }
 
 // ---- lengths
 
-fn letter_length(place: &[u64], j: u32) -> usize
-    requires { ⌜ LetterFits j (now place) ⌝ }
-    ensures { λ r.
-        ⌜ (r ≡ length (letterBytes (letterAt (now (place .entry)))))
-        × (r ≤ letterLong mostLoads) ⌝ }
+fn letter_length(link: &[u64], j: u32, l: u32, i: usize) -> usize
+    requires { ⌜ ReadableLink j l (now link) × (i < length (linkOf j l (now link))) ⌝ }
+    ensures { λ r. ⌜ r ≡ length (letterBytes (letterIn j l (now (link .entry)) i)) ⌝ }
 {
-    20 + 8 * size(place[letter::COUNT])
+    let place = place_of(link, j, l, i);
+    image::LETTER_HEAD_BYTES + 8 * size(place[letter::COUNT])
 }
 
 fn letters_length(link: &[u64], j: u32, l: u32) -> usize
-    requires { ⌜ LinkFits j l (now link) ⌝ }
-    ensures { λ r.
-        ⌜ (r ≡ length (chain letterBytes (linkOf j l (now (link .entry)))))
-        × (r ≤ mostMails * letterLong mostLoads) ⌝ }
+    requires { ⌜ ReadableLink j l (now link) ⌝ }
+    requires { ⌜ Short (chain letterBytes (linkOf j l (now link))) ⌝ }
+    ensures { λ r. ⌜ r ≡ length (chain letterBytes (linkOf j l (now (link .entry)))) ⌝ }
 {
-    let w = letter::HEAD + j as usize;
-    let count = size(link[1]);
+    let count = link::count(link, j, l);
     let mut total = 0;
     let mut i = 0;
     while i < count {
-        let a = letter_at(link, j, l, i);
-        total += letter_length(&link[a..a + w], j);
+        total += letter_length(link, j, l, i);
         i += 1;
     }
     total
 }
 
-fn link_length(link: &[u64], j: u32, l: u32) -> usize
-    requires { ⌜ LinkFits j l (now link) ⌝ }
-    ensures { λ r.
-        ⌜ (r ≡ length (linkBytes (linkOf j l (now (link .entry)))))
-        × (r ≤ linkLong mostLoads mostMails) ⌝ }
+fn link_length(links: &[u64], s: Setting, k: usize) -> usize
+    requires { ⌜ LinksLent s (now links) × (k < s .n * (s .n - 1)) ⌝ }
+    requires { ⌜ Short (linkBytes (linkIn s (now links) k)) ⌝ }
+    ensures { λ r. ⌜ r ≡ length (linkBytes (linkIn s (now (links .entry)) k)) ⌝ }
 {
-    4 + letters_length(link, j, l)
+    4 + letters_length(memory::link_of(links, s, k), s.j, s.l)
 }
 
-// The mail body's length, of m links.
-pub fn links_length(links: &[u64], m: usize, j: u32, l: u32) -> usize
-    requires { ⌜ LinksFit m j l (now links) ⌝ }
-    requires { ⌜ m ≤ 20 ⌝ }
-    ensures { λ r.
-        ⌜ (r ≡ length (chain linkBytes (linksIn m j l (now (links .entry)))))
-        × (r ≤ 20 * linkLong mostLoads mostMails) ⌝ }
+// The mail body's length.
+pub fn links_length(links: &[u64], s: Setting) -> usize
+    requires { ⌜ LinksLent s (now links) ⌝ }
+    requires { ⌜ Short (chain linkBytes (linksIn s (now links))) ⌝ }
+    ensures { λ r. ⌜ r ≡ length (chain linkBytes (linksIn s (now (links .entry)))) ⌝ }
 {
-    let w = memory::link_width(j, l);
+    let count = memory::link_count(s);
     let mut total = 0;
     let mut k = 0;
-    while k < m {
-        let a = words::row_at(k, w, m);
-        total += link_length(&links[a..a + w], j, l);
+    while k < count {
+        total += link_length(links, s, k);
         k += 1;
     }
     total
@@ -81,62 +76,73 @@ pub fn links_length(links: &[u64], m: usize, j: u32, l: u32) -> usize
 
 // ---- bytes
 
-fn write_letter(out: &mut [u8], at: usize, place: &[u64], j: u32) -> usize
-    requires { ⌜ LetterFits j (now place) ⌝ }
-    requires { ⌜ Room (letterBytes (letterAt (now place))) (now out) at ⌝ }
+fn write_letter(out: &mut [u8], at: usize, link: &[u64], j: u32, l: u32, i: usize) -> usize
+    requires { ⌜ ReadableLink j l (now link) × (i < length (linkOf j l (now link))) ⌝ }
+    requires { ⌜ Room (letterBytes (letterIn j l (now link) i)) (now out) at ⌝ }
     ensures { λ r.
-        ⌜ Wrote (letterBytes (letterAt (now (place .entry))))
+        ⌜ Wrote (letterBytes (letterIn j l (now (link .entry)) i))
         (now (out .entry)) at (now (out .exit)) r ⌝ }
 {
     let groups = image::letter_groups();
+    let place = place_of(link, j, l, i);
     cells::put_headed(out, at, &groups, letter::HEAD, letter::COUNT, place)
 }
 
 fn write_letters(out: &mut [u8], at: usize, link: &[u64], j: u32, l: u32) -> usize
-    requires { ⌜ LinkFits j l (now link) ⌝ }
+    requires { ⌜ ReadableLink j l (now link) ⌝ }
     requires { ⌜ Room (chain letterBytes (linkOf j l (now link))) (now out) at ⌝ }
     ensures { λ r.
         ⌜ Wrote (chain letterBytes (linkOf j l (now (link .entry))))
         (now (out .entry)) at (now (out .exit)) r ⌝ }
 {
-    let w = letter::HEAD + j as usize;
-    let count = size(link[1]);
+    let count = link::count(link, j, l);
     let mut p = at;
     let mut i = 0;
     while i < count {
-        let a = letter_at(link, j, l, i);
-        p = write_letter(out, p, &link[a..a + w], j);
+        p = write_letter(out, p, link, j, l, i);
         i += 1;
     }
     p
 }
 
-fn write_link(out: &mut [u8], at: usize, link: &[u64], j: u32, l: u32) -> usize
-    requires { ⌜ LinkFits j l (now link) ⌝ }
-    requires { ⌜ Room (linkBytes (linkOf j l (now link))) (now out) at ⌝ }
+fn write_link(out: &mut [u8], at: usize, links: &[u64], s: Setting, k: usize) -> usize
+    requires { ⌜ LinksLent s (now links) × (k < s .n * (s .n - 1)) ⌝ }
+    requires { ⌜ Room (linkBytes (linkIn s (now links) k)) (now out) at ⌝ }
     ensures { λ r.
-        ⌜ Wrote (linkBytes (linkOf j l (now (link .entry))))
+        ⌜ Wrote (linkBytes (linkIn s (now (links .entry)) k))
         (now (out .entry)) at (now (out .exit)) r ⌝ }
 {
+    let link = memory::link_of(links, s, k);
     let p = cells::put_words(out, at, 4, &link[1..2]);
-    write_letters(out, p, link, j, l)
+    write_letters(out, p, link, s.j, s.l)
 }
 
-// The mail body, of m links.
-pub fn write_links(out: &mut [u8], at: usize, links: &[u64], m: usize, j: u32, l: u32) -> usize
-    requires { ⌜ LinksFit m j l (now links) ⌝ }
-    requires { ⌜ Room (chain linkBytes (linksIn m j l (now links))) (now out) at ⌝ }
+fn write_links(out: &mut [u8], at: usize, links: &[u64], s: Setting) -> usize
+    requires { ⌜ LinksLent s (now links) ⌝ }
+    requires { ⌜ Room (chain linkBytes (linksIn s (now links))) (now out) at ⌝ }
     ensures { λ r.
-        ⌜ Wrote (chain linkBytes (linksIn m j l (now (links .entry))))
+        ⌜ Wrote (chain linkBytes (linksIn s (now (links .entry))))
         (now (out .entry)) at (now (out .exit)) r ⌝ }
 {
-    let w = memory::link_width(j, l);
+    let count = memory::link_count(s);
     let mut p = at;
     let mut k = 0;
-    while k < m {
-        let a = words::row_at(k, w, m);
-        p = write_link(out, p, &links[a..a + w], j, l);
+    while k < count {
+        p = write_link(out, p, links, s, k);
         k += 1;
     }
     p
+}
+
+// The mail body at `at`, its entry at k.
+pub fn write_mail(out: &mut [u8], k: usize, at: usize, links: &[u64], s: Setting) -> usize
+    requires { ⌜ LinksLent s (now links) ⌝ }
+    requires { ⌜ Space (chain linkBytes (linksIn s (now links)) ∷ []) (now out) k at ⌝ }
+    ensures { λ r.
+        ⌜ Entered (chain linkBytes (linksIn s (now (links .entry))) ∷ [])
+        (now (out .entry)) k at (now (out .exit)) r ⌝ }
+{
+    let end = write_links(out, at, links, s);
+    entry::enter(out, k, at, end);
+    end
 }

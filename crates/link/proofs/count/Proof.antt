@@ -1,4 +1,3 @@
--- `link::count` meets its contract, by the law of the count.
 use borrow.Author.Needs.{needs}
 use mathlib.Core.Path.{sym, _∙_}
 use Rattle.link.proofs.LinkLaws.{length-link}

@@ -1,4 +1,3 @@
--- `link::double` meets its contract, by the law of a head that stands twice.
 use borrow.Author.Needs.{needs}
 use native.Mathlib.Omega.{arith}
 use lib.ListN.{length-set}
@@ -55,9 +54,6 @@ add-word c =
     let two = c .before .before .before .before .before .before .before .before .before .before in
     omega (arith, count-most (two .before .before .before .before .before .pre .0))
 
-slice-write-link-2 : tie.Need-slice-write-link-2
-slice-write-link-2 c = simp length-set (omega arith)
-
 returns : tie.Need-returns
 returns c =
     let put = c .before .before .before .before in
@@ -80,5 +76,5 @@ double-spec =
     (λ c. search needs) (λ c κs. search needs) (λ c. search needs) (λ c κs. search needs)
     before-requires place-at-requires (λ c κs. search needs) (λ c. search needs)
     (λ c. search needs) (λ c. search needs) (λ c κs. search needs) add-held copy-within-requires
-    (λ c κs. search needs) (λ c. search needs) add-word (λ c κs. search needs) slice-write-link-2
-    (λ c. search needs) returns)
+    (λ c κs. search needs) (λ c. search needs) add-word (λ c κs. search needs)
+    (λ c. simp length-set (omega arith)) (λ c. search needs) returns)

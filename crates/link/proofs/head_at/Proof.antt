@@ -1,4 +1,3 @@
--- `link::head_at` meets its contract, by the law of a head.
 use borrow.Author.Needs.{needs}
 use native.Mathlib.Omega.{arith}
 use Rattle.link.proofs.HoldLaws.{first-below, head-done}

@@ -1,4 +1,4 @@
--- `link::is_by_form` meets its contract: each turn of the scan leaves one place less to decide.
+-- Each turn of the scan leaves one place less to decide.
 use borrow.Author.Needs.{needs}
 use borrow.Author.Tests.{not-true, not-false}
 use Prim.Native.Nat.{_-_}
@@ -43,13 +43,11 @@ loop-again c =
     scan-go (turn .before .loop .inv) (turn .loop-test .taken)
     (c .before .is-place-by-form .ensures) (not-false _ (c .if3 .left))
 
-returns-4 : tie.Need-returns-4 Inv-loop μ-loop
-returns-4 c = scan-end (c .before .loop .inv) (c .loop-test .left)
-
 pub is-by-form-spec : {M : Type 1} → statement M
 is-by-form-spec =
     tie.close
     (tie.spec
     Inv-loop μ-loop (λ c. search needs) (λ c κs. search needs) (λ c. search needs)
     (λ c κs. search needs) returns returns-2 loop-holds (λ c κs. search needs) returns-3
-    (λ c. search needs) (λ c. search needs) loop-again returns-4)
+    (λ c. search needs) (λ c. search needs) loop-again
+    (λ c. scan-end (c .before .loop .inv) (c .loop-test .left)))

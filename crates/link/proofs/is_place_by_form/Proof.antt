@@ -1,4 +1,4 @@
--- `link::is_place_by_form` meets its contract: the part that is looked at is the place.
+-- The part that is looked at is the place.
 use borrow.Author.Needs.{needs}
 use mathlib.Core.Path.{refl, ap, _∙_}
 use Rattle.words.proofs.PartLaws.{cut-at}

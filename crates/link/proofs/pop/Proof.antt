@@ -1,4 +1,3 @@
--- `link::pop` meets its contract, by the law of a pop.
 use borrow.Author.Needs.{needs}
 use mathlib.Core.Path.{_∙_}
 use native.Mathlib.Omega.{arith}
@@ -18,9 +17,6 @@ sub-word c =
     let s = c .before .before .before .before .before .before .before in
     omega (arith, length-link (s .args .j) (s .args .l) (s .args .link .now))
 
-slice-write-link-2 : tie.Need-slice-write-link-2
-slice-write-link-2 c = simp length-set (omega arith)
-
 returns : tie.Need-returns
 returns c =
     let first = c .before in
@@ -39,4 +35,4 @@ pop-spec =
     (tie.spec
     (λ c. search needs) (λ c κs. search needs) (λ c. search needs) (λ c κs. search needs)
     after-requires (λ c κs. search needs) (λ c. search needs) sub-word (λ c κs. search needs)
-    slice-write-link-2 (λ c. search needs) returns)
+    (λ c. simp length-set (omega arith)) (λ c. search needs) returns)

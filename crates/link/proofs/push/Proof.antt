@@ -1,4 +1,3 @@
--- `link::push` meets its contract, by the law of a push.
 use borrow.Author.Needs.{needs}
 use native.Mathlib.Omega.{arith}
 use Rattle.link.proofs.HoldLaws.{first-below, count-most, push-done}

@@ -1,13 +1,14 @@
--- `own::act` meets its contract: 13, 1 and 2 are found in turn, or the turn is concluded.
-use mathlib.Core.Path.{_≡_, sym, _∙_}
+-- 13, 1 and 2 are found in turn, or the turn is concluded.
+use mathlib.Core.Path.{_≡_}
 use mathlib.Core.Bool.{true, _&&_}
 use mathlib.Core.List.{tail}
 use native.Mathlib.Nat.{sub-zero}
 use native.Mathlib.Omega.{arith}
 use borrow.Author.Needs.{needs}
-use borrow.Author.Tests.{not-true, not-false}
+use borrow.Author.Tests.{not-false}
 use borrow.Fn.Kinds.{GoodsP}
 use contract.Lifetimes.{Lfts}
+use Rattle.words.proofs.TestLaws.{fails, passes}
 use Rattle.rules.specs.Sizes.{sizesForm}
 use Rattle.laws.proofs.Types.{Act}
 use Rattle.laws.specs.Frames.{ActFits}
@@ -31,15 +32,12 @@ frames κs Act.Finish g = tt
 returns : tie.Need-returns
 returns c =
     let tested = c .before .before in
-    refused-13 _ _ (sym (tested .are-sizes .ensures) ∙ not-true _ (c .before .if1 .taken))
+    refused-13 _ _ (fails (tested .are-sizes .ensures) (c .before .if1 .taken))
     (c .refused .ensures)
 
 sized : (c : tie.Else1) → let s = c .before .before .before .before .args .s in
     sizesForm (s .n) (s .j) (s .l) ≡ true
-sized c = sym (c .before .are-sizes .ensures) ∙ not-false _ (c .if1 .left)
-
-is-row-requires : tie.Need-is-row-requires
-is-row-requires c κs = sized (c .before .before)
+sized c = passes (c .before .are-sizes .ensures) (c .if1 .left)
 
 abbrev setting : tie.After-is-row → tie.After-is-setting
 setting c = c .before .before
@@ -55,7 +53,7 @@ returns-2 : tie.Need-returns-2
 returns-2 c =
     let row = c .before .before in
     refused-1 _ _ (sized (setting row .before))
-    (sym (formed row) ∙ not-true _ (c .before .if2 .taken))
+    (fails (formed row) (c .before .if2 .taken))
     (c .refused2 .ensures)
 
 returns-3 : tie.Need-returns-3
@@ -63,8 +61,8 @@ returns-3 c =
     let box = c .before .before in
     let on = box .before in
     let row = on .before in
-    refused-2 _ _ (sized (setting row .before)) (sym (formed row) ∙ not-false _ (on .if2 .left))
-    (sym (box .is-box .ensures) ∙ not-true _ (c .before .if3 .taken))
+    refused-2 _ _ (sized (setting row .before)) (passes (formed row) (on .if2 .left))
+    (fails (box .is-box .ensures) (c .before .if3 .taken))
     (c .refused3 .ensures)
 
 passed : (c : tie.Else3) → let a = start (c .before .before .before) .args in
@@ -75,13 +73,7 @@ passed c =
     let row = on .before in
     act-passed _ _ _ _ (sized (setting row .before)) (setting row .is-setting .ensures)
     (row .is-row .ensures) (not-false _ (on .if2 .left))
-    (sym (box .is-box .ensures) ∙ not-false _ (c .if3 .left))
-
-part-act-turn-end : tie.Need-part-act-turn-end
-part-act-turn-end c = row-long _ _ (passed (c .before .before))
-
-act-turn-requires : tie.Need-act-turn-requires
-act-turn-requires c κs = row-by-form _ _ (passed (c .before .before .before)) _ (sub-zero _)
+    (passes (box .is-box .ensures) (c .if3 .left))
 
 conclude-requires : tie.Need-conclude-requires
 conclude-requires c κs =
@@ -105,8 +97,10 @@ pub act-spec : {M : Type 1} → statement M
 act-spec =
     tie.close
     (tie.spec
-    (λ c κs. search needs) (λ c κs. search needs) returns (λ c κs. search needs) is-row-requires
-    (λ c κs. search needs) (λ c. search needs) returns-2 (λ c κs. search needs)
-    (λ c κs. search needs) (λ c. search needs) returns-3 (λ c. search needs) (λ c. search needs)
-    (λ c. search needs) (λ c. search needs) part-act-turn-end act-turn-requires (λ c. search needs)
-    conclude-requires (λ c. search needs) (λ c. search needs) returns-4)
+    (λ c κs. search needs) (λ c κs. search needs) returns (λ c κs. search needs)
+    (λ c κs. sized (c .before .before)) (λ c κs. search needs) (λ c. search needs) returns-2
+    (λ c κs. search needs) (λ c κs. search needs) (λ c. search needs) returns-3 (λ c. search needs)
+    (λ c. search needs) (λ c. search needs) (λ c. search needs)
+    (λ c. row-long _ _ (passed (c .before .before)))
+    (λ c κs. row-by-form _ _ (passed (c .before .before .before)) _ (sub-zero _))
+    (λ c. search needs) conclude-requires (λ c. search needs) (λ c. search needs) returns-4)

@@ -1,4 +1,4 @@
--- `own::carry_out` meets its contract: the row takes the turn, and then the letter its records.
+-- The row takes the turn, and then the letter its records.
 use borrow.Author.Needs.{needs}
 use Rattle.own.proofs.PostLaws.{held-within, held-after, carried}
 use Rattle.own.proofs.carry_out.Statement.{statement}

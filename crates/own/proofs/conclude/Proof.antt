@@ -1,9 +1,9 @@
--- `own::conclude` meets its contract: nothing is done, or the turn is carried out.
-use mathlib.Core.Path.{_≡_, sym, _∙_}
+-- Nothing is done, or the turn is carried out.
+use mathlib.Core.Path.{_≡_}
 use mathlib.Core.Bool.{true}
 use native.Mathlib.Nat.{sub-zero}
 use borrow.Author.Needs.{needs}
-use borrow.Author.Tests.{not-true, not-false}
+use Rattle.words.proofs.TestLaws.{fails, passes}
 use Rattle.rules.specs.Answers.{isAccepted}
 use Rattle.own.proofs.OwnedLaws.{still-there, stopped, has-room, can-carry, carried-out}
 use Rattle.own.proofs.OwnedLaws.{reads-again}
@@ -15,12 +15,12 @@ returns c =
     let tested = c .before in
     let answered = tested .before in
     let a = answered .before .before .before .before .args in
-    let stops = sym (tested .is-accepted .ensures) ∙ not-true _ (c .if1 .taken) in
+    let stops = fails (tested .is-accepted .ensures) (c .if1 .taken) in
     (stopped _ _ (a .letter .now) _ _ _ (answered .answer-in .ensures) stops, still-there _ _ _)
 
 -- The turn goes on.
 goes-on : (c : tie.Else1) → isAccepted (c .before .before .answer-in .result) ≡ true
-goes-on c = sym (c .before .is-accepted .ensures) ∙ not-false _ (c .if1 .left)
+goes-on c = passes (c .before .is-accepted .ensures) (c .if1 .left)
 
 part-carry-out-end-2 : tie.Need-part-carry-out-end-2
 part-carry-out-end-2 c =

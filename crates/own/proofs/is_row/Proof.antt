@@ -1,14 +1,17 @@
--- `own::is_row` meets its contract.
+use Prim.Native.Nat.{_+_}
 use borrow.Author.Needs.{needs}
 use native.Mathlib.Nat.{sub-zero}
-use Rattle.own.proofs.FormLaws.{row-sized, row-tested, row-short}
+use Rattle.row.specs.Row.{rowForm, headWords}
+use Rattle.own.specs.Entry.{rowReads}
+use Rattle.own.proofs.FormLaws.{row-sized, long-tested, short-tested}
 use Rattle.own.proofs.is_row.Statement.{statement}
 use Rattle.own.proofs.is_row.Tie as tie
 
 returns : tie.Need-returns
+unfolding rowReads
 returns c =
-    let start = c .before .before .before in
-    row-short (start .args .s) (start .args .row .now) (c .if1 .taken)
+    let a = c .before .before .before .args in
+    short-tested (headWords + a .s .j) (a .row .now) _ _ (c .if1 .taken)
 
 is-by-form-requires : tie.Need-is-by-form-requires
 is-by-form-requires c κs =
@@ -17,9 +20,11 @@ is-by-form-requires c κs =
     (row-sized (start .args .s) (start .args .row .now) (start .pre) (c .before .if1 .left))
 
 returns-2 : tie.Need-returns-2
+unfolding rowForm rowReads
 returns-2 c =
-    let start = c .before .before .before .before .before in
-    row-tested (start .args .s) _ (start .args .row .now) (c .before .before .if1 .left)
+    let long = c .before .before in
+    let a = long .before .before .before .args in
+    long-tested (headWords + a .s .j) (a .row .now) _ _ (long .if1 .left)
     (rw sub-zero at (c .is-by-form .ensures))
 
 pub is-row-spec : {M : Type 1} → statement M

@@ -1,13 +1,10 @@
--- `own::is_setting` meets its contract.
 use borrow.Author.Needs.{needs}
 use Rattle.own.proofs.is_setting.Statement.{statement}
 use Rattle.own.proofs.is_setting.Tie as tie
-
-returns : tie.Need-returns
-returns c = rw (c .before .before .is-set .ensures, c .before .before .before .wide .ensures)
 
 pub is-setting-spec : {M : Type 1} → statement M
 is-setting-spec =
     tie.close
     (tie.spec
-    (λ c κs. search needs) (λ c κs. search needs) returns)
+    (λ c κs. search needs) (λ c κs. search needs)
+    (λ c. rw (c .before .before .is-set .ensures, c .before .before .before .wide .ensures)))

@@ -1,9 +1,10 @@
--- `own::mail` meets its contract: 13, 1 and 2 are found in turn, or the turn is concluded.
-use mathlib.Core.Path.{_≡_, sym, _∙_}
+-- 13, 1 and 2 are found in turn, or the turn is concluded.
+use mathlib.Core.Path.{_≡_}
 use mathlib.Core.Bool.{true, _&&_}
 use native.Mathlib.Nat.{sub-zero}
 use borrow.Author.Needs.{needs}
-use borrow.Author.Tests.{not-true, not-false}
+use borrow.Author.Tests.{not-false}
+use Rattle.words.proofs.TestLaws.{fails, passes}
 use Rattle.rules.specs.Sizes.{sizesForm}
 use Rattle.own.proofs.FormLaws.{mailForm, mail-tested}
 use Rattle.own.proofs.EntryLaws.{refused-13, refused-1, refused-2, MailPassed, mail-passed}
@@ -15,18 +16,12 @@ use Rattle.own.proofs.mail.Tie as tie
 returns : tie.Need-returns
 returns c =
     let tested = c .before .before in
-    refused-13 _ _ (sym (tested .are-sizes .ensures) ∙ not-true _ (c .before .if1 .taken))
+    refused-13 _ _ (fails (tested .are-sizes .ensures) (c .before .if1 .taken))
     (c .refused .ensures)
 
 sized : (c : tie.Else1) → let s = c .before .before .before .before .before .args .s in
     sizesForm (s .n) (s .j) (s .l) ≡ true
-sized c = sym (c .before .are-sizes .ensures) ∙ not-false _ (c .if1 .left)
-
-is-row-requires : tie.Need-is-row-requires
-is-row-requires c κs = sized (c .before .before)
-
-is-letter-requires : tie.Need-is-letter-requires
-is-letter-requires c κs = sized (c .before .before .before)
+sized c = passes (c .before .are-sizes .ensures) (c .if1 .left)
 
 abbrev setting : tie.After-is-letter → tie.After-is-setting
 setting c = c .before .before .before
@@ -45,7 +40,7 @@ returns-2 : tie.Need-returns-2
 returns-2 c =
     let letter = c .before .before in
     refused-1 _ _ (sized (setting letter .before))
-    (sym (formed letter) ∙ not-true _ (c .before .if2 .taken))
+    (fails (formed letter) (c .before .if2 .taken))
     (c .refused2 .ensures)
 
 returns-3 : tie.Need-returns-3
@@ -54,8 +49,8 @@ returns-3 c =
     let on = link .before in
     let letter = on .before in
     refused-2 _ _ (sized (setting letter .before))
-    (sym (formed letter) ∙ not-false _ (on .if2 .left))
-    (sym (link .is-link .ensures) ∙ not-true _ (c .before .if3 .taken))
+    (passes (formed letter) (on .if2 .left))
+    (fails (link .is-link .ensures) (c .before .if3 .taken))
     (c .refused3 .ensures)
 
 passed : (c : tie.Else3) → let a = start (c .before .before .before) .args in
@@ -66,22 +61,12 @@ passed c =
     let letter = on .before in
     mail-passed _ _ _ _ _ _ _ (sized (setting letter .before)) (setting letter .is-setting .ensures)
     (letter .before .is-row .ensures) (letter .is-letter .ensures) (not-false _ (on .if2 .left))
-    (sym (link .is-link .ensures) ∙ not-false _ (c .if3 .left))
-
-part-mail-turn-end : tie.Need-part-mail-turn-end
-part-mail-turn-end c = row-long _ _ (passed (c .before .before .before) .own)
-
-part-mail-turn-end-2 : tie.Need-part-mail-turn-end-2
-part-mail-turn-end-2 c = place-long _ _ _ _ (passed (c .before .before .before .before))
+    (passes (link .is-link .ensures) (c .if3 .left))
 
 mail-turn-requires : tie.Need-mail-turn-requires
 mail-turn-requires c κs =
     let ok = passed (c .before .before .before .before .before) in
     (row-by-form _ _ (ok .own) _ (sub-zero _), place-by-form _ _ _ _ ok _ (sub-zero _))
-
-part-conclude-end : tie.Need-part-conclude-end
-part-conclude-end c =
-    place-long _ _ _ _ (passed (c .before .before .before .before .before .before .before))
 
 conclude-requires : tie.Need-conclude-requires
 conclude-requires c κs =
@@ -103,10 +88,13 @@ pub mail-spec : {M : Type 1} → statement M
 mail-spec =
     tie.close
     (tie.spec
-    (λ c κs. search needs) (λ c κs. search needs) returns (λ c κs. search needs) is-row-requires
-    is-letter-requires (λ c κs. search needs) (λ c. search needs) returns-2 (λ c κs. search needs)
+    (λ c κs. search needs) (λ c κs. search needs) returns (λ c κs. search needs)
+    (λ c κs. sized (c .before .before)) (λ c κs. sized (c .before .before .before))
+    (λ c κs. search needs) (λ c. search needs) returns-2 (λ c κs. search needs)
     (λ c κs. search needs) (λ c. search needs) returns-3 (λ c. search needs) (λ c. search needs)
     (λ c. search needs) (λ c. search needs) (λ c. search needs) (λ c. search needs)
-    part-mail-turn-end (λ c. search needs) (λ c. search needs) part-mail-turn-end-2
-    mail-turn-requires (λ c. search needs) (λ c. search needs) part-conclude-end conclude-requires
-    (λ c. search needs) (λ c. search needs) returns-4)
+    (λ c. row-long _ _ (passed (c .before .before .before) .own)) (λ c. search needs)
+    (λ c. search needs) (λ c. place-long _ _ _ _ (passed (c .before .before .before .before)))
+    mail-turn-requires (λ c. search needs) (λ c. search needs)
+    (λ c. place-long _ _ _ _ (passed (c .before .before .before .before .before .before .before)))
+    conclude-requires (λ c. search needs) (λ c. search needs) returns-4)

@@ -1,4 +1,4 @@
--- `own::post` meets its contract: a letter, or none where the set is empty.
+-- A letter, or none where the set is empty.
 use borrow.Author.Needs.{needs}
 use Rattle.own.proofs.PostLaws.{nobody, posted}
 use Rattle.own.proofs.post.Statement.{statement}
@@ -9,11 +9,8 @@ returns c =
     let enclosed = c .before .before in
     posted _ _ _ _ _ (enclosed .before .before .if1 .taken) (enclosed .enclose .ensures)
 
-returns-2 : tie.Need-returns-2
-returns-2 c = nobody _ _ _ _ (c .if1 .left)
-
 pub post-spec : {M : Type 1} → statement M
 post-spec =
     tie.close
     (tie.spec
-    (λ c κs. search needs) (λ c. search needs) returns returns-2)
+    (λ c κs. search needs) (λ c. search needs) returns (λ c. nobody _ _ _ _ (c .if1 .left)))

@@ -1,4 +1,3 @@
--- `own::send` meets its contract.
 use borrow.Author.Needs.{needs}
 use Rattle.own.proofs.PostLaws.{nothing-sent}
 use Rattle.own.proofs.send.Statement.{statement}
@@ -9,9 +8,6 @@ post-requires c κs =
     let told = c .before .before in
     rw (told .o .given .1) at (told .before .before .before .before .pre)
 
-returns : tie.Need-returns
-returns c = rw (c .enum-told .given .1) (nothing-sent _ _)
-
 returns-2 : tie.Need-returns-2
 returns-2 c =
     let posted = c .before .before in
@@ -21,4 +17,5 @@ pub send-spec : {M : Type 1} → statement M
 send-spec =
     tie.close
     (tie.spec
-    (λ c. search needs) (λ c. search needs) post-requires returns (λ c. search needs) returns-2)
+    (λ c. search needs) (λ c. search needs) post-requires
+    (λ c. rw (c .enum-told .given .1) (nothing-sent _ _)) (λ c. search needs) returns-2)

@@ -3,6 +3,7 @@ use borrow.Author.Needs.{needs}
 use native.Mathlib.Omega.{arith}
 use Rattle.cells.proofs.StandLaws.{too-short}
 use Rattle.image.proofs.Lengths.{length-link}
+use Rattle.image.proofs.LetterLaws.{CountRead}
 use Rattle.checker.proofs.MailLaws.{link-none, link-then}
 use Rattle.checker.proofs.mail.check_link.Statement.{statement}
 use Rattle.checker.proofs.mail.check_link.Tie as tie
@@ -11,28 +12,33 @@ returns : tie.Need-returns
 returns c = λ ys r g w. too-short 4 (c .before .before .pre .0) (c .if1 .taken)
     (omega (arith, length-link ys)) w
 
+-- where the count is a size
+module _ (c : tie.After-size) where
+  abbrev read : tie.After-get-words
+  read = c .before .before
+
+  abbrev start : tie.Start
+  start = read .before .before .before .before
+
+  counted : CountRead (start .args .src .now) (start .args .at) (read .get-words .result)
+      (read .get-words .last .1 .1 .1 .0) (c .size .result)
+  counted = record {
+    one = read .get-words .kept .1 .1 .1 .0;
+    read = read .get-words .ensures;
+    said = c .size .ensures;
+  }
+
 returns-2 : tie.Need-returns-2
 returns-2 c =
-    let c3 = c .before .before .before in
-    let c7 = c3 .before .before .before .before in
-    let a = c7 .args in
-    let s = c7 .pre .1 in
-    let g = c3 .get-words in
-    link-none (a .j) (a .l) (s .0) (s .1) (a .src .now) (a .at) (g .result) (g .last .1 .1 .1 .0)
-    (g .kept .1 .1 .1 .0) (g .ensures) (c .before .size .result) (c .before .size .ensures)
-    (c .if2 .taken)
+    let few = start (c .before) .pre .1 in
+    link-none (few .0) (few .1) (counted (c .before)) (c .if2 .taken)
 
 returns-3 : tie.Need-returns-3
 returns-3 c =
-    let c4 = c .before .before .before .before in
-    let c8 = c4 .before .before .before .before in
-    let a = c8 .args in
-    let s = c8 .pre .1 in
-    let g = c4 .get-words in
-    link-then (a .j) (a .l) (s .0) (s .1) (a .src .now) (a .at) (g .result) (g .last .1 .1 .1 .0)
-    (g .kept .1 .1 .1 .0) (g .ensures) (c .before .before .size .result)
-    (c .before .before .size .ensures) (c .before .if2 .left)
-    (c .check-letters .result) (c .check-letters .ensures)
+    let sized = c .before .before in
+    let few = start sized .pre .1 in
+    link-then (few .0) (few .1) (counted sized) (c .before .if2 .left) (c .check-letters .result)
+    (c .check-letters .ensures)
 
 pub check-link-spec : {M : Type 1} → statement M
 check-link-spec =

@@ -1,4 +1,3 @@
--- `memory::boxes::act_turn` meets its contract, by the laws of a box's row.
 use borrow.Author.Needs.{needs}
 use mathlib.Core.Path.{ap, _∙_}
 use Rattle.rules.specs.Box.{Box, own, turnOf}

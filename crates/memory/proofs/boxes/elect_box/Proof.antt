@@ -1,4 +1,3 @@
--- `memory::boxes::elect_box` meets its contract, by the law of a head that is stored.
 use borrow.Author.Needs.{needs}
 use native.Mathlib.Omega.{arith}
 use Rattle.row.proofs.TurnLaws.{row-formed}

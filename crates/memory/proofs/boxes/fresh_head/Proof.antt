@@ -1,4 +1,3 @@
--- `memory::boxes::fresh_head` meets its contract.
 use mathlib.Core.Path.{refl}
 use Rattle.rules.specs.Site.{freshHead}
 use Rattle.memory.proofs.boxes.fresh_head.Statement.{statement}

@@ -1,4 +1,3 @@
--- `memory::boxes::fresh_row` meets its contract, by the laws of a box's row.
 use borrow.Author.Needs.{needs}
 use mathlib.Core.Path.{ap, _∙_}
 use mathlib.Core.List.{List}

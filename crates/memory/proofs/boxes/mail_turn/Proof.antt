@@ -1,4 +1,3 @@
--- `memory::boxes::mail_turn` meets its contract, by the laws of a box's row.
 use borrow.Author.Needs.{needs}
 use mathlib.Core.Path.{refl, _∙_}
 use Rattle.words.proofs.PartLaws.{length-part}

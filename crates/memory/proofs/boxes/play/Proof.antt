@@ -1,4 +1,4 @@
--- `memory::boxes::play` meets its contract: where one row is set, so are all boxes.
+-- Where one row is set, so are all boxes.
 use borrow.Author.Needs.{needs}
 use Rattle.memory.proofs.PutLaws.{rows-set}
 use Rattle.memory.proofs.boxes.play.Statement.{statement}

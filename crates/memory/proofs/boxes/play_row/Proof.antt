@@ -1,4 +1,3 @@
--- `memory::boxes::play_row` meets its contract, by the laws of a turn in a row.
 use borrow.Author.Needs.{needs}
 use mathlib.Core.Path.{ap}
 use Prim.Native.Nat.{ℕ, _+_}

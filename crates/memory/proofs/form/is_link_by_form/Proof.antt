@@ -1,4 +1,3 @@
--- `memory::form::is_link_by_form` meets its contract.
 use borrow.Author.Needs.{needs}
 use mathlib.Core.Path.{sym, ap, _∙_}
 use native.Mathlib.Nat.{add-sub-cancel}

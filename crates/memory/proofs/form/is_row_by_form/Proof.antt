@@ -1,4 +1,3 @@
--- `memory::form::is_row_by_form` meets its contract.
 use borrow.Author.Needs.{needs}
 use mathlib.Core.Path.{ap, _∙_}
 use mathlib.Core.List.{List}

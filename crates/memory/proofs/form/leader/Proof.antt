@@ -1,4 +1,3 @@
--- `memory::form::leader` meets its contract.
 use borrow.Author.Needs.{needs}
 use native.Mathlib.Omega.{arith}
 use Rattle.memory.proofs.RowLaws.{row-sized, leads-yes, leads-no}
@@ -12,14 +11,10 @@ shared-slice-read-if1 c =
     (s .pre .1 .0) in
     rw (c .before .row-of .ensures) (omega (arith, z .words))
 
-returns : tie.Need-returns
-returns c = leads-yes (c .before .before .row-of .ensures) (c .if1 .taken)
-
-returns-2 : tie.Need-returns-2
-returns-2 c = leads-no (c .before .before .row-of .ensures) (c .if1 .left)
-
 pub leader-spec : {M : Type 1} → statement M
 leader-spec =
     tie.close
     (tie.spec
-    (λ c κs. search needs) shared-slice-read-if1 returns returns-2)
+    (λ c κs. search needs) shared-slice-read-if1
+    (λ c. leads-yes (c .before .before .row-of .ensures) (c .if1 .taken))
+    (λ c. leads-no (c .before .before .row-of .ensures) (c .if1 .left)))

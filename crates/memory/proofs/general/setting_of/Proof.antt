@@ -1,4 +1,3 @@
--- `memory::general::setting_of` meets its contract.
 use borrow.Author.Needs.{needs}
 use Rattle.memory.proofs.general.setting_of.Statement.{statement}
 use Rattle.memory.proofs.general.setting_of.Tie as tie

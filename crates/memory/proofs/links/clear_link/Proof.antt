@@ -1,17 +1,16 @@
--- `memory::links::clear_link` meets its contract, by the laws of a link's row.
+-- Link k, cut out, is cleared, and all else is as it was.
 use borrow.Author.Needs.{needs}
-use mathlib.Core.List.{[]}
 use Rattle.memory.proofs.LinkLaws.{link-cut, cut-set, row-words}
 use Rattle.memory.proofs.links.clear_link.Statement.{statement}
 use Rattle.memory.proofs.links.clear_link.Tie as tie
 
 clear-requires : tie.Need-clear-requires
 clear-requires c κs =
-    let s = c .before .before .before .before in
+    let started = c .before .before in
+    let s = started .before .before in
     row-words (s .args .s) (s .args .k) (s .args .links .now) (s .pre .1 .1) (s .pre .1 .0)
     (s .pre .0)
-    (link-cut (s .args .s) (s .args .k) (s .args .links .now)
-    (c .before .before .link-row .ensures .0)
+    (link-cut (s .args .s) (s .args .k) (s .args .links .now) (started .link-row .ensures .0)
     (c .before .link-end .ensures))
 
 returns : tie.Need-returns
@@ -21,8 +20,7 @@ returns c =
     let started = ended .before in
     let s = started .before .before in
     cut-set (s .args .s) (s .args .k) (s .args .links .now) (started .link-row .ensures .0)
-    (ended .link-end .ensures) (s .pre .1 .1) (s .pre .1 .0) (cleared .clear .last .0) []
-    (cleared .clear .ensures)
+    (ended .link-end .ensures) (s .pre .1 .1) (s .pre .1 .0) (cleared .clear .ensures)
 
 pub clear-link-spec : {M : Type 1} → statement M
 clear-link-spec =

@@ -1,4 +1,3 @@
--- `memory::links::count` meets its contract, by the laws of a link's row.
 use borrow.Author.Needs.{needs}
 use mathlib.Core.Path.{ap, _∙_}
 use Rattle.memory.specs.After.{linkRow}

@@ -1,19 +1,21 @@
--- `memory::links::double` meets its contract, by the law of a link that is changed.
+-- The link from a to me, cut out, has its head twice.
 use borrow.Author.Needs.{needs}
+use native.Mathlib.Omega.{arith}
 use Rattle.rules.specs.Site.{twice}
-use Rattle.memory.specs.Memory.{linkIndex}
-use Rattle.memory.proofs.LinkLaws.{link-cut, link-both, by-done}
+use Rattle.memory.proofs.LinkLaws.{cut-readable, cut-length, by-done}
 use Rattle.memory.proofs.links.double.Statement.{statement}
 use Rattle.memory.proofs.links.double.Tie as tie
 
 double-requires : tie.Need-double-requires
 double-requires c κs =
-    let s = c .before .before .before .before in
-    let t = s .args .s in
-    let row = link-cut t (linkIndex (t .n) (s .args .a) (t .me)) (s .args .links .now)
-    (c .before .before .link-start .ensures .0) (c .before .link-end .ensures) in
-    link-both t (s .args .a) (t .me) (s .args .links .now) (s .pre .0) (s .pre .1 .0) row
-    (s .pre .1 .1)
+    let started = c .before .before in
+    let s = started .before .before in
+    let from = started .link-start .ensures .0 in
+    let to = c .before .link-end .ensures in
+    let long = cut-length (s .args .a) (s .args .s .me) (s .pre .0) (s .pre .1 .0) from to in (
+      cut-readable (s .args .a) (s .args .s .me) (s .pre .0) (s .pre .1 .0) from to,
+      (omega (arith, long, s .pre .1 .1 .0), omega (arith, long, s .pre .1 .1 .1)),
+    )
 
 returns : tie.Need-returns
 returns c =
@@ -21,10 +23,8 @@ returns c =
     let ended = doubled .before .before in
     let started = ended .before in
     let s = started .before .before in
-    let t = s .args .s in
-    by-done t (s .args .a) (t .me) (s .args .links .now) (s .pre .0) (s .pre .1 .0)
-    (started .link-start .ensures .0) (ended .link-end .ensures) twice (doubled .double .last .0)
-    (doubled .double .ensures)
+    by-done (s .args .a) (s .args .s .me) (s .pre .0) (s .pre .1 .0)
+    (started .link-start .ensures .0) (ended .link-end .ensures) twice (doubled .double .ensures)
 
 pub double-spec : {M : Type 1} → statement M
 double-spec =

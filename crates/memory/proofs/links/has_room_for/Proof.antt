@@ -1,6 +1,5 @@
--- `memory::links::has_room_for` meets its contract.
 use borrow.Author.Needs.{needs}
-use mathlib.Core.Path.{sym, _∙_}
+use Rattle.words.proofs.TestLaws.{yes, no}
 use Rattle.laws.proofs.FormLaws.{sizes-says}
 use Rattle.memory.proofs.SizeLaws.{box-few}
 use Rattle.memory.proofs.SendLaws.{other-link}
@@ -17,19 +16,17 @@ count-requires c κs =
     let s = c .before .before .before in (
       s .pre .0,
       other-link (s .args .s .n) (s .args .s .me) (s .args .b) (s .args .set) (s .pre .1 .0)
-          (s .pre .1 .1 .0) (s .pre .1 .1 .1) (sym (c .before .has .ensures) ∙ c .if1 .taken),
+          (s .pre .1 .1 .0) (s .pre .1 .1 .1) (yes (c .before .has .ensures) (c .if1 .taken)),
     )
 
 returns : tie.Need-returns
 returns c =
     let asked = c .before .before .before in
-    rw (sym (asked .has .ensures) ∙ c .before .before .if1 .taken, c .before .count .ensures)
-
-returns-2 : tie.Need-returns-2
-returns-2 c = rw (sym (c .before .has .ensures) ∙ c .if1 .left)
+    rw (yes (asked .has .ensures) (c .before .before .if1 .taken), c .before .count .ensures)
 
 pub has-room-for-spec : {M : Type 1} → statement M
 has-room-for-spec =
     tie.close
     (tie.spec
-    has-requires count-requires (λ c. search needs) returns returns-2)
+    has-requires count-requires (λ c. search needs) returns
+    (λ c. rw (no (c .before .has .ensures) (c .if1 .left))))

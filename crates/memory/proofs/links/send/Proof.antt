@@ -1,4 +1,4 @@
--- `memory::links::send` meets its contract: the records are those of me.
+-- The records are those of me.
 use borrow.Author.Needs.{needs}
 use mathlib.Core.Path.{sym, ap, _∙_, subst}
 use mathlib.Core.List.{List}

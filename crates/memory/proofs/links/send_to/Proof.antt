@@ -1,43 +1,38 @@
--- `memory::links::send_to` meets its contract, by the laws of one letter more and of none.
+-- One letter more on the link to b, cut out, or none where b is not in the set.
 use borrow.Author.Needs.{needs}
-use mathlib.Core.Path.{sym, _∙_}
+use native.Mathlib.Omega.{arith}
+use Rattle.words.proofs.TestLaws.{yes, no}
 use Rattle.rules.specs.Box.{letterOf}
 use Rattle.laws.proofs.FormLaws.{sizes-says}
-use Rattle.memory.specs.Memory.{linkIndex}
 use Rattle.memory.proofs.SizeLaws.{box-few}
-use Rattle.memory.proofs.LinkLaws.{link-cut, link-room, send-done, send-none}
-use Rattle.memory.proofs.SendLaws.{other-link, room-says}
+use Rattle.memory.proofs.LinkLaws.{cut-readable, cut-length, send-done, send-none}
+use Rattle.memory.proofs.SendLaws.{to-link, to-room}
 use Rattle.memory.proofs.links.send_to.Statement.{statement}
 use Rattle.memory.proofs.links.send_to.Tie as tie
 
 has-requires : tie.Need-has-requires
 has-requires c κs =
     let s = c .before .before in
-    box-few (s .args .s .n) (s .args .b) (sizes-says (s .pre .0 .sizes)) (s .pre .1 .1 .0)
+    box-few (s .args .s .n) (s .args .b) (sizes-says (s .pre .lent .sizes)) (s .pre .box)
 
 link-start-requires : tie.Need-link-start-requires
 link-start-requires c κs =
-    let s = c .before .before .before .before in (
-      s .pre .0 .sizes,
-      other-link (s .args .s .n) (s .args .s .me) (s .args .b) (s .args .set) (s .pre .1 .0)
-          (s .pre .1 .1 .0) (s .pre .1 .1 .1 .0) (sym (c .before .has .ensures) ∙ c .if1 .taken),
-    )
+    let k = c .before .before .before .before .pre in
+    (k .lent .sizes, to-link k (yes (c .before .has .ensures) (c .if1 .taken)))
 
 push-requires : tie.Need-push-requires
 push-requires c κs =
-    let one = c .before .before .before in
-    let asked = one .before in
-    let s = asked .before .before .before in
-    let t = s .args .s in
-    let in-set = sym (asked .has .ensures) ∙ one .if1 .taken in
-    let h = other-link (t .n) (t .me) (s .args .b) (s .args .set) (s .pre .1 .0) (s .pre .1 .1 .0)
-    (s .pre .1 .1 .1 .0) in-set in
-    let room = room-says t (s .args .links .now) (s .args .set) (s .args .b)
-    (s .pre .1 .1 .1 .1 .0) in-set in
-    let row = link-cut t (linkIndex (t .n) (t .me) (s .args .b)) (s .args .links .now)
-    (c .before .before .link-start .ensures .0) (c .before .link-end .ensures) in
-    let r = link-room t (t .me) (s .args .b) (s .args .links .now) (s .pre .0) h row room in
-    (r .0, (r .1, s .pre .1 .1 .1 .1 .1))
+    let started = c .before .before in
+    let one = started .before in
+    let s = one .before .before .before .before in
+    let in-set = yes (one .before .has .ensures) (one .if1 .taken) in
+    let link = to-link (s .pre) in-set in
+    let from = started .link-start .ensures .0 in
+    let to = c .before .link-end .ensures in
+    let long = cut-length (s .args .s .me) (s .args .b) (s .pre .lent) link from to in (
+      cut-readable (s .args .s .me) (s .args .b) (s .pre .lent) link from to,
+      (omega (arith, long, to-room (s .pre) in-set), s .pre .letter),
+    )
 
 returns : tie.Need-returns
 returns c =
@@ -45,21 +40,17 @@ returns c =
     let ended = pushed .before .before in
     let started = ended .before in
     let one = started .before in
-    let asked = one .before in
-    let s = asked .before .before .before in
-    let t = s .args .s in
-    let in-set = sym (asked .has .ensures) ∙ one .if1 .taken in
-    let h = other-link (t .n) (t .me) (s .args .b) (s .args .set) (s .pre .1 .0) (s .pre .1 .1 .0)
-    (s .pre .1 .1 .1 .0) in-set in
-    send-done t (t .me) (s .args .b) (s .args .links .now) (s .pre .0) h
+    let s = one .before .before .before .before in
+    let in-set = yes (one .before .has .ensures) (one .if1 .taken) in
+    send-done (s .args .s .me) (s .args .b) (s .pre .lent) (to-link (s .pre) in-set)
     (started .link-start .ensures .0) (ended .link-end .ensures) (s .args .set) in-set
-    (letterOf (s .args .m) (s .args .records .now)) (pushed .push .last .0) (pushed .push .ensures)
+    (letterOf (s .args .m) (s .args .records .now)) (pushed .push .ensures)
 
 returns-2 : tie.Need-returns-2
 returns-2 c =
     let s = c .before .before .before .before in
-    send-none (s .args .s) (s .args .set) (s .args .b) (s .args .links .now) (s .pre .0)
-    (sym (c .before .has .ensures) ∙ c .if1 .left) (letterOf (s .args .m) (s .args .records .now))
+    send-none (s .args .set) (s .args .b) (s .pre .lent)
+    (no (c .before .has .ensures) (c .if1 .left)) (letterOf (s .args .m) (s .args .records .now))
 
 pub send-to-spec : {M : Type 1} → statement M
 send-to-spec =

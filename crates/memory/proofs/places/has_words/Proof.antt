@@ -1,4 +1,3 @@
--- `memory::places::has_words` meets its contract.
 use borrow.Author.Needs.{needs}
 use native.Mathlib.Omega.{arith}
 use Rattle.laws.proofs.FormLaws.{sizes-says}

@@ -1,4 +1,3 @@
--- `memory::places::link_count` meets its contract.
 use borrow.Author.Needs.{needs}
 use native.Mathlib.Omega.{arith}
 use Rattle.laws.proofs.FormLaws.{sizes-says}
@@ -9,11 +8,9 @@ use Rattle.memory.proofs.places.link_count.Tie as tie
 sub-result : tie.Need-sub-result
 sub-result c = let h = sizes-says (c .before .pre) in omega arith
 
-mul-result : tie.Need-mul-result
-mul-result c = omega (arith, pairs-most (sizes-says (c .before .pre)))
-
 pub link-count-spec : {M : Type 1} → statement M
 link-count-spec =
     tie.close
     (tie.spec
-    (λ c. search needs) sub-result mul-result (λ c. search needs))
+    (λ c. search needs) sub-result (λ c. omega (arith, pairs-most (sizes-says (c .before .pre))))
+    (λ c. search needs))

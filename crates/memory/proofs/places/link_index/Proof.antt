@@ -1,4 +1,3 @@
--- `memory::places::link_index` meets its contract.
 use borrow.Author.Needs.{needs}
 use native.Mathlib.Omega.{arith}
 use Rattle.laws.proofs.FormLaws.{sizes-says, is-link}

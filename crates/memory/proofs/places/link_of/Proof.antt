@@ -1,4 +1,3 @@
--- `memory::places::link_of` meets its contract.
 use borrow.Author.Needs.{needs}
 use Rattle.memory.proofs.LinkLaws.{link-cut}
 use Rattle.memory.proofs.places.link_of.Statement.{statement}

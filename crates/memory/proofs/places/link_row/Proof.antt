@@ -1,13 +1,9 @@
--- `memory::places::link_row` meets its contract.
 use borrow.Author.Needs.{needs}
 use native.Mathlib.Omega.{arith}
 use Rattle.laws.proofs.FormLaws.{sizes-says}
 use Rattle.memory.proofs.SizeLaws.{link-sizes, links-most}
 use Rattle.memory.proofs.places.link_row.Statement.{statement}
 use Rattle.memory.proofs.places.link_row.Tie as tie
-
-link-width-requires : tie.Need-link-width-requires
-link-width-requires c κs = link-sizes (sizes-says (c .pre .0))
 
 row-at-requires : tie.Need-row-at-requires
 row-at-requires c κs =
@@ -24,4 +20,4 @@ pub link-row-spec : {M : Type 1} → statement M
 link-row-spec =
     tie.close
     (tie.spec
-    link-width-requires (λ c κs. search needs) row-at-requires returns)
+    (λ c κs. link-sizes (sizes-says (c .pre .0))) (λ c κs. search needs) row-at-requires returns)

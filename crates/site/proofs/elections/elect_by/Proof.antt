@@ -1,4 +1,3 @@
--- `site::elections::elect_by` meets its contract.
 use mathlib.Core.Path.{refl}
 use native.Mathlib.Omega.{arith}
 use borrow.Author.Needs.{needs}
@@ -7,18 +6,11 @@ use Rattle.site.proofs.ElectLaws.{boxes-lent, elect-go}
 use Rattle.site.proofs.elections.elect_by.Statement.{statement}
 use Rattle.site.proofs.elections.elect_by.Tie as tie
 
-add-epoch : tie.Need-add-epoch
-add-epoch c = let k = c .before .before .before .pre in omega
-    (arith, epoch-most _ _ (k .form) _ _ (k .setting))
-
-elect-rows-requires : tie.Need-elect-rows-requires
-elect-rows-requires c κs = boxes-lent (c .before .before .before .before .before .before .pre)
-
 clear-links-requires : tie.Need-clear-links-requires
 clear-links-requires c κs =
     let k = c .before .before .before .before .before .before .before .before .before .before .pre
     in
-    let l = links-lent _ _ (k .form) _ _ (k .setting) in
+    let l = links-lent k in
     (l .sizes, l .words)
 
 put-general-requires : tie.Need-put-general-requires
@@ -42,16 +34,13 @@ returns c =
     (at-clear-links .clear-links .ensures)
     (at-put-general .put-general .ensures)
 
-returns-2 : tie.Need-returns-2
-returns-2 c = rw (c .before .v .given .1) (refl, (refl, refl))
-
-returns-3 : tie.Need-returns-3
-returns-3 c = rw (c .before .v2 .given .1) (refl, (refl, refl))
-
 pub elect-by-spec : {M : Type 1} → statement M
 elect-by-spec =
     tie.close
     (tie.spec
-    add-epoch (λ c. search needs) elect-rows-requires clear-links-requires put-general-requires
-    (λ c. search needs) (λ c. search needs) (λ c. search needs) (λ c. search needs) returns
-    returns-2 returns-3)
+    (λ c. omega (arith, epoch-most (c .before .before .before .pre))) (λ c. search needs)
+    (λ c κs. boxes-lent (c .before .before .before .before .before .before .pre))
+    clear-links-requires put-general-requires (λ c. search needs) (λ c. search needs)
+    (λ c. search needs) (λ c. search needs) returns
+    (λ c. rw (c .before .v .given .1) (refl, (refl, refl)))
+    (λ c. rw (c .before .v2 .given .1) (refl, (refl, refl))))

@@ -1,4 +1,3 @@
--- `site::mail::carry_mail` meets its contract.
 use mathlib.Core.Path.{refl}
 use native.Mathlib.Omega.{arith}
 use borrow.Author.Needs.{needs}
@@ -6,12 +5,6 @@ use Rattle.site.proofs.MailKnown.{mail-some, mail-playable, mail-rows, 
 use Rattle.site.proofs.MailKnown.{mail-carried}
 use Rattle.site.proofs.mail.carry_mail.Statement.{statement}
 use Rattle.site.proofs.mail.carry_mail.Tie as tie
-
-add-q : tie.Need-add-q
-add-q c = omega (arith, c .before .before .before .pre .head .inside)
-
-add-q-2 : tie.Need-add-q-2
-add-q-2 c = omega (arith, c .before .before .before .pre .head .inside)
 
 play-requires : tie.Need-play-requires
 play-requires c κs =
@@ -48,5 +41,6 @@ pub carry-mail-spec : {M : Type 1} → statement M
 carry-mail-spec =
     tie.close
     (tie.spec
-    (λ c. search needs) add-q add-q-2 play-requires pop-requires post-requires (λ c. search needs)
-    (λ c. search needs) returns)
+    (λ c. search needs) (λ c. omega (arith, c .before .before .before .pre .head .inside))
+    (λ c. omega (arith, c .before .before .before .pre .head .inside)) play-requires pop-requires
+    post-requires (λ c. search needs) (λ c. search needs) returns)

@@ -1,129 +1,87 @@
--- `site::mail::hand_over` meets its contract.
-use mathlib.Core.Path.{sym, _∙_}
+-- The head's turn is refused, discarded, finds a link full, or is carried out.
 use borrow.Author.Needs.{needs}
-use borrow.Author.Tests.{not-true, not-false}
+use Rattle.words.proofs.TestLaws.{yes, no, fails, passes}
 use Rattle.site.proofs.KnownLaws.{links-lent}
-use Rattle.site.proofs.HandOver.{over-box, over-me, over-place, over-refused, over-discarded}
-use Rattle.site.proofs.HandOver.{over-apart, over-full, over-takes, over-played}
+use Rattle.site.proofs.TurnKnown.{box-lent, me-is}
+use Rattle.site.proofs.MailKnown.{head-lent}
+use Rattle.site.proofs.HandOver.{me-at, over-place, over-refused, over-discarded, over-apart}
+use Rattle.site.proofs.HandOver.{over-full, over-takes, over-played}
 use Rattle.site.proofs.mail.hand_over.Statement.{statement}
 use Rattle.site.proofs.mail.hand_over.Tie as tie
 
-head-start-requires : tie.Need-head-start-requires
-head-start-requires c κs =
-    let k = c .before .before .before .pre in
-    (links-lent _ _ (k .0 .form) _ _ (k .0 .setting), (k .1 .0, k .1 .1))
-
 mail-turn-requires : tie.Need-mail-turn-requires
 mail-turn-requires c κs =
-    let k = c .before .before .before .before .before .before .pre in
-    let h = c .before .before .head-start .ensures in (
-      over-box (k .0) (c .before .before .before .before .before .before .args .a) (k .1 .0),
-      (h .inside, over-place (k .0) _ (k .1 .0) _ h),
-    )
+    let found = c .before .before in
+    let w = found .before .before .before .before .pre in
+    let h = found .head-start .ensures in
+    (box-lent (me-at w), (h .inside, over-place w h))
 
 returns : tie.Need-returns
 returns c =
-    let k = c .before .before .before .before .before .before .before .before .before .pre in
-    let h = c .before .before .before .before .before .head-start .ensures in
-    over-refused (k .0) _ (k .1 .0) _ h _ (c .before .before .mail-turn .ensures)
-    (sym (c .before .is-refusal .ensures) ∙ c .if1 .taken)
+    let turn = c .before .before in
+    let found = turn .before .before .before in
+    over-refused (found .before .before .before .before .pre) (found .head-start .ensures)
+    (turn .mail-turn .ensures) (yes (c .before .is-refusal .ensures) (c .if1 .taken))
 
 pop-requires : tie.Need-pop-requires
 pop-requires c κs =
-    let at-head-start = c .before .before .before .before .before .before .before .before in
-    let start = at-head-start .before .before .before .before in
-    let k = start .pre in
-    (links-lent _ _ (k .0 .form) _ _ (k .0 .setting), (k .1 .0, k .1 .1))
+    let found = c .before .before .before .before .before .before .before .before in head-lent
+    (found .before .before .before .before .pre)
 
 returns-2 : tie.Need-returns-2
 returns-2 c =
-    let at-pop = c .before .before in
-    let at-if2 = at-pop .before .before in
-    let at-is-accepted = at-if2 .before in
-    let at-if1 = at-is-accepted .before in
-    let at-is-refusal = at-if1 .before in
-    let at-mail-turn = at-is-refusal .before in
-    let at-head-start = at-mail-turn .before .before .before in
-    let start = at-head-start .before .before .before .before in
-    let k = start .pre in
-    let h = at-head-start .head-start .ensures in
-    over-discarded (k .0) _ (k .1 .0) _ h _
-    (at-mail-turn .mail-turn .ensures)
-    (sym (at-is-refusal .is-refusal .ensures)
-    ∙ at-if1 .if1 .left)
-    (sym (at-is-accepted .is-accepted .ensures) ∙ not-true _
-    (at-if2 .if2 .taken))
-    (at-pop .pop .ensures)
+    let popped = c .before .before in
+    let stays = popped .before .before in
+    let kept = stays .before .before in
+    let turn = kept .before .before in
+    let found = turn .before .before .before in
+    over-discarded (found .before .before .before .before .pre) (found .head-start .ensures)
+    (turn .mail-turn .ensures) (no (kept .before .is-refusal .ensures) (kept .if1 .left))
+    (fails (stays .before .is-accepted .ensures) (stays .if2 .taken)) (popped .pop .ensures)
 
 has-room-requires : tie.Need-has-room-requires
 has-room-requires c κs =
-    let at-mail-turn = c .before .before .before .before .before in
-    let at-head-start = at-mail-turn .before .before .before in
-    let start = at-head-start .before .before .before .before in
-    let k = start .pre in
-    let h = at-head-start .head-start .ensures
-    in (
-      links-lent _ _ (k .0 .form) _ _ (k .0 .setting),
-      (
-        over-me (k .0) (start .args .a) (k .1 .0),
-        over-apart (k .0) _ (k .1 .0) _ h _
-            (at-mail-turn .mail-turn .ensures),
-      ),
+    let turn = c .before .before .before .before .before in
+    let found = turn .before .before .before in
+    let w = found .before .before .before .before .pre in (
+      links-lent (w .know),
+      (me-is (me-at w), over-apart w (found .head-start .ensures) (turn .mail-turn .ensures)),
     )
 
 returns-3 : tie.Need-returns-3
 returns-3 c =
-    let at-if2 = c .before .before .before in
-    let at-is-accepted = at-if2 .before in
-    let at-mail-turn = at-is-accepted .before .before .before in
-    let at-head-start = at-mail-turn .before .before .before in
-    let start = at-head-start .before .before .before .before in
-    let k = start .pre in
-    let h = at-head-start .head-start .ensures in
-    over-full (k .0) _ (k .1 .0) _ h _
-    (at-mail-turn .mail-turn .ensures)
-    (sym (at-is-accepted .is-accepted .ensures) ∙ not-false _
-    (at-if2 .if2 .left))
-    (sym (c .before .has-room .ensures) ∙ not-true _ (c .if3 .taken))
+    let goes = c .before .before .before in
+    let turn = goes .before .before .before .before in
+    let found = turn .before .before .before in
+    over-full (found .before .before .before .before .pre) (found .head-start .ensures)
+    (turn .mail-turn .ensures) (passes (goes .before .is-accepted .ensures) (goes .if2 .left))
+    (fails (c .before .has-room .ensures) (c .if3 .taken))
 
 carry-mail-requires : tie.Need-carry-mail-requires
 carry-mail-requires c κs =
-    let at-if3 = c .before .before in
-    let at-has-room = at-if3 .before in
-    let at-mail-turn = at-has-room .before .before .before .before .before .before in
-    let at-head-start = at-mail-turn .before .before .before in
-    let start = at-head-start .before .before .before .before in
-    let k = start .pre in
-    let h = at-head-start .head-start .ensures in
-    over-takes (k .0) _ (k .1 .0) _ h _
-    (at-mail-turn .mail-turn .ensures)
-    (sym (at-has-room .has-room .ensures) ∙ not-false _
-    (at-if3 .if3 .left))
+    let room = c .before .before in
+    let turn = room .before .before .before .before .before .before .before in
+    let found = turn .before .before .before in
+    over-takes (found .before .before .before .before .pre) (found .head-start .ensures)
+    (turn .mail-turn .ensures) (passes (room .before .has-room .ensures) (room .if3 .left))
 
 returns-4 : tie.Need-returns-4
 returns-4 c =
-    let at-carry-mail = c .before .before .before .before in
-    let at-if3 = at-carry-mail .before .before .before in
-    let at-has-room = at-if3 .before in
-    let at-if2 = at-has-room .before .before in
-    let at-is-accepted = at-if2 .before in
-    let at-mail-turn = at-is-accepted .before .before .before in
-    let at-head-start = at-mail-turn .before .before .before in
-    let start = at-head-start .before .before .before .before in
-    let k = start .pre in
-    let h = at-head-start .head-start .ensures in
-    over-played (k .0) _ (k .1 .0) _ h _
-    (at-mail-turn .mail-turn .ensures)
-    (sym (at-is-accepted .is-accepted .ensures) ∙ not-false _ (at-if2 .if2 .left))
-    (sym (at-has-room .has-room .ensures)
-    ∙ not-false _ (at-if3 .if3 .left))
-    (at-carry-mail .carry-mail .ensures)
+    let carried = c .before .before .before .before in
+    let room = carried .before .before .before in
+    let goes = room .before .before .before in
+    let turn = goes .before .before .before .before in
+    let found = turn .before .before .before in
+    over-played (found .before .before .before .before .pre) (found .head-start .ensures)
+    (turn .mail-turn .ensures) (passes (goes .before .is-accepted .ensures) (goes .if2 .left))
+    (passes (room .before .has-room .ensures) (room .if3 .left)) (carried .carry-mail .ensures)
 
 pub hand-over-spec : {M : Type 1} → statement M
 hand-over-spec =
     tie.close
     (tie.spec
-    head-start-requires mail-turn-requires (λ c κs. search needs) (λ c. search needs)
-    (λ c. search needs) returns (λ c κs. search needs) pop-requires (λ c. search needs)
-    (λ c. search needs) returns-2 has-room-requires (λ c. search needs) (λ c. search needs)
-    returns-3 carry-mail-requires (λ c. search needs) (λ c. search needs) returns-4)
+    (λ c κs. head-lent (c .before .before .before .pre)) mail-turn-requires (λ c κs. search needs)
+    (λ c. search needs) (λ c. search needs) returns (λ c κs. search needs) pop-requires
+    (λ c. search needs) (λ c. search needs) returns-2 has-room-requires (λ c. search needs)
+    (λ c. search needs) returns-3 carry-mail-requires (λ c. search needs) (λ c. search needs)
+    returns-4)

@@ -1,4 +1,3 @@
--- `site::presence::present_as` meets its contract.
 use mathlib.Core.Path.{refl}
 use Rattle.site.proofs.GeneralLaws.{presented-go}
 use borrow.Author.Needs.{needs}
@@ -12,15 +11,10 @@ returns c =
     (c .before .before .before .before .before .before .raise .ensures)
     (c .before .before .put-general .ensures)
 
-returns-2 : tie.Need-returns-2
-returns-2 c = rw (c .before .v .given .1) (refl, refl)
-
-returns-3 : tie.Need-returns-3
-returns-3 c = rw (c .before .v2 .given .1) (refl, refl)
-
 pub present-as-spec : {M : Type 1} → statement M
 present-as-spec =
     tie.close
     (tie.spec
     (λ c κs. search needs) (λ c. search needs) (λ c κs. search needs) (λ c. search needs)
-    (λ c. search needs) (λ c. search needs) returns returns-2 returns-3)
+    (λ c. search needs) (λ c. search needs) returns (λ c. rw (c .before .v .given .1) (refl, refl))
+    (λ c. rw (c .before .v2 .given .1) (refl, refl)))

@@ -1,4 +1,3 @@
--- `site::records::is_agreed` meets its contract.
 use native.Mathlib.Omega.{arith}
 use borrow.Author.Needs.{needs}
 use Rattle.site.proofs.AgreedLaws.{agreed-zero, agreed-above, agreed-here}

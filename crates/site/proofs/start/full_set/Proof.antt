@@ -1,4 +1,3 @@
--- `site::start::full_set` meets its contract.
 use Prim.Native.Nat.{_-_, _≤_}
 use mathlib.Core.Path.{_≡_, refl, ap, _∙_}
 use native.Mathlib.Omega.{arith}
@@ -29,12 +28,6 @@ add-set-2 c =
     (omega (arith, c .before .loop .inv .1, c .before .before .pre)) in
     omega (arith, c .before .loop .inv .0, m)
 
-add-b : tie.Need-add-b Inv-loop μ-loop
-add-b c = omega arith
-
-loop-less : tie.Need-loop-less Inv-loop μ-loop
-loop-less c = omega arith
-
 loop-again : tie.Need-loop-again Inv-loop μ-loop
 loop-again c =
     (full-more (c .before .loop .b) _ (c .before .loop .inv .0), omega (arith, c .loop-test .taken))
@@ -49,4 +42,5 @@ pub full-set-spec : {M : Type 1} → statement M
 full-set-spec =
     tie.close
     (tie.spec
-    Inv-loop μ-loop loop-holds add-set add-set-2 add-b loop-less loop-again returns)
+    Inv-loop μ-loop loop-holds add-set add-set-2 (λ c. omega arith) (λ c. omega arith) loop-again
+    returns)

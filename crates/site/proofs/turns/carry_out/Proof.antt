@@ -1,13 +1,8 @@
--- `site::turns::carry_out` meets its contract.
 use native.Mathlib.Omega.{arith}
 use borrow.Author.Needs.{needs}
 use Rattle.site.proofs.CarryLaws.{playable, posts-after, sent-after}
 use Rattle.site.proofs.turns.carry_out.Statement.{statement}
 use Rattle.site.proofs.turns.carry_out.Tie as tie
-
-play-requires : tie.Need-play-requires
-play-requires c κs =
-    ((omega arith, omega arith), playable (c .before .before .before .before .pre))
 
 post-requires : tie.Need-post-requires
 post-requires c κs =
@@ -28,4 +23,5 @@ pub carry-out-spec : {M : Type 1} → statement M
 carry-out-spec =
     tie.close
     (tie.spec
-    play-requires post-requires (λ c. search needs) (λ c. search needs) returns)
+    (λ c κs. ((omega arith, omega arith), playable (c .before .before .before .before .pre)))
+    post-requires (λ c. search needs) (λ c. search needs) returns)

@@ -1,4 +1,3 @@
--- `site::turns::has_room` meets its contract.
 use borrow.Author.Needs.{needs}
 use Rattle.site.proofs.CarryLaws.{not-to, room-to, room-none}
 use Rattle.site.proofs.turns.has_room.Statement.{statement}

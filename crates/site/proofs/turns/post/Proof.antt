@@ -1,4 +1,3 @@
--- `site::turns::post` meets its contract.
 use borrow.Author.Needs.{needs}
 use Rattle.site.proofs.CarryLaws.{sends, posted-to, posted-none}
 use Rattle.site.proofs.turns.post.Statement.{statement}

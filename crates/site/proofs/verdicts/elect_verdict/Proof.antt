@@ -1,4 +1,3 @@
--- `site::verdicts::elect_verdict` meets its contract.
 use Rattle.site.specs.Verdicts.{verdictOf}
 use borrow.Author.Needs.{needs}
 use Rattle.site.proofs.verdicts.elect_verdict.Statement.{statement}

@@ -1,11 +1,11 @@
 -- `whole::bodies::check_mail` meets its contract: the links' own answer, and their entry.
 use borrow.Author.Needs.{needs}
-use mathlib.Core.Path.{_≡_, subst}
+use mathlib.Core.Path.{subst}
 use native.Mathlib.Omega.{arith}
 use Rattle.laws.proofs.FormLaws.{sizes-says}
 use Rattle.memory.proofs.SizeLaws.{pairs-most}
-use Rattle.cells.specs.declared.Walk.{Walk}
 use Rattle.cells.specs.Cells.{chain, Found, WalkIs}
+use Rattle.cells.proofs.WalkLaws.{walk-found}
 use Rattle.image.specs.Image.{linkBytes}
 use Rattle.image.specs.Parts.{GoodLinks}
 use Rattle.whole.proofs.BodiesLaws.{mail-then}
@@ -20,50 +20,35 @@ mul-check-links c = omega (arith, pairs-most (sizes-says (c .before .before .pre
 
 check-links-requires : tie.Need-check-links-requires
 check-links-requires c κs =
-    let z = sizes-says (c .before .before .pre .1 .0) in
-    (c .before .before .pre .0, (z .few-loads, z .few-mails))
+    let start = c .before .before in
+    let z = sizes-says (start .pre .1 .0) in
+    (start .pre .0, (z .few-loads, z .few-mails))
 
--- The links that were found.
-mail : (c : tie.After-known-told) →
-    let c6 = c .before .before .before .before .before .before in
-    let a = c6 .args in
-    Found (chain linkBytes) (GoodLinks (a .n) (a .j) (a .l)) (a .src .now) (a .at)
-    (c .before .r .given .0 .0)
-mail c =
-    let c3 = c .before .before .before in
-    let c6 = c3 .before .before .before in
-    let a = c6 .args in
-    let e : c3 .check-links .result ≡ Walk.Next (c .before .r .given .0 .0) =
-    c .before .r .given .1 in
-    subst (WalkIs (chain linkBytes) (GoodLinks (a .n) (a .j) (a .l)) (a .src .now) (a .at)) e
-    (c3 .check-links .ensures)
+-- where the links were found
+module _ (c : tie.After-known-told) where
+  abbrev start : tie.Start
+  start = c .before .before .before .before .before .before
+
+  mail : Found (chain linkBytes) (GoodLinks (start .args .n) (start .args .j) (start .args .l))
+      (start .args .src .now) (start .args .at) (c .before .r .given .0 .0)
+  mail = walk-found (c .before .r .given .1) (c .before .before .before .check-links .ensures)
 
 enter-requires : tie.Need-enter-requires
 enter-requires c κs =
-    let c7 = c .before .before .before .before .before .before .before in
     let next = mail (c .before) .stands .next in
-    (omega (arith, c7 .pre .1 .1), omega arith)
-
-returns : tie.Need-returns
-returns c =
-    let c4 = c .before .before .before .before in
-    let c10 = c4 .before .before .before .before .before .before in
-    let a = c10 .args in
-    mail-then (a .n) (a .j) (a .l) (a .src .now) (a .at) _ (a .table .now)
-    (c .before .before .enter .last .0)
-    (mail c4) (c .before .before .enter .ensures)
+    (omega (arith, start (c .before) .pre .1 .1), omega arith)
 
 returns-2 : tie.Need-returns-2
 returns-2 c =
-    let c5 = c .before .before .before .before .before in
-    let a = c5 .args in
-    let e : c .before .before .check-links .result ≡ Walk.Bad = c .enum-told .given .1 in
-    subst (WalkIs (chain linkBytes) (GoodLinks (a .n) (a .j) (a .l)) (a .src .now) (a .at)) e
-    (c .before .before .check-links .ensures)
+    let a = c .before .before .before .before .before .args in
+    subst (WalkIs (chain linkBytes) (GoodLinks (a .n) (a .j) (a .l)) (a .src .now) (a .at))
+    (c .enum-told .given .1) (c .before .before .check-links .ensures)
 
 pub check-mail-spec : {M : Type 1} → statement M
 check-mail-spec =
     tie.close
     (tie.spec
     sub-check-links mul-check-links check-links-requires (λ c. search needs) (λ c. search needs)
-    (λ c. search needs) enter-requires (λ c. search needs) (λ c. search needs) returns returns-2)
+    (λ c. search needs) enter-requires (λ c. search needs) (λ c. search needs)
+    (λ c. mail-then (mail (c .before .before .before .before)) (c .before .before .enter .ensures))
+    returns-2)

@@ -1,46 +1,38 @@
 -- `writer::boxes::write_box` meets its contract: its words in their groups, then the records.
 use borrow.Author.Needs.{needs}
-use mathlib.Core.Path.{sym, ap, _∙_, subst}
-use Prim.Native.Nat.{ℕ}
-use native.Mathlib.Omega.{arith}
-use mathlib.Core.List.{List}
-use lib.ListN.{length}
-use Rattle.row.specs.Row.{headWords, countAt}
-use Rattle.cells.specs.Cells.{Room, Wrote}
-use Rattle.cells.specs.Groups.{Group, Cut, headedBytes}
-use Rattle.writer.proofs.BoxLaws.{box-bytes, row-cut, row-room}
+use Rattle.writer.proofs.BoxLaws.{RowOf, box-here, row-is, box-put}
+use Rattle.writer.proofs.PutLaws.{put-needs, put-wrote}
 use Rattle.writer.proofs.boxes.write_box.Statement.{statement}
 use Rattle.writer.proofs.boxes.write_box.Tie as tie
 
+row : (c : tie.After-row-of) →
+    let a = c .before .before .before .before .before .args in
+    RowOf (a .s) (a .site .now) (a .i) (c .row-of .result .now)
+row c =
+    let s = c .before .before .before .before .before in
+    row-is (s .args .s) (s .args .site .now) (s .args .i) (s .pre .0 .0) (s .pre .0 .1)
+    (c .row-of .ensures)
+
+row-of-requires : tie.Need-row-of-requires
+row-of-requires c κs =
+    let s = c .before .before .before .before in
+    (s .pre .0 .0 .sizes, (s .pre .0 .0 .words, box-here (s .pre .0 .1)))
+
 put-headed-requires : tie.Need-put-headed-requires
 put-headed-requires c κs =
-    let s = c .before .before .before .before .before in
-    let a = s .args in
-    let r = a .row .now in
-    let groups = sym (c .before .before .box-groups .ensures .0) in (
-      subst (Cut 0 (length r)) groups (row-cut (a .n) (a .j) (a .row .now) (s .pre .0)),
-      (
-        (omega (arith, s .pre .0 .width), row-room (a .n) (a .j) (a .row .now) (s .pre .0)),
-        subst (λ (l : List ℕ). Room l (a .out .now) (a .at))
-            (box-bytes (a .n) (a .j) (a .row .now) (s .pre .0)
-            ∙ ap (λ (gs : List Group). headedBytes gs headWords countAt r) groups)
-            (s .pre .1),
-      ),
-    )
+    let d = c .before .before in
+    put-needs (box-put (row d)) (d .before .box-groups .ensures .0)
+    (d .before .before .before .before .before .pre .1)
 
 returns : tie.Need-returns
 returns c =
-    let s = c .before .before .before .before .before .before .before .before in
-    let a = s .args in
-    let groups = c .before .before .before .before .before .box-groups .ensures .0 in
-    let put = c .before .before .put-headed in
-    subst (λ (l : List ℕ). Wrote l (a .out .now) (a .at) (put .last .0) (put .result))
-    (ap (λ (gs : List Group). headedBytes gs headWords countAt (a .row .now)) groups
-    ∙ sym (box-bytes (a .n) (a .j) (a .row .now) (s .pre .0)))
-    (put .ensures)
+    let put = c .before .before in
+    let d = put .before .before .before in
+    put-wrote (box-put (row d)) (d .before .box-groups .ensures .0) (put .put-headed .ensures)
 
 pub write-box-spec : {M : Type 1} → statement M
 write-box-spec =
     tie.close
     (tie.spec
-    (λ c κs. search needs) (λ c. search needs) put-headed-requires (λ c. search needs) returns)
+    (λ c. search needs) (λ c κs. search needs) (λ c. search needs) row-of-requires
+    (λ c. search needs) put-headed-requires (λ c. search needs) returns)

@@ -1,46 +1,35 @@
 -- `writer::mail::write_letter` meets its contract: its words in their groups, then the records.
 use borrow.Author.Needs.{needs}
-use mathlib.Core.Path.{sym, ap, _∙_, subst}
-use Prim.Native.Nat.{ℕ}
-use native.Mathlib.Omega.{arith}
-use mathlib.Core.List.{List}
-use lib.ListN.{length}
-use Rattle.letter.specs.Place.{headWords, countAt}
-use Rattle.cells.specs.Cells.{Room, Wrote}
-use Rattle.cells.specs.Groups.{Group, Cut, headedBytes}
-use Rattle.writer.proofs.MailLaws.{letter-bytes, place-cut-groups, place-room}
+use Rattle.writer.proofs.MailLaws.{PlaceOf, place-is, letter-put}
+use Rattle.writer.proofs.PutLaws.{put-needs, put-wrote}
 use Rattle.writer.proofs.mail.write_letter.Statement.{statement}
 use Rattle.writer.proofs.mail.write_letter.Tie as tie
 
+place : (c : tie.After-place-of) →
+    let a = c .before .before .before .before .args in
+    PlaceOf (a .j) (a .l) (a .link .now) (a .i) (c .place-of .result .now)
+place c =
+    let s = c .before .before .before .before in
+    let a = s .args in
+    place-is (a .j) (a .l) (a .link .now) (a .i) (s .pre .0 .0) (s .pre .0 .1)
+    (c .place-of .ensures)
+
 put-headed-requires : tie.Need-put-headed-requires
 put-headed-requires c κs =
-    let s = c .before .before .before .before .before in
-    let a = s .args in
-    let r = a .place .now in
-    let groups = sym (c .before .before .letter-groups .ensures .0) in (
-      subst (Cut 0 (length r)) groups (place-cut-groups (a .j) (a .place .now) (s .pre .0)),
-      (
-        (omega (arith, s .pre .0 .width), place-room (a .j) (a .place .now) (s .pre .0)),
-        subst (λ (l : List ℕ). Room l (a .out .now) (a .at))
-            (letter-bytes (a .j) (a .place .now) (s .pre .0)
-            ∙ ap (λ (gs : List Group). headedBytes gs headWords countAt r) groups)
-            (s .pre .1),
-      ),
-    )
+    let d = c .before .before in
+    put-needs (letter-put (place d)) (d .before .letter-groups .ensures .0)
+    (d .before .before .before .before .pre .1)
 
 returns : tie.Need-returns
 returns c =
-    let s = c .before .before .before .before .before .before .before .before in
-    let a = s .args in
-    let groups = c .before .before .before .before .before .letter-groups .ensures .0 in
-    let put = c .before .before .put-headed in
-    subst (λ (l : List ℕ). Wrote l (a .out .now) (a .at) (put .last .0) (put .result))
-    (ap (λ (gs : List Group). headedBytes gs headWords countAt (a .place .now)) groups
-    ∙ sym (letter-bytes (a .j) (a .place .now) (s .pre .0)))
-    (put .ensures)
+    let put = c .before .before in
+    let d = put .before .before .before in
+    put-wrote (letter-put (place d)) (d .before .letter-groups .ensures .0)
+    (put .put-headed .ensures)
 
 pub write-letter-spec : {M : Type 1} → statement M
 write-letter-spec =
     tie.close
     (tie.spec
-    (λ c κs. search needs) (λ c. search needs) put-headed-requires (λ c. search needs) returns)
+    (λ c κs. search needs) (λ c κs. search needs) (λ c. search needs) put-headed-requires
+    (λ c. search needs) returns)
