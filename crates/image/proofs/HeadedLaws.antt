@@ -218,7 +218,7 @@ first-parts k c m rest gs some = record {
 -- Whatever thing by form stands there has P: so it is one that has P, or none is there.
 module _ {A : Type 0} {enc : A → List ℕ} {Good P : A → Type 0} {src : List ℕ} {at : ℕ}
     (known : (x : A) (q : ℕ) → Good x → Stands (enc x) src at q → P x) where
-  pub known-found : {q : ℕ} → Found enc Good src at q → Found enc (λ x. Good x × P x) src at q
+  abbrev pub known-found : {q : ℕ} → Found enc Good src at q → Found enc (λ x. Good x × P x) src at q
   known-found {q} f = record {
     thing = f .thing;
     good = (f .good, known (f .thing) q (f .good) (f .stands));
@@ -229,3 +229,10 @@ module _ {A : Type 0} {enc : A → List ℕ} {Good P : A → Type 0} {src : List
   known-walk (Walk.Next q) f =
       record { thing = f .thing; good = f .good .0; stands = f .stands }
   known-walk Walk.Bad none = λ x q g v. none x q (g, known x q g v) v
+
+  pub known-has : Has enc Good src at → Has enc (λ x. Good x × P x) src at
+  known-has h = record { place = h .place; found = known-found (h .found) }
+
+  pub known-stored : (H : A → Type 0) {r : ℕ} → StoredIs enc (λ x. Good x × P x) src at H r
+      → StoredIs enc Good src at H r
+  known-stored H stored q f = stored q (known-found f)
