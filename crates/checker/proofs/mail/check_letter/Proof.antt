@@ -55,8 +55,13 @@ get-groups-requires c κs =
     let x = read .get-at .result in
     groups-asked (letter-headed (start .args .j) (start .pre .1) x) (start .args .src .now)
     (start .args .at) (named .letter-groups .result) (groups named)
-    (omega (arith, letter-groups-long (kindOf x), start .pre .0, named .before .if2 .left,
-    least sized))
+    (omega (
+      arith,
+      letter-groups-long (kindOf x),
+      start .pre .0,
+      named .before .if2 .left,
+      least sized,
+    ))
 
 returns-3 : tie.Need-returns-3
 returns-3 c =
