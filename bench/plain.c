@@ -8,6 +8,8 @@ static struct camera *at(struct site *s, u32 c) { return &s->boxes[c - 1]; }
 static struct link *link_of(struct site *s, u32 a, u32 b) { return &s->links[a - 1][b - 1]; }
 static u32 others(const struct site *s, u32 c) { return s->present & ~(1u << (c - 1)); }
 
+static u32 agreed(const struct camera *b) { return span(b->first, b->last); }
+
 static void copy(u64 *to, const u64 *from, u32 count) {
     __builtin_memcpy(to, from, (u64)count * sizeof *to);
 }
@@ -17,6 +19,7 @@ void fresh(struct site *s, u32 n, u32 j, u32 l) {
     for (u32 c = 1; c <= n; c++) {
         struct camera *b = at(s, c);
         __builtin_memset(b, 0, sizeof *b);
+        b->first = 1;
         for (u32 k = 0; k < N_MAX; k++) b->peers[k] = UNKNOWN;
         for (u32 k = 1; k <= n; k++) link_of(s, c, k)->first = link_of(s, c, k)->count = 0;
     }
@@ -36,6 +39,7 @@ static void send(struct site *s, u32 c, u32 to, u32 kind, u32 pn, u32 last, u32 
         u32 place = link->first + link->count;
         struct mail *m = &link->mails[place < s->l ? place : place - s->l];
         m->kind = kind, m->pn = pn, m->last = last, m->unagreed_pn = unagreed_pn, m->count = count;
+        m->first = has_first(kind) ? at(s, c)->first : 0;
         copy(m->records, records, count);
         link->count++;
     }
@@ -60,19 +64,41 @@ static u32 repeat(struct site *s, struct link *link) {
 }
 
 static void put_unagreed(struct camera *b, u64 r, u32 pn) {
-    b->records[b->last] = r;
-    b->held = b->stored_number = b->last + 1;
+    b->records[agreed(b)] = r;
+    b->held = agreed(b) + 1;
+    b->stored_number = b->last + 1;
     b->stored_pn = pn;
 }
 
 static u32 unagreed_pn(const struct camera *b) {
-    return b->held > b->last && b->stored_number == b->last + 1 ? b->stored_pn : 0;
+    return b->held > agreed(b) && b->stored_number == b->last + 1 ? b->stored_pn : 0;
+}
+
+/* There is no room for last+1, or no such number. */
+static u32 no_room(const struct site *s, u32 first, u32 last) {
+    return last + 2 > s->j + first || last == HIGHEST_NUMBER;
+}
+
+/* The records below first are dropped; it is at most one above the number of the last of them. */
+static void raise(struct camera *b, u32 first) {
+    if (first <= b->first) return;
+    u32 dropped = first - b->first;
+    b->held -= dropped;
+    __builtin_memmove(b->records, b->records + dropped, (u64)b->held * sizeof *b->records);
+    b->first = first;
 }
 
 static void take_records(struct camera *b, const struct mail *m) {
+    if (m->first > b->last + 1) {
+        b->first = m->first, b->last = m->last, b->held = agreed(b);
+        copy(b->records, m->records, b->held);
+        return;
+    }
+    if (m->last > b->last) b->held = agreed(b);
+    raise(b, m->first);
     if (m->last <= b->last) return;
-    copy(b->records + b->last, m->records + b->last, m->last - b->last);
-    b->last = b->held = m->last;
+    copy(b->records + agreed(b), m->records + span(m->first, b->last), m->last - b->last);
+    b->last = m->last, b->held = agreed(b);
 }
 
 static void clear_best(struct camera *b) { b->best_pn = b->best_number = 0, b->best = 0; }
@@ -128,8 +154,8 @@ static u32 collect(struct site *s, u32 c, struct camera *b) {
     if (full(s, c, others(s, c))) return 8;
     forget_peers(s, b);
     b->answered = 1u << (c - 1);
-    if (b->held > b->last)
-        b->best_pn = unagreed_pn(b), b->best_number = b->last + 1, b->best = b->records[b->last];
+    if (b->held > agreed(b))
+        b->best_pn = unagreed_pn(b), b->best_number = b->last + 1, b->best = b->records[agreed(b)];
     else
         clear_best(b);
     b->phase = COLLECT_PHASE;
@@ -155,9 +181,11 @@ static u32 start(struct site *s, u32 c, struct camera *b, u64 r) {
 
 static u32 ready(struct site *s, u32 c, struct camera *b) {
     if (b->phase != COLLECT_PHASE || b->answered != s->present) return 3;
+    u32 previous = b->best_number == b->last + 1 && b->best != 0;
+    if (previous && no_room(s, b->first, b->last)) return 7;
     if (full(s, c, others(s, c))) return 8;
     forget_peers(s, b);
-    if (b->best_number != b->last + 1 || b->best == 0) return lease(s, c, b);
+    if (!previous) return lease(s, c, b);
     b->state = UPDATING_PREVIOUS;
     return start(s, c, b, b->best);
 }
@@ -171,7 +199,7 @@ static u32 offer(struct camera *b, u32 left, u32 right) {
 static u32 propose(struct site *s, u32 c, struct camera *b) {
     if (b->state != ACTIVE || (b->phase != LEASE_PHASE && b->phase != ELECTION)) return 3;
     if (!b->waiting) return 3;
-    if (b->last == s->j) return 7;
+    if (no_room(s, b->first, b->last)) return 7;
     if (full(s, c, others(s, c))) return 8;
     u64 r = b->waiting;
     b->waiting = 0;
@@ -182,12 +210,12 @@ static u32 propose(struct site *s, u32 c, struct camera *b) {
 static u32 agree(struct site *s, u32 c, struct camera *b) {
     if (b->phase != BEGIN_PHASE) return 3;
     if (b->state != UPDATING && b->state != UPDATING_PREVIOUS) return 3;
-    if ((b->accepts & s->present) != s->present || b->held == b->last) return 3;
+    if ((b->accepts & s->present) != s->present || b->held == agreed(b)) return 3;
     if (full(s, c, others(s, c))) return 8;
     b->last++;
     b->agreeing = 0;
     b->state = REFRESH, b->phase = COMMIT_PHASE;
-    send(s, c, others(s, c), COMMIT, b->pn, b->last, 0, b->records, b->last);
+    send(s, c, others(s, c), COMMIT, b->pn, b->last, 0, b->records, agreed(b));
     return DONE;
 }
 
@@ -195,6 +223,13 @@ static u32 finish(struct site *s, u32 c, struct camera *b) {
     if (b->state != REFRESH || b->phase != COMMIT_PHASE) return 3;
     if (full(s, c, others(s, c))) return 8;
     return lease(s, c, b);
+}
+
+/* Any box, not a leader alone. */
+static u32 trim(const struct site *s, u32 c, struct camera *b, u32 k) {
+    if (s->epoch % 2 || !has(s->present, c) || k <= b->first || k > b->last) return 3;
+    raise(b, k);
+    return DONE;
 }
 
 static u32 on_collect(struct site *s, u32 from, u32 c, struct camera *b, const struct mail *m) {
@@ -207,9 +242,10 @@ static u32 on_collect(struct site *s, u32 from, u32 c, struct camera *b, const s
 }
 
 static u32 hear(struct camera *b, const struct mail *m) {
-    if (m->count == m->last || m->last < b->last) return 0;
+    u32 next = span(m->first, m->last);
+    if (m->count == next || m->last < b->last) return 0;
     if (m->last + 1 < b->best_number || m->unagreed_pn < b->best_pn) return 0;
-    b->best_pn = m->unagreed_pn, b->best_number = m->last + 1, b->best = m->records[m->last];
+    b->best_pn = m->unagreed_pn, b->best_number = m->last + 1, b->best = m->records[next];
     return 1;
 }
 
@@ -226,7 +262,7 @@ static u32 on_last(struct site *s, u32 from, u32 c, struct camera *b, const stru
     if (full(s, c, lagging)) return 8;
     b->peers[from - 1] = m->last;
     take_records(b, m);
-    send(s, c, lagging, COMMIT, b->pn, b->last, 0, b->records, b->last);
+    send(s, c, lagging, COMMIT, b->pn, b->last, 0, b->records, agreed(b));
     u32 became = 0;
     if (m->pn > b->pn)
         b->pn = new_pn(m->pn, c), b->phase = SEND_COLLECT;
@@ -240,7 +276,9 @@ static u32 on_begin(struct site *s, u32 from, u32 c, struct camera *b, const str
     if (b->leads) return ROLE;
     if (m->pn != b->pn) return NUMBER;
     if (m->last != b->last) return PLACE;
+    if (no_room(s, m->first > b->first ? m->first : b->first, b->last)) return 7;
     if (full(s, c, 1u << (from - 1))) return 8;
+    raise(b, m->first);
     put_unagreed(b, m->records[0], m->pn);
     b->state = UPDATING;
     send(s, c, 1u << (from - 1), ACCEPT, b->pn, b->last, 0, 0, 0);
@@ -307,6 +345,7 @@ u32 step(struct site *s, u32 call, u32 c, u32 x, u32 y) {
     case DELIVER:
         if (x < 1 || x > s->n || x == c) return 2;
         return deliver(s, c, x);
+    case TRIM: return trim(s, c, b, x);
     case OFFER:
         if (!x || !y) return 10;
     }
@@ -326,5 +365,5 @@ u32 holds(const struct site *s, u32 c, u32 k, u32 left, u32 right) {
     if (c < 1 || c > s->n) return 2;
     const struct camera *b = &s->boxes[c - 1];
     u64 r = (u64)left << 32 | right;
-    return k >= 1 && k <= b->last && b->records[k - 1] == r ? DONE : 14;
+    return k >= b->first && k <= b->last && b->records[k - b->first] == r ? DONE : 14;
 }

@@ -69,6 +69,14 @@ static void do_life(const struct engine *e) {
     election(e);
     for (u32 k = 1; k <= 4; k++) load(e, k);
 }
+/* Each engine's first kept load, in a book of 64 that holds 32: 32 loads more, and the oldest 32
+   are dropped. */
+static u32 firsts[2];
+static void do_block(const struct engine *e) {
+    u32 *first = &firsts[e == &JOURNAL];
+    for (u32 k = 1; k <= 32; k++) load(e, k);
+    calls(e, TRIM, 1, *first += 32, 0);
+}
 static void do_election(const struct engine *e) {
     calls(e, TIMEOUT, 1, 0, 0);
     election(e);
@@ -137,6 +145,7 @@ static void fill_links(void) {
             for (u32 i = 0; i < link->count; i++) {
                 struct mail *m = &link->mails[i];
                 m->kind = COMMIT, m->pn = 1, m->last = m->count = site.j, m->unagreed_pn = 0;
+                m->first = 1;
                 for (u32 k = 0; k < site.j; k++) m->records[k] = site.boxes[a].records[k];
             }
         }
@@ -172,6 +181,12 @@ static void measure_growth(void) {
         begin(sites[i].n, sites[i].j, sites[i].l, sites[i].loads);
         measure(sites[i].name, &FORMED, do_election, 3 * n + 2);
     }
+    begin(3, 64, 4, 32);
+    firsts[0] = firsts[1] = 1;
+    measure("a load, 3 boxes, a book of 64 trimmed by 32", &FORMED, do_block, 32);
+    while (firsts[0] < 1000000) do_block(&FORMED);
+    while (firsts[1] < 1000000) do_block(&JOURNAL);
+    measure("the same after a million loads", &FORMED, do_block, 32);
     static const u32 mails[] = {1, 4, 16};
     static const char *writes[] = {"image write, 3 boxes, 64 loads, 1 mail a link held",
                                    "image write, 4 mails a link", "image write, 16 mails a link"};

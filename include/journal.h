@@ -6,9 +6,9 @@
  *
  * MEMORY. A site stands in two arrays of 64-bit words that the caller lends: `site`, its sizes,
  * epoch and boxes, and `links`, its mails. How many words each needs follows from the sizes: n
- * boxes (1 to 5), book of J loads (1 to 4,096), L mails on a link (1 to 16). An array is passed as
- * a pointer and its length in words; a longer one is allowed, and the words past those needed are
- * never read or written. What C must see to, since no test can: a pointer is not null, not even
+ * boxes (1 to 5), J records in a box (1 to 4,096), L mails on a link (1 to 16). An array is passed
+ * as a pointer and its length in words; a longer one is allowed, and the words past those needed
+ * are never read or written. What C must see to, since no test can: a pointer is not null, not even
  * with the length 0; words are aligned to 8 bytes; the length is no more than is there; two arrays of
  * one call do not overlap (nor do the numbers behind `to` and `length`). What the words hold is
  * tested by every call: words that are not by form are refused with 1.
@@ -38,10 +38,11 @@ enum {
     JOURNAL_EPOCH = 5,     /* stop, return or timeout at epoch 1,000,000 */
     JOURNAL_NEW_PN = 6,    /* the new proposal number would exceed 999,999,999; not within the first
                             * 9,999,999 elections of a fresh site, and its epochs allow 500,000 */
-    JOURNAL_BOOK = 7,      /* propose with a full book */
+    JOURNAL_BOOK = 7,      /* no room for the next load: it would need a record beyond J, or its
+                            * number would be above 1,000,000,000 */
     JOURNAL_LINK = 8,      /* a mail would go onto a full link */
     JOURNAL_BUFFER = 12,   /* too few words or bytes are lent */
-    JOURNAL_UNTRUE = 14,   /* a holds line that is untrue */
+    JOURNAL_UNTRUE = 14,   /* a holds line that is untrue, or of a load that is no longer kept */
     /* 9 is no longer given and stays unused: a number given back is not given anew. */
     /* A mail that was handed over. */
     JOURNAL_TAKEN = 100,
@@ -53,8 +54,8 @@ enum {
 
 /* The words of an array, as constants: for sizes within their ranges the same as the two functions
  * below. A row is one box, a place is one letter. */
-#define JOURNAL_ROW_WORDS(J) (20 + (J))
-#define JOURNAL_PLACE_WORDS(J) (5 + (J))
+#define JOURNAL_ROW_WORDS(J) (21 + (J))
+#define JOURNAL_PLACE_WORDS(J) (6 + (J))
 #define JOURNAL_SITE_WORDS(n, J) (5 + (n) * JOURNAL_ROW_WORDS(J))
 #define JOURNAL_LINKS_WORDS(n, J, L) ((n) * ((n) - 1) * (2 + (L) * JOURNAL_PLACE_WORDS(J)))
 
@@ -68,23 +69,26 @@ size_t journal_links_words(uint32_t n, uint32_t j, uint32_t l);
 uint32_t journal_fresh(uint64_t *site, size_t site_words, uint64_t *links, size_t links_words,
                        uint32_t n, uint32_t j, uint32_t l);
 
-/* The fourteen calls. Each can answer 1, 2 and 3 beside what stands with it, and 0 where it is
+/* The fifteen calls. Each can answer 1, 2 and 3 beside what stands with it, and 0 where it is
  * done. c is a box.
  *
  * elect: c alone leads; needs an odd epoch, c present, and a majority present.            4
  * recover: leader c takes the next proposal number whose last two digits are c.           6
  * collect: leader c asks the others for what they hold.                                   8
- * ready: all present have answered; c starts an unagreed record again, or leases.         8
+ * ready: all present have answered; c starts an unagreed record again, or leases.       7 8
  * offer: the frames left and right wait at leader c.                                      10
  * propose: leader c starts the waiting pair under the next load number.                   7 8
  * agree: all present have accepted; the number is agreed, and the others are told.        8
  * finish: leader c is active again.                                                       8
+ * trim: box c, which need not lead, drops its agreed loads below k; the room is used
+ *       again. (3: c absent, an odd epoch, k not above the first load that it keeps or
+ *       above its last agreed one)
  * stop, return: box c is switched off, comes back. Nothing stored is lost.                5
  * timeout: box c misses its leader; an election is due.                                   5
  * lose: the head of the link from a to b is dropped, in any epoch.
  * repeat: the head of the link from a to b stands twice, the copy right behind it, in any
  *         epoch: what a radio bridge does that hands a mail over again. (3: no mail)      8
- * deliver: the head of the link from a to b is handed to b.         6 8 100 101 102 103 104
+ * deliver: the head of the link from a to b is handed to b.       6 7 8 100 101 102 103 104
  *          (not 0) A refused mail stays at the head. */
 uint32_t journal_elect(uint64_t *site, size_t site_words, uint64_t *links, size_t links_words,
                        uint32_t c);
@@ -102,6 +106,8 @@ uint32_t journal_agree(uint64_t *site, size_t site_words, uint64_t *links, size_
                        uint32_t c);
 uint32_t journal_finish(uint64_t *site, size_t site_words, uint64_t *links, size_t links_words,
                         uint32_t c);
+uint32_t journal_trim(uint64_t *site, size_t site_words, uint64_t *links, size_t links_words,
+                      uint32_t c, uint32_t k);
 uint32_t journal_stop(uint64_t *site, size_t site_words, uint64_t *links, size_t links_words,
                       uint32_t c);
 uint32_t journal_return(uint64_t *site, size_t site_words, uint64_t *links, size_t links_words,
@@ -115,8 +121,8 @@ uint32_t journal_repeat(uint64_t *site, size_t site_words, uint64_t *links, size
 uint32_t journal_deliver(uint64_t *site, size_t site_words, uint64_t *links, size_t links_words,
                          uint32_t a, uint32_t b);
 
-/* Is load k agreed at box c with these frames? 0 where it is; 14 where it is not, a k of 0 or above
- * the last agreed number and a frame of 0 among it; 1, 2. */
+/* Is load k agreed at box c with these frames? 0 where it is; 14 where it is not, a k that is below
+ * the first kept number or above the last agreed one and a frame of 0 among it; 1, 2. */
 uint32_t journal_holds(const uint64_t *site, size_t site_words, const uint64_t *links,
                        size_t links_words, uint32_t c, uint32_t k, uint32_t left, uint32_t right);
 
@@ -129,12 +135,12 @@ uint32_t journal_holds(const uint64_t *site, size_t site_words, const uint64_t *
  * letter in `out` is for, or 0, and then `out` is as it was; where the mail is discarded *to is 0;
  * where the call is refused *to stays too.
  *
- * A fresh box is a row of 0, but 4,294,967,295 in its words 14 to 18 (the peers' lasts are
- * unknown). An election, who is present and the links are the caller's part: when box c is elected,
- * in every row word 0 becomes 1 at c and 0 elsewhere, words 1, 2, 12 and 13 become 0 (word 1
- * becomes 1 where exactly one box is present).
+ * A fresh box is a row of 0, but 1 in its word 5 (the first load that it keeps) and 4,294,967,295
+ * in its words 15 to 19 (the peers' lasts are unknown). An election, who is present and the links
+ * are the caller's part: when box c is elected, in every row word 0 becomes 1 at c and 0 elsewhere,
+ * words 1, 2, 13 and 14 become 0 (word 1 becomes 1 where exactly one box is present).
  *
- * Answers 0, 13, 1, 2, 10, 3, 6, 7, 12; mail 100 to 104, 13, 1, 2, 3, 6, 12. */
+ * Answers 0, 13, 1, 2, 10, 3, 6, 7, 12; mail 100 to 104, 13, 1, 2, 3, 6, 7, 12. */
 uint32_t journal_own_recover(uint64_t *row, size_t row_words, uint64_t *out, size_t out_words,
                              uint32_t *to, uint32_t n, uint32_t j, uint32_t l, uint32_t epoch,
                              uint32_t present, uint32_t me);
@@ -156,6 +162,9 @@ uint32_t journal_own_agree(uint64_t *row, size_t row_words, uint64_t *out, size_
 uint32_t journal_own_finish(uint64_t *row, size_t row_words, uint64_t *out, size_t out_words,
                             uint32_t *to, uint32_t n, uint32_t j, uint32_t l, uint32_t epoch,
                             uint32_t present, uint32_t me);
+uint32_t journal_own_trim(uint64_t *row, size_t row_words, uint64_t *out, size_t out_words,
+                          uint32_t *to, uint32_t n, uint32_t j, uint32_t l, uint32_t epoch,
+                          uint32_t present, uint32_t me, uint32_t k);
 uint32_t journal_own_mail(uint64_t *row, size_t row_words, const uint64_t *letter,
                           size_t letter_words, uint64_t *out, size_t out_words, uint32_t *to,
                           uint32_t n, uint32_t j, uint32_t l, uint32_t epoch, uint32_t present,
@@ -172,8 +181,8 @@ uint32_t journal_own_mail(uint64_t *row, size_t row_words, const uint64_t *lette
  * table of contents, the general body, n boxes, n (n - 1) links. That none is longer is proved, and
  * that some site has it: with so many bytes write never answers 12, and fewer do not do for all. */
 #define JOURNAL_IMAGE_MOST(n, J, L)                                                                \
-    (4 + 8 * ((n) + 2) + 20 + (n) * (72 + 4 * (n) + 8 * (J)) +                                     \
-     (n) * ((n) - 1) * (4 + (L) * (20 + 8 * (J))))
+    (4 + 8 * ((n) + 2) + 20 + (n) * (76 + 4 * (n) + 8 * (J)) +                                     \
+     (n) * ((n) - 1) * (4 + (L) * (24 + 8 * (J))))
 
 uint32_t journal_image_length(const uint64_t *site, size_t site_words, const uint64_t *links,
                               size_t links_words, size_t *length);

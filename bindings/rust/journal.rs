@@ -122,6 +122,7 @@ mod c {
         pub fn journal_propose(s: *mut u64, sn: usize, l: *mut u64, ln: usize, c: u32) -> u32;
         pub fn journal_agree(s: *mut u64, sn: usize, l: *mut u64, ln: usize, c: u32) -> u32;
         pub fn journal_finish(s: *mut u64, sn: usize, l: *mut u64, ln: usize, c: u32) -> u32;
+        pub fn journal_trim(s: *mut u64, sn: usize, l: *mut u64, ln: usize, c: u32, k: u32) -> u32;
         pub fn journal_stop(s: *mut u64, sn: usize, l: *mut u64, ln: usize, c: u32) -> u32;
         pub fn journal_return(s: *mut u64, sn: usize, l: *mut u64, ln: usize, c: u32) -> u32;
         pub fn journal_timeout(s: *mut u64, sn: usize, l: *mut u64, ln: usize, c: u32) -> u32;
@@ -269,6 +270,20 @@ mod c {
             present: u32,
             me: u32,
         ) -> u32;
+        pub fn journal_own_trim(
+            row: *mut u64,
+            rn: usize,
+            out: *mut u64,
+            on: usize,
+            to: *mut u32,
+            n: u32,
+            j: u32,
+            l: u32,
+            epoch: u32,
+            present: u32,
+            me: u32,
+            k: u32,
+        ) -> u32;
         pub fn journal_own_mail(
             row: *mut u64,
             rn: usize,
@@ -288,7 +303,7 @@ mod c {
     }
 }
 
-/// How many boxes, loads in the book, and mails on a link.
+/// How many boxes, records in a box, and mails on a link.
 #[derive(Clone, Copy, Debug, PartialEq, Eq)]
 pub struct Sizes {
     pub boxes: u32,
@@ -318,8 +333,8 @@ impl Sizes {
             self.loads as usize,
             self.mails as usize,
         );
-        let links = n * (n - 1) * (4 + l * (20 + 8 * j));
-        Some(4 + 8 * (n + 2) + 20 + n * (72 + 4 * n + 8 * j) + links)
+        let links = n * (n - 1) * (4 + l * (24 + 8 * j));
+        Some(4 + 8 * (n + 2) + 20 + n * (76 + 4 * n + 8 * j) + links)
     }
 }
 
@@ -366,6 +381,8 @@ calls! {
     agree = journal_agree(c) -> (), done;
     /// Leader c is active again.
     finish = journal_finish(c) -> (), done;
+    /// Box c drops its agreed loads below k.
+    trim = journal_trim(c, k) -> (), done;
     /// Box c is switched off.
     stop = journal_stop(c) -> (), done;
     /// Box c comes back. (`return` is a word of Rust.)
@@ -403,7 +420,7 @@ impl<'a> Site<'a> {
         Site { site, links }
     }
 
-    /// Load k is agreed at box c with these frames. `Err(Untrue)` where it is not.
+    /// Load k is agreed at box c with these frames, and kept. `Err(Untrue)` where it is not.
     pub fn holds(&self, c: u32, k: u32, left: u32, right: u32) -> Result<(), Refusal> {
         // SAFETY: two slices, each with its own length, that are only read.
         done(unsafe {
@@ -482,7 +499,7 @@ pub struct Setting {
     pub me: u32,
 }
 
-/// A step that a leader takes by itself.
+/// A step that a box takes by itself: a leader, and for `Trim` any.
 #[derive(Clone, Copy, Debug, PartialEq, Eq)]
 pub enum Act {
     Recover,
@@ -492,6 +509,7 @@ pub enum Act {
     Propose,
     Agree,
     Finish,
+    Trim(u32),
 }
 
 /// A box by itself: a step. The set that the letter in `out` goes to, 0 where there is none.
@@ -521,6 +539,7 @@ pub fn own_act(row: &mut [u64], out: &mut [u64], s: Setting, act: Act) -> Result
             Act::Propose => c::journal_own_propose(r, rn, o, on, to, n, j, l, epoch, present, me),
             Act::Agree => c::journal_own_agree(r, rn, o, on, to, n, j, l, epoch, present, me),
             Act::Finish => c::journal_own_finish(r, rn, o, on, to, n, j, l, epoch, present, me),
+            Act::Trim(k) => c::journal_own_trim(r, rn, o, on, to, n, j, l, epoch, present, me, k),
         }
     })?;
     Ok(set)

@@ -8,7 +8,7 @@ fn main() {
         loads: 16,
         mails: 8,
     };
-    assert_eq!(z.words(), Some((77, 340)));
+    assert_eq!(z.words(), Some((79, 356)));
     assert_eq!(
         Sizes {
             boxes: 1,
@@ -16,7 +16,7 @@ fn main() {
             mails: 16
         }
         .words(),
-        Some((4121, 0))
+        Some((4122, 0))
     );
     assert_eq!(Sizes { boxes: 6, ..z }.words(), None);
     let largest = Sizes {
@@ -24,10 +24,10 @@ fn main() {
         loads: 4096,
         mails: 16,
     };
-    assert_eq!(z.image_most(), Some(2848));
-    assert_eq!(largest.image_most(), Some(10_656_620));
+    assert_eq!(z.image_most(), Some(2920));
+    assert_eq!(largest.image_most(), Some(10_657_920));
     assert_eq!(Sizes { loads: 0, ..z }.image_most(), None);
-    let (mut site, mut links) = (vec![0u64; 77], vec![0u64; 340]);
+    let (mut site, mut links) = (vec![0u64; 79], vec![0u64; 356]);
     assert_eq!(Site::of(&mut site, &mut links).elect(1), Err(Refusal::Form));
     assert_eq!(Site::of(&mut [], &mut []).elect(1), Err(Refusal::Form));
     assert_eq!(
@@ -71,6 +71,8 @@ fn main() {
     assert_eq!(s.elect(1), Err(Refusal::Majority));
     s.come_back(2).unwrap();
     s.holds(1, 1, 71, 72).unwrap();
+    assert_eq!(s.trim(3, 2), Err(Refusal::Box));
+    assert_eq!(s.trim(1, 2), Err(Refusal::Condition));
     drop(s);
     assert_eq!(Site::of(&mut site, &mut links).holds(1, 1, 71, 72), Ok(()));
 
@@ -80,7 +82,7 @@ fn main() {
     assert_eq!(s.write(&mut image[..length - 1]), Err(Refusal::Buffer));
     assert_eq!(s.write(&mut image), Ok(length));
     assert_eq!(image[length], 7);
-    let (mut site, mut links) = (vec![0u64; 77], vec![0u64; 340]);
+    let (mut site, mut links) = (vec![0u64; 79], vec![0u64; 356]);
     assert_eq!(
         Site::read(&image, &mut site, &mut links).err(),
         Some(Refusal::Form)
@@ -95,12 +97,13 @@ fn main() {
     assert_eq!(s.write(&mut again), Ok(length));
     assert_eq!(again, image[..length]);
 
-    let mut row = [0u64; 24];
-    row[14..19].fill(4294967295);
+    let mut row = [0u64; 25];
+    row[5] = 1;
+    row[15..20].fill(4294967295);
     row[0] = 1;
     let mut peer = row;
     peer[0] = 0;
-    let (mut letter, mut out) = ([0u64; 9], [0u64; 9]);
+    let (mut letter, mut out) = ([0u64; 10], [0u64; 10]);
     let own = Setting {
         sizes: Sizes {
             boxes: 2,
@@ -151,6 +154,22 @@ fn main() {
         own_act(&mut row, &mut out, own, Act::Finish),
         Err(Refusal::Condition)
     );
+    for act in [Act::Offer(9, 10), Act::Propose] {
+        own_act(&mut row, &mut out, own, act).unwrap();
+    }
+    letter.copy_from_slice(&out);
+    assert_eq!(
+        own_mail(&mut peer, &letter, &mut out, other, 1),
+        Ok((Mail::Discarded(Cause::Place), 0))
+    );
+    row[4] = 2; // load 2 counts as agreed
+    assert_eq!(
+        own_act(&mut row, &mut out, own, Act::Trim(3)),
+        Err(Refusal::Condition)
+    );
+    assert_eq!(own_act(&mut row, &mut out, own, Act::Trim(2)), Ok(0));
+    assert_eq!(row[4..6], [2, 2]);
+    assert_eq!(row[20..22], [1, 9 << 32 | 10]);
     assert_eq!(Refusal::Condition.to_string(), "refused 3");
     println!("Rust: the binding's test passes");
 }

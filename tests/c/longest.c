@@ -6,8 +6,8 @@
 #include <string.h>
 
 /* Proved: longest-of-all and longest-of-traces, crates/image/proofs/LongestLaws.antt. */
-_Static_assert(JOURNAL_IMAGE_MOST(5, 4096, 16) == 10656620, "the longest image of all");
-_Static_assert(JOURNAL_IMAGE_MOST(5, 32, 8) == 46060, "the longest image of a trace's site");
+_Static_assert(JOURNAL_IMAGE_MOST(5, 4096, 16) == 10657920, "the longest image of all");
+_Static_assert(JOURNAL_IMAGE_MOST(5, 32, 8) == 46720, "the longest image of a trace's site");
 
 static int checks, failures;
 static uint32_t n, j, l;
@@ -25,17 +25,17 @@ static void book(uint64_t *records) {
 }
 
 static void fill_box(uint64_t *row) {
-    row[4] = row[19] = j; /* last, and how many are held */
-    book(row + 20);
+    row[4] = row[20] = j; /* last, and how many are held */
+    book(row + 21);
 }
 
 static void fill_link(uint64_t *link) {
     link[1] = l;
     for (uint32_t i = 0; i < l; i++) {
         uint64_t *place = link + 2 + (size_t)i * JOURNAL_PLACE_WORDS(j);
-        uint64_t commit[] = {5, 100, j, 0, j};
+        uint64_t commit[] = {5, 100, j, 1, 0, j};
         memcpy(place, commit, sizeof commit);
-        book(place + 5);
+        book(place + 6);
     }
 }
 

@@ -140,16 +140,17 @@ static void short_arrays(void) {
     SITE(JOURNAL_FORM, journal_elect(ON, 1)); /* words of 0 are no site */
     SITE(JOURNAL_DONE, journal_fresh(ON, 3, 4, 2));
     for (int i = 0; i < 4; i++) {
-        site.lent = i == 0 ? 76 : i == 2 ? 0 : 77;
-        links.lent = i == 1 ? 119 : i == 3 ? 0 : 120;
+        site.lent = i == 0 ? 79 : i == 2 ? 0 : 80;
+        links.lent = i == 1 ? 131 : i == 3 ? 0 : 132;
         SITE(JOURNAL_BUFFER, journal_fresh(ON, 3, 4, 2));
         SITE(JOURNAL_SIZES, journal_fresh(ON, 3, 4, 17));
         SITE(JOURNAL_FORM, journal_elect(ON, 9));
         SITE(JOURNAL_FORM, journal_deliver(ON, 1, 1));
         SITE(JOURNAL_FORM, journal_repeat(ON, 1, 1));
+        SITE(JOURNAL_FORM, journal_trim(ON, 9, 0));
         SITE(JOURNAL_FORM, journal_holds(ON, 9, 0, 0, 0));
     }
-    site.lent = 77, links.lent = 120;
+    site.lent = 80, links.lent = 132;
     SITE(JOURNAL_DONE, journal_elect(ON, 1));
     release_site();
 }
@@ -169,6 +170,7 @@ static void box_numbers(void) {
         SITE(JOURNAL_BOX, journal_propose(ON, c));
         SITE(JOURNAL_BOX, journal_agree(ON, c));
         SITE(JOURNAL_BOX, journal_finish(ON, c));
+        SITE(JOURNAL_BOX, journal_trim(ON, c, 2));
         SITE(JOURNAL_BOX, journal_stop(ON, c));
         SITE(JOURNAL_BOX, journal_return(ON, c));
         SITE(JOURNAL_BOX, journal_timeout(ON, c));
@@ -228,6 +230,7 @@ static void each_call(void) {
     SITE(JOURNAL_CONDITION, journal_deliver(ON, 1, 2));
     SITE(JOURNAL_DONE, journal_offer(ON, 1, 73, 74));
     SITE(JOURNAL_BOOK, journal_propose(ON, 1));
+    SITE(JOURNAL_CONDITION, journal_trim(ON, 1, 2)); /* with J = 1 no book goes past number 1 */
     SITE(JOURNAL_CONDITION, journal_return(ON, 2));
     SITE(JOURNAL_DONE, journal_stop(ON, 2));
     SITE(JOURNAL_CONDITION, journal_stop(ON, 2));
@@ -240,12 +243,12 @@ static void each_call(void) {
     site.words[3] = 1000000;
     SITE(JOURNAL_EPOCH, journal_timeout(ON, 1));
     SITE(JOURNAL_EPOCH, journal_stop(ON, 1));
-    site.words[5 + 21 + 3] = 999999902; /* the promise of box 2, who leads */
+    site.words[5 + 22 + 3] = 999999902; /* the promise of box 2, who leads */
     SITE(JOURNAL_NEW_PN, journal_recover(ON, 2));
-    site.words[5 + 21 + 3] = 999999901;
+    site.words[5 + 22 + 3] = 999999901;
     SITE(JOURNAL_DONE, journal_recover(ON, 2));
-    WORD(site, 5 + 21 + 3, 999999902);
-    site.words[5 + 21 + 1] = UINT64_MAX; /* its state */
+    WORD(site, 5 + 22 + 3, 999999902);
+    site.words[5 + 22 + 1] = UINT64_MAX; /* its state */
     SITE(JOURNAL_FORM, journal_recover(ON, 2));
     release_site();
 }
@@ -254,7 +257,7 @@ static void each_call(void) {
 static void twice(int line) {
     const uint64_t *place = links.words + 2;
     check(line, "mails", links.words[1], 2);
-    check(line, "a copy", memcmp(place, place + JOURNAL_PLACE_WORDS(1), sizeof(uint64_t[5])), 0);
+    check(line, "a copy", memcmp(place, place + JOURNAL_PLACE_WORDS(1), sizeof(uint64_t[6])), 0);
 }
 
 /* A mail stands twice, in either parity; a box that is heard twice does not stand for two. */
@@ -265,7 +268,7 @@ static void repeats(void) {
     SITE(JOURNAL_DONE, journal_elect(ON, 1));
     SITE(JOURNAL_DONE, journal_recover(ON, 1));
     SITE(JOURNAL_DONE, journal_collect(ON, 1));
-    WORD(site, 5 + 9, 1);
+    WORD(site, 5 + 10, 1);
     SITE(JOURNAL_CONDITION, journal_repeat(ON, 2, 1));
     SITE(JOURNAL_DONE, journal_repeat(ON, 1, 2));
     twice(__LINE__);
@@ -274,28 +277,154 @@ static void repeats(void) {
     SITE(JOURNAL_TAKEN, journal_deliver(ON, 1, 2));
     SITE(JOURNAL_TAKEN, journal_deliver(ON, 2, 1));
     SITE(JOURNAL_TAKEN, journal_deliver(ON, 2, 1));
-    WORD(site, 5 + 9, 3);
+    WORD(site, 5 + 10, 3);
     SITE(JOURNAL_CONDITION, journal_ready(ON, 1));
     SITE(JOURNAL_TAKEN, journal_deliver(ON, 1, 3));
     SITE(JOURNAL_DONE, journal_repeat(ON, 3, 1));
     SITE(JOURNAL_TAKEN, journal_deliver(ON, 3, 1));
-    WORD(site, 5 + 9, 7);
+    WORD(site, 5 + 10, 7);
     SITE(JOURNAL_TAKEN, journal_deliver(ON, 3, 1)); /* all have answered: taken all the same */
-    WORD(site, 5 + 9, 7);
+    WORD(site, 5 + 10, 7);
     SITE(JOURNAL_DONE, journal_ready(ON, 1));
     SITE(JOURNAL_DONE, journal_timeout(ON, 1));
     SITE(JOURNAL_DONE, journal_repeat(ON, 1, 2));
     twice(__LINE__);
-    site.words[5 + 9] = 8; /* box 4 has answered, and there are three */
+    site.words[5 + 10] = 8; /* box 4 has answered, and there are three */
     SITE(JOURNAL_FORM, journal_repeat(ON, 1, 3));
-    site.words[5 + 9] = 0;
+    site.words[5 + 10] = 0;
     SITE(JOURNAL_DONE, journal_repeat(ON, 1, 3));
+    release_site();
+}
+
+/* Box 1 of two leads, is active, and agrees on one load more; box 2 is told. */
+static void load(uint32_t left, uint32_t right) {
+    SITE(JOURNAL_DONE, journal_offer(ON, 1, left, right));
+    SITE(JOURNAL_DONE, journal_propose(ON, 1));
+    SITE(JOURNAL_TAKEN, journal_deliver(ON, 1, 2));
+    SITE(JOURNAL_TAKEN, journal_deliver(ON, 2, 1));
+    SITE(JOURNAL_DONE, journal_agree(ON, 1));
+    SITE(JOURNAL_TAKEN, journal_deliver(ON, 1, 2));
+    SITE(JOURNAL_DONE, journal_finish(ON, 1));
+    SITE(JOURNAL_TAKEN, journal_deliver(ON, 1, 2));
+}
+
+/* Box c keeps the loads first to last, and `more` behind them; J is 2. */
+static void put_kept(uint32_t c, uint64_t first, uint64_t last, uint64_t more) {
+    uint64_t *r = site.words + 5 + (c - 1) * JOURNAL_ROW_WORDS(2);
+    r[4] = last, r[5] = first, r[20] = last + 1 - first + more;
+    for (uint64_t i = 0; i < 2; i++) r[21 + i] = (first + i) << 32 | 7;
+}
+
+/* What box c keeps: its last and first, how many records, and the frames of the first of them. */
+static void kept(int line, uint32_t c, uint64_t last, uint64_t first, uint64_t count, uint64_t r) {
+    const uint64_t *b = site.words + 5 + (c - 1) * JOURNAL_ROW_WORDS(2);
+    check(line, "last", b[4], last);
+    check(line, "first", b[5], first);
+    check(line, "count", b[20], count);
+    check(line, "the first record", b[21], r);
+}
+
+/* A mail with a first: the head of link 1 to 2, the only one there; J is 2 and L is 4. */
+static void post_kept(uint64_t kind, uint64_t pn, uint64_t last, uint64_t first, uint64_t count) {
+    uint64_t r = first << 32 | 7, next = (first + 1) << 32 | 7;
+    uint64_t mail[] = {0, 1, kind, pn, last, first, 0, count, r, next};
+    memcpy(links.words, mail, sizeof mail);
+}
+
+/* Old loads are dropped, and their room is used again. */
+static void trims(void) {
+    enum { TOP = 1000000000 };
+    lend_site(2, 2, 4);
+    SITE(JOURNAL_DONE, journal_fresh(ON, 2, 2, 4));
+    WORD(site, 5 + 5, 1);
+    SITE(JOURNAL_DONE, journal_elect(ON, 1));
+    SITE(JOURNAL_DONE, journal_recover(ON, 1));
+    SITE(JOURNAL_DONE, journal_collect(ON, 1));
+    SITE(JOURNAL_TAKEN, journal_deliver(ON, 1, 2));
+    SITE(JOURNAL_TAKEN, journal_deliver(ON, 2, 1));
+    SITE(JOURNAL_DONE, journal_ready(ON, 1));
+    SITE(JOURNAL_TAKEN, journal_deliver(ON, 1, 2));
+    SITE(JOURNAL_CONDITION, journal_trim(ON, 1, 1));
+    load(71, 72), load(73, 74);
+    SITE(JOURNAL_DONE, journal_offer(ON, 1, 75, 76));
+    SITE(JOURNAL_BOOK, journal_propose(ON, 1));
+    static const uint32_t bad[] = {0, 1, 3, UINT32_MAX};
+    for (int i = 0; i < 4; i++) SITE(JOURNAL_CONDITION, journal_trim(ON, 2, bad[i]));
+    SITE(JOURNAL_DONE, journal_trim(ON, 2, 2)); /* it need not lead */
+    kept(__LINE__, 2, 2, 2, 1, 73ul << 32 | 74);
+    SITE(JOURNAL_CONDITION, journal_trim(ON, 2, 2));
+    SITE(JOURNAL_UNTRUE, journal_holds(ON, 2, 1, 71, 72));
+    SITE(JOURNAL_DONE, journal_holds(ON, 2, 2, 73, 74));
+    SITE(JOURNAL_DONE, journal_holds(ON, 1, 1, 71, 72));
+    SITE(JOURNAL_BOOK, journal_propose(ON, 1)); /* the leader's own book is full still */
+    SITE(JOURNAL_DONE, journal_trim(ON, 1, 2));
+    SITE(JOURNAL_DONE, journal_propose(ON, 1));
+    kept(__LINE__, 1, 2, 2, 2, 73ul << 32 | 74);
+    SITE(JOURNAL_TAKEN, journal_deliver(ON, 1, 2));
+    SITE(JOURNAL_TAKEN, journal_deliver(ON, 2, 1));
+    SITE(JOURNAL_DONE, journal_agree(ON, 1));
+    SITE(JOURNAL_TAKEN, journal_deliver(ON, 1, 2));
+    SITE(JOURNAL_DONE, journal_finish(ON, 1));
+    SITE(JOURNAL_TAKEN, journal_deliver(ON, 1, 2));
+    SITE(JOURNAL_DONE, journal_holds(ON, 2, 3, 75, 76));
+    /* Box 2 keeps 2 and 3: there is room for a Begin only where its first raises that of box 2. */
+    post_kept(3, 1, 3, 2, 1);
+    SITE(JOURNAL_BOOK, journal_deliver(ON, 1, 2));
+    post_kept(3, 1, 3, 3, 1);
+    SITE(JOURNAL_TAKEN, journal_deliver(ON, 1, 2));
+    kept(__LINE__, 2, 3, 3, 2, 75ul << 32 | 76);
+    SITE(JOURNAL_DONE, journal_lose(ON, 2, 1));
+    /* Commits: one that goes on from there, one whose first lies beyond last+1, one that raises
+     * first alone, one behind. */
+    post_kept(5, 1, 4, 3, 2);
+    SITE(JOURNAL_TAKEN, journal_deliver(ON, 1, 2));
+    kept(__LINE__, 2, 4, 3, 2, 75ul << 32 | 76);
+    SITE(JOURNAL_DONE, journal_holds(ON, 2, 4, 4, 7));
+    post_kept(5, 1, 9, 8, 2);
+    SITE(JOURNAL_TAKEN, journal_deliver(ON, 1, 2));
+    kept(__LINE__, 2, 9, 8, 2, 8ul << 32 | 7);
+    post_kept(5, 1, 9, 9, 1);
+    SITE(JOURNAL_TAKEN, journal_deliver(ON, 1, 2));
+    kept(__LINE__, 2, 9, 9, 1, 9ul << 32 | 7);
+    post_kept(5, 1, 6, 5, 2);
+    SITE(JOURNAL_TAKEN, journal_deliver(ON, 1, 2));
+    kept(__LINE__, 2, 9, 9, 1, 9ul << 32 | 7);
+    /* first is by form 1 or at most last, in a box and in a mail; where none belongs it is 0. */
+    post_kept(5, 1, 4, 5, 0);
+    SITE(JOURNAL_FORM, journal_deliver(ON, 1, 2));
+    post_kept(5, 1, 4, 0, 2);
+    SITE(JOURNAL_FORM, journal_deliver(ON, 1, 2));
+    post_kept(1, 1, 4, 1, 0);
+    SITE(JOURNAL_FORM, journal_deliver(ON, 1, 2));
+    links.words[1] = 0;
+    /* The last number of all. */
+    SITE(JOURNAL_DONE, journal_offer(ON, 1, 77, 78));
+    put_kept(1, TOP, TOP, 0);
+    SITE(JOURNAL_BOOK, journal_propose(ON, 1));
+    put_kept(1, TOP, TOP, 1);
+    SITE(JOURNAL_FORM, journal_propose(ON, 1));
+    put_kept(1, TOP + 1, TOP + 1, 0);
+    SITE(JOURNAL_FORM, journal_propose(ON, 1));
+    put_kept(1, TOP, TOP - 1, 0);
+    SITE(JOURNAL_FORM, journal_propose(ON, 1));
+    put_kept(1, TOP - 1, TOP - 1, 0);
+    SITE(JOURNAL_DONE, journal_propose(ON, 1));
+    put_kept(1, TOP - 1, TOP, 0);
+    SITE(JOURNAL_DONE, journal_trim(ON, 1, TOP));
+    SITE(JOURNAL_DONE, journal_timeout(ON, 1));
+    put_kept(1, 1, 2, 0);
+    SITE(JOURNAL_CONDITION, journal_trim(ON, 1, 2)); /* an odd epoch */
+    SITE(JOURNAL_DONE, journal_elect(ON, 1));
+    SITE(JOURNAL_DONE, journal_trim(ON, 1, 2));
+    site.words[4] = 1, put_kept(2, 1, 2, 0); /* box 2 is absent */
+    SITE(JOURNAL_CONDITION, journal_trim(ON, 2, 2));
     release_site();
 }
 
 /* Mails of a foreign site: the four causes. Link 1 to 2 of a site of two boxes stands first. */
 static void post(uint64_t kind, uint64_t pn, uint64_t last, uint64_t count) {
-    uint64_t mail[] = {0, 1, kind, pn, last, 0, count, 0x700000008u};
+    uint64_t first = kind == 2 || kind == 3 || kind == 5;
+    uint64_t mail[] = {0, 1, kind, pn, last, first, 0, count, 0x700000008u};
     memcpy(links.words, mail, sizeof mail);
 }
 
@@ -308,8 +437,8 @@ static void mails(void) {
     WORD(links, 1, 0);
     post(2, 101, 0, 0);
     DISCARD(JOURNAL_DISCARDED_PHASE, 1, 2);
-    site.words[5 + 21 + 0] = 0; /* box 2 does not lead, and has promised 203 */
-    site.words[5 + 21 + 3] = 203;
+    site.words[5 + 22 + 0] = 0; /* box 2 does not lead, and has promised 203 */
+    site.words[5 + 22 + 3] = 203;
     post(3, 202, 0, 1);
     DISCARD(JOURNAL_DISCARDED_NUMBER, 1, 2);
     post(6, 0, 1, 0);
@@ -323,12 +452,12 @@ static void mails(void) {
     SITE(JOURNAL_FORM, journal_deliver(ON, 1, 2));
     links.words[1] = 0;
     /* Link 2 to 1 is full, and its head stands in the last place: the next is the first. */
-    uint64_t full[] = {1, 2, 6, 0, 1, 0, 0, 0, 6, 0, 1, 0, 0, 0};
+    uint64_t full[] = {1, 2, 6, 0, 1, 0, 0, 0, 0, 6, 0, 1, 0, 0, 0, 0};
     memcpy(links.words + 2 + 2 * JOURNAL_PLACE_WORDS(1), full, sizeof full);
     DISCARD(JOURNAL_DISCARDED_PLACE, 2, 1);
-    WORD(links, 14, 0), WORD(links, 15, 1);
+    WORD(links, 16, 0), WORD(links, 17, 1);
     DISCARD(JOURNAL_DISCARDED_PLACE, 2, 1);
-    WORD(links, 14, 1), WORD(links, 15, 0);
+    WORD(links, 16, 1), WORD(links, 17, 0);
     release_site();
 }
 
@@ -341,7 +470,8 @@ static void own_boxes(void) {
     out = lend(JOURNAL_PLACE_WORDS(J));
     to = 77;
     uint64_t fresh_row[JOURNAL_ROW_WORDS(J)] = {0}, rows[2][JOURNAL_ROW_WORDS(J)];
-    for (int i = 14; i < 19; i++) fresh_row[i] = UINT32_MAX;
+    fresh_row[5] = 1;
+    for (int i = 15; i < 20; i++) fresh_row[i] = UINT32_MAX;
     memcpy(rows[0], fresh_row, sizeof fresh_row);
     memcpy(rows[1], fresh_row, sizeof fresh_row);
     rows[0][0] = 1; /* box 1 is elected */
@@ -384,12 +514,12 @@ static void own_boxes(void) {
     PUT(2), CARRY(), BOX(1);
     OWN(JOURNAL_TAKEN, 0, journal_own_mail(MAIL, TOLD, 1, 2));
     OWN(JOURNAL_TAKEN, 0, journal_own_mail(MAIL, TOLD, 1, 2)); /* heard again: taken again */
-    WORD(row, 9, BOTH);
+    WORD(row, 10, BOTH);
     OWN(JOURNAL_DONE, 2, journal_own_ready(ROW, TOLD, 1));
     OWN(JOURNAL_FRAME, 0, journal_own_offer(ROW, TOLD, 1, 7, 0));
     OWN(JOURNAL_DONE, 0, journal_own_offer(ROW, TOLD, 1, 7, 8));
     OWN(JOURNAL_DONE, 2, journal_own_propose(ROW, TOLD, 1));
-    WORD(out, 0, 3), WORD(out, 5, 0x700000008u);
+    WORD(out, 0, 3), WORD(out, 3, 1), WORD(out, 6, 0x700000008u);
     PUT(1), CARRY(), BOX(2);
     OWN(JOURNAL_TAKEN, 1, journal_own_mail(MAIL, TOLD, 2, 1));
     PUT(2), CARRY(), BOX(1);
@@ -398,10 +528,10 @@ static void own_boxes(void) {
     OWN(JOURNAL_DONE, 2, journal_own_agree(ROW, TOLD, 1));
     PUT(1), CARRY(), BOX(2);
     OWN(JOURNAL_TAKEN, 0, journal_own_mail(MAIL, TOLD, 2, 1));
-    WORD(row, 4, 1), WORD(row, 20, 0x700000008u);
+    WORD(row, 4, 1), WORD(row, 21, 0x700000008u);
     BOX(1);
-    uint64_t last[] = {2, 1, 0, 0, 0}, above[] = {3, 2, 0, 0, 1, 0x700000008u};
-    uint64_t ahead[] = {3, 1, 1, 0, 1, 0x700000008u};
+    uint64_t last[] = {2, 1, 0, 1, 0, 0}, above[] = {3, 2, 0, 1, 0, 1, 0x700000008u};
+    uint64_t ahead[] = {3, 1, 1, 1, 0, 1, 0x700000008u};
 #define POST(mail) memcpy(letter.words, mail, sizeof mail), to = 77
     to = 77;
     OWN(JOURNAL_DISCARDED_ROLE, 0, journal_own_mail(MAIL, TOLD, 1, 2));
@@ -415,21 +545,35 @@ static void own_boxes(void) {
     BOX(1);
     OWN(JOURNAL_DONE, 2, journal_own_finish(ROW, TOLD, 1));
     OWN(JOURNAL_CONDITION, 0, journal_own_finish(ROW, TOLD, 1));
+    BOX(2);
+    OWN(JOURNAL_CONDITION, 0, journal_own_trim(ROW, TOLD, 2, 1));
+    row.words[4] = row.words[20] = 3; /* loads 1 to 3 */
+    row.words[21] = 0x100000001u, row.words[22] = 0x200000002u, row.words[23] = 0x300000003u;
+    OWN(JOURNAL_SIZES, 0, journal_own_trim(ROW, 6, J, 2, EVEN, BOTH, 2, 3));
+    OWN(JOURNAL_BOX, 0, journal_own_trim(ROW, TOLD, 3, 3));
+    OWN(JOURNAL_CONDITION, 0, journal_own_trim(ROW, TOLD, 2, 1));
+    OWN(JOURNAL_CONDITION, 0, journal_own_trim(ROW, TOLD, 2, 4));
+    OWN(JOURNAL_CONDITION, 0, journal_own_trim(ROW, 2, J, 2, ODD, BOTH, 2, 3));
+    OWN(JOURNAL_CONDITION, 0, journal_own_trim(ROW, 2, J, 2, EVEN, 1, 2, 3));
+    OWN(JOURNAL_DONE, 0, journal_own_trim(ROW, TOLD, 2, 3));
+    WORD(row, 4, 3), WORD(row, 5, 3), WORD(row, 20, 1), WORD(row, 21, 0x300000003u);
+    row.words[5] = 4; /* above last */
+    OWN(JOURNAL_FORM, 0, journal_own_trim(ROW, TOLD, 2, 3));
     release(row), release(letter), release(out);
 }
 
 /* Box c has agreed on k loads, number i with the frames i and i. */
 static void put_book(uint32_t j, uint32_t c, uint64_t k) {
     uint64_t *r = site.words + 5 + (size_t)(c - 1) * JOURNAL_ROW_WORDS(j);
-    r[4] = r[19] = k;
-    for (uint64_t i = 1; i <= k; i++) r[19 + i] = i << 32 | i;
+    r[4] = r[20] = k;
+    for (uint64_t i = 1; i <= k; i++) r[20 + i] = i << 32 | i;
 }
 
 /* n = 5, J = 4,096, L = 16: four boxes have nothing, the leader has 4,095 loads. */
 static void largest(void) {
     lend_site(5, 4096, 16);
-    check(__LINE__, "site words", site.lent, 20585);
-    check(__LINE__, "links words", links.lent, 1312360);
+    check(__LINE__, "site words", site.lent, 20590);
+    check(__LINE__, "links words", links.lent, 1312680);
     SITE(JOURNAL_DONE, journal_fresh(ON, 5, 4096, 16));
     put_book(4096, 1, 4095);
     SITE(JOURNAL_DONE, journal_elect(ON, 1));
@@ -455,13 +599,19 @@ static void largest(void) {
     for (uint32_t b = 1; b <= 5; b++)
         SITE(JOURNAL_DONE, journal_holds(ON, b, 4096, UINT32_MAX, UINT32_MAX));
     SITE(JOURNAL_UNTRUE, journal_holds(ON, 5, 4097, UINT32_MAX, UINT32_MAX));
+    SITE(JOURNAL_DONE, journal_trim(ON, 4, 2));
+    SITE(JOURNAL_DONE, journal_holds(ON, 4, 2, 2, 2));
+    SITE(JOURNAL_DONE, journal_holds(ON, 4, 4096, UINT32_MAX, UINT32_MAX));
+    SITE(JOURNAL_DONE, journal_trim(ON, 5, 4096));
+    SITE(JOURNAL_UNTRUE, journal_holds(ON, 5, 4095, 4095, 4095));
+    SITE(JOURNAL_DONE, journal_holds(ON, 5, 4096, UINT32_MAX, UINT32_MAX));
     /* Sixteen mails fill a link: a lease, then Lasts that each bring a Commit. */
     SITE(JOURNAL_DONE, journal_finish(ON, 1));
     SITE(JOURNAL_DONE, journal_offer(ON, 1, 1, 1));
     SITE(JOURNAL_BOOK, journal_propose(ON, 1));
     links.words[1] = 16;
     for (uint32_t i = 0; i < 16; i++) {
-        uint64_t lease[] = {6, 0, 0, 0, 0};
+        uint64_t lease[] = {6, 0, 0, 0, 0, 0};
         memcpy(links.words + 2 + i * JOURNAL_PLACE_WORDS(4096), lease, sizeof lease);
     }
     site.words[5 + 2] = 5, site.words[5 + 1] = 4; /* phase Commit, state Refresh */
@@ -543,25 +693,25 @@ static void images(void) {
     lend_site(1, 1, 1);
     measure(__LINE__, JOURNAL_FORM, 77);
     SITE(JOURNAL_DONE, journal_fresh(ON, 1, 1, 1));
-    measure(__LINE__, JOURNAL_DONE, 124);
+    measure(__LINE__, JOURNAL_DONE, 128);
     write_image(__LINE__, JOURNAL_DONE, 1024, 1024);
     read_back(__LINE__, 1, 1, 1);
     release_site();
     lend_site(3, 4, 2);
     write_image(__LINE__, JOURNAL_FORM, 0, 1024);
     SITE(JOURNAL_DONE, journal_fresh(ON, 3, 4, 2));
-    measure(__LINE__, JOURNAL_DONE, 340);
-    write_image(__LINE__, JOURNAL_BUFFER, 339, 1024);
+    measure(__LINE__, JOURNAL_DONE, 352);
+    write_image(__LINE__, JOURNAL_BUFFER, 351, 1024);
     write_image(__LINE__, JOURNAL_BUFFER, 0, 1024);
-    write_image(__LINE__, JOURNAL_DONE, 340, 1024);
+    write_image(__LINE__, JOURNAL_DONE, 352, 1024);
     read_back(__LINE__, 3, 4, 2);
     /* Every shorter or longer piece is no image, and a changed byte gives none or another site's. */
     for (size_t k = 0; k < 400; k++)
-        if (k != 340) SITE(JOURNAL_FORM, journal_read(image, k, ON));
+        if (k != 352) SITE(JOURNAL_FORM, journal_read(image, k, ON));
     SITE(JOURNAL_DONE, journal_elect(ON, 2));
     SITE(JOURNAL_DONE, journal_recover(ON, 2));
     SITE(JOURNAL_DONE, journal_collect(ON, 2));
-    measure(__LINE__, JOURNAL_DONE, 340 + 2 * 20);
+    measure(__LINE__, JOURNAL_DONE, 352 + 2 * 20);
     write_image(__LINE__, JOURNAL_DONE, bytes, 1024);
     read_back(__LINE__, 3, 4, 2);
     int others = 0, larger = 0;
@@ -600,13 +750,13 @@ static void longest_image(void) {
         link[0] = k % 16, link[1] = 16;
         for (uint32_t i = 0; i < 16; i++) {
             uint64_t *place = link + 2 + i * JOURNAL_PLACE_WORDS(4096);
-            uint64_t commit[] = {5, 100 * k + i, 4096, 0, 4096};
+            uint64_t commit[] = {5, 100 * k + i, 4096, 1, 0, 4096};
             memcpy(place, commit, sizeof commit);
-            memcpy(place + 5, site.words + 5 + 20, 4096 * sizeof(uint64_t));
+            memcpy(place + 6, site.words + 5 + 21, 4096 * sizeof(uint64_t));
         }
     }
     measure(__LINE__, JOURNAL_DONE, JOURNAL_IMAGE_MOST(5, 4096, 16));
-    check(__LINE__, "longest image", bytes, 10656620);
+    check(__LINE__, "longest image", bytes, 10657920);
     write_image(__LINE__, JOURNAL_BUFFER, bytes - 1, bytes);
     write_image(__LINE__, JOURNAL_DONE, bytes, bytes);
     read_back(__LINE__, 5, 4096, 16);
@@ -622,6 +772,7 @@ int main(void) {
     box_numbers();
     each_call();
     repeats();
+    trims();
     mails();
     own_boxes();
     largest();

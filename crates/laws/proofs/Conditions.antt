@@ -1,24 +1,25 @@
 -- What is known where a verdict says Go: the condition of each step and of each mail that is taken.
 use Prim.Native.Nat.{ℕ, _+_, _≤_, _<_}
 use mathlib.Core.Path.{_≡_, refl}
-use mathlib.Core.Bool.{Bool, true, false, not, _&&_}
+use mathlib.Core.Bool.{Bool, true, false, not, _||_}
 use native.Mathlib.Omega.{arith}
 use lib.Count.{ones}
-use lib.Dec.{eqb, leb}
+use lib.Dec.{eqb, leb, ltb}
 use borrow.Author.Tests.{leb-true, ltb-true, not-true, not-false}
 use Rattle.rules.specs.Pick.{pick}
-use Rattle.rules.specs.Sizes.{even, mostPn}
-use Rattle.rules.specs.Sets.{includes}
+use Rattle.rules.specs.Sizes.{even, mostNumber, mostPn}
+use Rattle.rules.specs.Sets.{includes, has}
 use Rattle.rules.specs.Numbers.{stateNumber, phaseNumber, inState, inPhase}
 use Rattle.rules.specs.NewPn.{newPn}
-use Rattle.rules.specs.Parts.{isHeld}
+use Rattle.rules.specs.Parts.{isHeld, higher, roomNext}
 use Rattle.rules.specs.Turns.{firstCause, unless}
 use Rattle.rules.specs.Last.{lastVerdict}
 use Rattle.rules.specs.Mails.{beginVerdict, acceptVerdict}
 use Rattle.rules.specs.Steps.{canRecover, canCollect, canReady, hasPrevious, canOffer, canPropose}
-use Rattle.rules.specs.Steps.{canAgree, canFinish}
+use Rattle.rules.specs.Steps.{canAgree, canFinish, canTrim}
 use Rattle.laws.proofs.Types.{BoxState, Held, Mail, Phase, Refusal, Setting, State, Verdict}
-use Rattle.laws.proofs.Logic.{Or, left, right, eqb-yes, eqb-no, and-yes, or-cases}
+use Rattle.laws.proofs.Logic.{Or, left, right, both-no, eqb-yes, eqb-no, and-yes, and4}
+use Rattle.laws.proofs.Logic.{and5, and6, or-cases}
 
 -- ---- verdicts
 
@@ -53,6 +54,30 @@ pub in-state : (p q : State) → inState p q ≡ true → stateNumber p ≡ stat
 unfolding inState
 in-state p q e = eqb-yes (stateNumber p) (stateNumber q) e
 
+-- ---- room for last+1, of those from first on
+
+pub record Room (J first last : ℕ) : Type 0 where
+  pub records : last + 2 ≤ J + first
+  pub number : last < mostNumber
+
+pub room-next : (J first last : ℕ) → roomNext J first last ≡ true → Room J first last
+unfolding roomNext
+room-next J first last e =
+    let p = and-yes (leb (last + 2) (J + first)) (ltb last mostNumber) e in
+    record {
+      records = leb-true (last + 2) (J + first) (p .0);
+      number = ltb-true last mostNumber (p .1);
+    }
+
+-- .. which is asked only where h holds
+pub room-where : {h : Bool} (J first last : ℕ) → h ≡ true
+    → (not h || roomNext J first last) ≡ true → Room J first last
+room-where {h} J first last e f = go (or-cases (not h) (roomNext J first last) f)
+  where
+    go : Or (not h ≡ true) (roomNext J first last ≡ true) → Room J first last
+    go (left d) = absurd (both-no e (not-true h d))
+    go (right d) = room-next J first last d
+
 -- ---- mails
 
 pub record LastTaken (b : BoxState) (s : Setting) (m : Mail) : Type 0 where
@@ -76,17 +101,20 @@ go-last {b} {s} {m} e =
     go (left h) = left (leb-true _ _ h)
     go (right h) = right (leb-true _ _ h)
 
-pub record BeginTaken (b : BoxState) (m : Mail) : Type 0 where
+pub record BeginTaken (b : BoxState) (s : Setting) (m : Mail) : Type 0 where
   pub follows : b .leads ≡ false
   pub pn : b .kept .pn ≡ m .pn
   pub place : b .kept .last ≡ m .last
+  pub room : Room (s .j) (higher (b .kept .first) (m .first)) (b .kept .last)
 
-pub go-begin : {b : BoxState} {m : Mail} → beginVerdict b m ≡ Verdict.Go → BeginTaken b m
+pub go-begin : {b : BoxState} {s : Setting} {m : Mail} → beginVerdict b s m ≡ Verdict.Go
+    → BeginTaken b s m
 unfolding beginVerdict
-go-begin {b} {m} e = let g = go-cause _ _ _ _ _ e in record {
+go-begin {b} {s} {m} e = let g = go-cause _ _ _ _ _ e in record {
   follows = g .no-role;
   pn = eqb-yes _ _ (not-false _ (g .no-number));
   place = eqb-yes _ _ (not-false _ (g .no-place));
+  room = room-next _ _ _ (go-unless _ _ _ (g .next) .0);
 }
 
 pub record AcceptTaken (b : BoxState) (m : Mail) : Type 0 where
@@ -106,27 +134,7 @@ go-accept {b} {m} e = let g = go-cause _ _ _ _ _ e in record {
 
 -- ---- steps
 
-and3 : (a b c : Bool) → (a && b && c) ≡ true → (a ≡ true) × (b ≡ true) × (c ≡ true)
-and3 a b c e = let p = and-yes (a && b) c e in let q = and-yes a b (p .0) in (q .0, q .1, p .1)
-
-and4 : (a b c d : Bool) → (a && b && c && d) ≡ true
-    → (a ≡ true) × (b ≡ true) × (c ≡ true) × (d ≡ true)
-and4 a b c d e = let p = and-yes (a && b && c) d e in let q = and3 a b c (p .0) in
-    (q .0, q .1, q .2, p .1)
-
-and5 : (a b c d f : Bool) → (a && b && c && d && f) ≡ true
-    → (a ≡ true) × (b ≡ true) × (c ≡ true) × (d ≡ true) × (f ≡ true)
-and5 a b c d f e =
-    let p = and-yes (a && b && c && d) f e in let q = and4 a b c d (p .0) in
-    (q .0, q .1, q .2, q .3, p .1)
-
-and6 : (a b c d f g : Bool) → (a && b && c && d && f && g) ≡ true
-    → (a ≡ true) × (b ≡ true) × (c ≡ true) × (d ≡ true) × (f ≡ true) × (g ≡ true)
-and6 a b c d f g e =
-    let p = and-yes (a && b && c && d && f) g e in let q = and5 a b c d f (p .0) in
-    (q .0, q .1, q .2, q .3, q .4, p .1)
-
--- in every step the epoch is even and the box leads, in a phase and a state of these
+-- in every step but Trim the epoch is even and the box leads, in a phase and a state of these
 pub record Leading (phases states : ℕ → Type 0) (b : BoxState) (s : Setting) : Type 0 where
   pub even : even (s .epoch) ≡ true
   pub leads : b .leads ≡ true
@@ -146,6 +154,13 @@ pub record CanAgree (b : BoxState) (s : Setting) (mine : Held) : Type 0 where
   pub leading : Leading (Is 4) (Not 0) b s
   pub accepted : includes (b .accepts) (s .present) ≡ true
   pub held : isHeld mine ≡ true
+
+-- any present box, in an even epoch
+pub record CanTrim (b : BoxState) (s : Setting) (k : ℕ) : Type 0 where
+  pub even : even (s .epoch) ≡ true
+  pub here : has (s .present) (s .me) ≡ true
+  pub above : b .kept .first < k
+  pub agreed : k ≤ b .kept .last
 
 module _ {b : BoxState} {s : Setting} where
   led : {ph st : ℕ → Type 0} → even (s .epoch) ≡ true → b .leads ≡ true
@@ -203,6 +218,15 @@ module _ {b : BoxState} {s : Setting} where
   unfolding canFinish
   can-finish e = let p = and4 _ _ _ _ e in
       led (p .0) (p .1) (in-phase _ _ (p .3)) (in-state _ _ (p .2))
+
+  pub can-trim : {k : ℕ} → canTrim b s k ≡ true → CanTrim b s k
+  unfolding canTrim
+  can-trim {k} e = let p = and4 _ _ _ _ e in record {
+    even = p .0;
+    here = p .1;
+    above = ltb-true _ _ (p .2);
+    agreed = leb-true _ _ (p .3);
+  }
 
 -- Ready starts the best where it is the record of last+1
 pub has-previous : (b : BoxState) → hasPrevious b ≡ true

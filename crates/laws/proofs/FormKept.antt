@@ -22,7 +22,8 @@ use Rattle.laws.proofs.SetLaws.{set-full, set-zero}
 use Rattle.laws.proofs.FormLaws.{FormedBox, FormedLetter, Formed, form-says, form-made}
 use Rattle.laws.proofs.FormLaws.{sizes-says, box-is}
 use Rattle.laws.proofs.StepLaws.{by-step, changed, Plays, Elects, recovers, collects}
-use Rattle.laws.proofs.StepLaws.{readies, offers, proposes, agrees, finishes, delivers}
+use Rattle.laws.proofs.StepLaws.{readies, offers, proposes, agrees, finishes, trims}
+use Rattle.laws.proofs.StepLaws.{delivers}
 use Rattle.laws.proofs.FrameLaws.{upd-all, posted-room}
 use Rattle.laws.proofs.StoreForm.{box-of, kept-part, best-part, peers-part, none-form}
 use Rattle.laws.proofs.StoreForm.{unknown-form}
@@ -167,6 +168,7 @@ module _ (s : Site) where
   event-fits h f hc proposes = tt
   event-fits h f hc agrees = tt
   event-fits h f hc finishes = tt
+  event-fits h f hc (trims k) = tt
   event-fits h f hc (delivers ha ac e) = (ha, ac, head-of e (f .links _ _ ha hc ac .letters))
 
   -- the site that the turn is played on
@@ -180,6 +182,7 @@ module _ (s : Site) where
   base-form f proposes = f
   base-form f agrees = f
   base-form f finishes = f
+  base-form f (trims k) = f
   base-form {c = c} f (delivers {a = a} ha ac e) = popped-form s a c f
 
   pub formed-step : (d : Call) → CallFits d → Formed s → Formed (step s d .next)
@@ -211,14 +214,20 @@ fresh-form n J L e = form-made (record {
   present = set-full n;
   boxes = λ b h. box-of
       (record {
-        held = record { all = omega arith; next = omega arith; room = omega arith };
-        records
-            = nil;
+        last = omega arith;
+        first = record { some = omega arith; top = omega arith };
+        held = record {
+          all = omega arith;
+          next = omega arith;
+          most = omega arith;
+          room = omega arith;
+        };
+        records = nil;
         pn = omega arith;
         stored-pn = omega arith;
         stored-number = omega arith;
       })
-      (none-form J) (set-zero n) (set-zero n) (left refl) (left refl) (unknown-form n J b);
+      none-form (set-zero n) (set-zero n) (left refl) (left refl) (unknown-form n b);
   one-leader = λ i j hi hj p q. absurd (both-no p refl);
   links = λ a b ha hb ab. record { room = omega arith; letters = nil };
 })

@@ -5,9 +5,9 @@ use mathlib.Core.Path.{_≡_, refl, sym, _∙_, subst}
 use mathlib.Core.Bool.{Bool, true, false, _&&_, _||_, cond}
 use mathlib.Core.List.{List, [], _∷_, _++_, tail}
 use native.Mathlib.Omega.{arith}
-use lib.Dec.{T, eqb}
+use lib.Dec.{T, eqb, ltb}
 use lib.ListN.{length, getD, take, drop}
-use borrow.Author.Tests.{eqb-true, eqb-false, eq-eqb}
+use borrow.Author.Tests.{eqb-true, eqb-false, eq-eqb, ltb-true, ltb-false}
 use Rattle.rules.specs.Pick.{pick}
 use Rattle.rules.specs.Every.{all, each, every}
 use Rattle.rules.specs.Site.{twice}
@@ -48,11 +48,39 @@ same? i j = go (decide (eqb i j))
     go (left e) = left (eqb-yes i j e)
     go (right e) = right (eqb-no i j e)
 
+pub below? : (i j : ℕ) → Or (i < j) (j ≤ i)
+below? i j = go (decide (ltb i j))
+  where
+    go : Or (ltb i j ≡ true) (ltb i j ≡ false) → Or (i < j) (j ≤ i)
+    go (left e) = left (ltb-true i j e)
+    go (right e) = right (ltb-false i j e)
+
 -- ---- two tests
 
 pub and-yes : (a b : Bool) → (a && b) ≡ true → (a ≡ true) × (b ≡ true)
 and-yes true b e = (refl, e)
 and-yes false b e = absurd (both-no e refl)
+
+-- .. or more, which `_&&_` nests to the left
+pub and3 : (a b c : Bool) → (a && b && c) ≡ true → (a ≡ true) × (b ≡ true) × (c ≡ true)
+and3 a b c e = let p = and-yes (a && b) c e in let q = and-yes a b (p .0) in (q .0, q .1, p .1)
+
+pub and4 : (a b c d : Bool) → (a && b && c && d) ≡ true
+    → (a ≡ true) × (b ≡ true) × (c ≡ true) × (d ≡ true)
+and4 a b c d e = let p = and-yes (a && b && c) d e in let q = and3 a b c (p .0) in
+    (q .0, q .1, q .2, p .1)
+
+pub and5 : (a b c d f : Bool) → (a && b && c && d && f) ≡ true
+    → (a ≡ true) × (b ≡ true) × (c ≡ true) × (d ≡ true) × (f ≡ true)
+and5 a b c d f e =
+    let p = and-yes (a && b && c && d) f e in let q = and4 a b c d (p .0) in
+    (q .0, q .1, q .2, q .3, p .1)
+
+pub and6 : (a b c d f g : Bool) → (a && b && c && d && f && g) ≡ true
+    → (a ≡ true) × (b ≡ true) × (c ≡ true) × (d ≡ true) × (f ≡ true) × (g ≡ true)
+and6 a b c d f g e =
+    let p = and-yes (a && b && c && d && f) g e in let q = and5 a b c d f (p .0) in
+    (q .0, q .1, q .2, q .3, q .4, p .1)
 
 pub and-both : {a b : Bool} → a ≡ true → b ≡ true → (a && b) ≡ true
 and-both {a} {b} p q = rw p q

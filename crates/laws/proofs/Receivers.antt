@@ -12,8 +12,8 @@ use Rattle.rules.specs.Parts.{others}
 use Rattle.rules.specs.Last.{lagging, onLast}
 use Rattle.rules.specs.Mails.{onCollect, onBegin, onAccept, onCommit, onLease, ofKind, onMail}
 use Rattle.rules.specs.Steps.{recover, collect, started, leased, hasPrevious, ready, offer, propose}
-use Rattle.rules.specs.Steps.{agree, finish, acted}
-use Rattle.rules.specs.Box.{Box, Letter, Event, own, mail, heldAt, mine, turnOf}
+use Rattle.rules.specs.Steps.{agree, finish, trim, acted}
+use Rattle.rules.specs.Box.{Box, Letter, Event, own, mail, mine, nextOf, turnOf}
 use Rattle.laws.proofs.Types.{Act, Kind, Setting, Turn, Verdict}
 use Rattle.laws.proofs.Logic.{In, eqb-same, pick-elim}
 use Rattle.laws.proofs.SetLaws.{has-and, has-bit, has-without}
@@ -42,7 +42,7 @@ module _ (s : Setting) (x : Box) (me : In (s .me) mostBoxes) where
       ∙ and-off (has (s .present) (s .me))
 
   act-apart : (a : Act) → Apart (acted a (x .head) s (mine x))
-  unfolding acted recover collect ready offer propose agree finish started leased
+  unfolding acted recover collect ready offer propose agree finish trim started leased
   act-apart Act.Recover = settled-apart _ _ tt
   act-apart Act.Collect = settled-apart _ _ not-others
   act-apart Act.Ready =
@@ -52,6 +52,7 @@ module _ (s : Setting) (x : Box) (me : In (s .me) mostBoxes) where
   act-apart Act.Propose = settled-apart _ _ not-others
   act-apart Act.Agree = settled-apart _ _ not-others
   act-apart Act.Finish = settled-apart _ _ not-others
+  act-apart (Act.Trim k) = settled-apart _ _ tt
 
   module _ (a : ℕ) (from : In a mostBoxes) (other : a ≡ s .me → ⊥) (y : Letter) where
     not-sender : has (bit a) (s .me) ≡ false
@@ -62,8 +63,7 @@ module _ (s : Setting) (x : Box) (me : In (s .me) mostBoxes) where
     not-lagging peers last = has-and (others s) _ (s .me) ∙ off-and _ not-others
 
     kind-apart : (k : Kind)
-        → Apart (ofKind k (x .head) s a (y .head) (getD (y .records) 0 0)
-        (heldAt (y .records) (y .head .last)) (mine x))
+        → Apart (ofKind k (x .head) s a (y .head) (getD (y .records) 0 0) (nextOf y) (mine x))
     unfolding ofKind onCollect onLast onBegin onAccept onCommit onLease
     kind-apart Kind.Collect = settled-apart _ _ not-sender
     kind-apart Kind.Last = settled-apart _ _ (not-lagging _ _)

@@ -1,37 +1,31 @@
 -- By form, part by part: what a box keeps with its records, the best, the peers. Each change that a
 -- rule makes of a part keeps it.
-use Prim.Native.Nat.{ℕ, zero, suc, _+_, _-_, _≤_, _<_}
+use Prim.Native.Nat.{ℕ, zero, suc, _+_, _-_, _≤_, _<_, max}
 use mathlib.Core.Path.{_≡_, refl, sym, _∙_}
-use mathlib.Core.Bool.{Bool, true, false, _&&_}
+use mathlib.Core.Bool.{true, _&&_}
 use mathlib.Core.List.{List, [], _∷_, _++_}
 use native.Mathlib.Omega.{arith}
 use lib.Dec.{eqb, leb, ltb}
-use lib.ListN.{length, getD, set, take, drop, length-append, length-take, length-drop, length-set}
+use lib.ListN.{length, getD, set, take, drop, length-drop, length-set}
 use lib.Seq.{getD-set-same, getD-set-other}
-use borrow.Author.Tests.{ltb-true, ltb-false}
-use Rattle.rules.specs.Pick.{pick}
-use Rattle.rules.specs.Sizes.{mostBoxes, mostPn, unknown}
+use Rattle.rules.specs.Sizes.{mostBoxes, mostNumber, mostPn, unknown}
 use Rattle.rules.specs.Sets.{setForm}
-use Rattle.rules.specs.Fields.{promised, lasting, storing}
-use Rattle.rules.specs.Parts.{allUnknown, isHeld, underOf, tookKept, tookBook, none, cleared}
+use Rattle.rules.specs.Fields.{promised, lasting, keeping, storing}
+use Rattle.rules.specs.Parts.{allUnknown, isHeld, underOf, span, higher, tookKept, tookBook, none}
+use Rattle.rules.specs.Parts.{cleared}
 use Rattle.rules.specs.Last.{noted, improves, bettered}
 use Rattle.rules.specs.Steps.{bestHeld}
-use Rattle.rules.specs.Box.{Box, heldAt, written}
+use Rattle.rules.specs.Box.{Box, heldAt, written, BookFits}
 use Rattle.laws.proofs.Types.{Best, Book, BoxState, Held, Kept, Mail}
 use Rattle.laws.proofs.Logic.{Or, left, right, In, All, nil, cons, All-append, All-take}
-use Rattle.laws.proofs.Logic.{All-drop, All-at, same?, true≠false, pick-elim}
-use Rattle.laws.proofs.FormLaws.{Proper, HeldCount, Peer, FormedBox}
+use Rattle.laws.proofs.Logic.{All-drop, All-at, same?, below?, true≠false, pick-elim}
+use Rattle.laws.proofs.FormLaws.{Proper, FormedFirst, HeldCount, Peer, FormedBox}
+use Rattle.laws.proofs.Conditions.{Room}
+use Rattle.laws.proofs.View.{Store, storeOf, Spans, spans, Shaped, held-elim, higher-max}
+use Rattle.laws.proofs.View.{Raises, raises-to, trimmed-shaped, stored-length, took-book}
+use Rattle.laws.proofs.View.{took-cases, took-more, took-none, took-shaped}
 
 -- ---- the record after the first l
-
-pub held-elim : (P : Held → Type 0) (rs : List ℕ) (l : ℕ)
-    → (l < length rs → P (Held.Record (getD rs l 0))) → (length rs ≤ l → P Held.Nothing)
-    → P (heldAt rs l)
-unfolding heldAt
-held-elim P rs l f g =
-    pick-elim P (ltb l (length rs))
-    (λ e. f (ltb-true l (length rs) e))
-    (λ e. g (ltb-false l (length rs) e))
 
 pub is-held : (rs : List ℕ) (l : ℕ) → isHeld (heldAt rs l) ≡ true → l < length rs
 unfolding isHeld
@@ -43,15 +37,26 @@ is-held rs l =
 -- ---- what a box keeps, with its records
 
 pub record KeptForm (J : ℕ) (k : Kept) (rs : List ℕ) : Type 0 where
-  pub held : HeldCount J (k .last) (length rs)
+  pub last : k .last ≤ mostNumber
+  pub first : FormedFirst (k .first) (k .last)
+  pub held : HeldCount J (k .first) (k .last) (length rs)
   pub records : All Proper rs
   pub pn : k .pn ≤ mostPn
   pub stored-pn : k .stored .pn ≤ mostPn
-  pub stored-number : k .stored .number ≤ J
+  pub stored-number : k .stored .number ≤ mostNumber
+
+-- a records without d of them, and those of e after b: these are the sender's, or fewer
+kept-room : (J f l d a g F L b e : ℕ) → f + d ≡ g → d ≤ a → f + a ≡ l + 1 → F + b ≡ l + 1 → b < e
+    → F + e ≡ L + 1 → F ≤ g → L + 1 ≤ J + F → a - d + (e - b) ≤ J
+kept-room J f l d a g F L b e by within own theirs some all low room = omega arith
 
 module _ {J : ℕ} {k : Kept} {rs : List ℕ} (f : KeptForm J k rs) where
-  pub last-room : k .last ≤ J
-  last-room = omega (arith, f .held .all, f .held .room)
+  pub kept-shaped : Shaped (storeOf k rs)
+  kept-shaped = spans (f .first) (f .held)
+
+  -- last+1 is a load number where it is held
+  pub next-number : span (k .first) (k .last) < length rs → k .last + 1 ≤ mostNumber
+  next-number h = omega (arith, f .last, f .first .top, f .held .all, f .held .most, h)
 
   pub under-form : underOf k ≤ mostPn
   unfolding underOf
@@ -62,6 +67,8 @@ module _ {J : ℕ} {k : Kept} {rs : List ℕ} (f : KeptForm J k rs) where
 
   pub promised-form : (q : ℕ) → q ≤ mostPn → KeptForm J (promised q k) rs
   promised-form q h = record {
+    last = f .last;
+    first = f .first;
     held = f .held;
     records = f .records;
     pn = h;
@@ -70,11 +77,14 @@ module _ {J : ℕ} {k : Kept} {rs : List ℕ} (f : KeptForm J k rs) where
   }
 
   -- last+1, which is held, is agreed
-  pub agreed-form : k .last < length rs → KeptForm J (lasting (k .last + 1) k) rs
+  pub agreed-form : span (k .first) (k .last) < length rs → KeptForm J (lasting (k .last + 1) k) rs
   agreed-form h = record {
+    last = next-number h;
+    first = record { some = f .first .some; top = omega (arith, f .first .top) };
     held = record {
-      all = omega arith;
+      all = omega (arith, h, f .first .top);
       next = omega (arith, f .held .next);
+      most = omega (arith, f .held .most);
       room = f .held .room;
     };
     records = f .records;
@@ -83,110 +93,187 @@ module _ {J : ℕ} {k : Kept} {rs : List ℕ} (f : KeptForm J k rs) where
     stored-number = f .stored-number;
   }
 
-  -- last+1 holds r
-  pub stored-form : (q r : ℕ) → q ≤ mostPn → k .last < J → Proper r
-      → KeptForm J (storing q (k .last + 1) k) (take (k .last) rs ++ (r ∷ []))
-  stored-form q r h room p = record {
-    held = record {
-      all = omega (arith, size);
-      next = omega (arith, size);
-      room = omega
-          (arith, size);
-    };
-    records = All-append (All-take (k .last) (f .records)) (cons p nil);
-    pn = f .pn;
-    stored-pn = h;
-    stored-number = omega arith;
-  }
-    where
-      size : length (take (k .last) rs ++ (r ∷ [])) ≡ k .last + 1
-      size = simp (length-append, length-take) (omega (arith, f .held .all))
+  -- first becomes g, and d records leave
+  module _ {d g : ℕ} (up : Raises (storeOf k rs) d g) (low : FormedFirst g (k .last)) where
+    pub trimmed-form : KeptForm J (keeping g k) (drop d rs)
+    trimmed-form = let shape = trimmed-shaped (storeOf k rs) kept-shaped up in record {
+      last = f .last;
+      first = low;
+      held = record {
+        all = shape .all;
+        next = shape .next;
+        most = omega (arith, size, f .held .most, f .held .all, up .by, up .top);
+        room = omega (arith, size, f .held .room);
+      };
+      records = All-drop d (f .records);
+      pn = f .pn;
+      stored-pn = f .stored-pn;
+      stored-number = f .stored-number;
+    }
+      where
+        size : length (drop d rs) ≡ length rs - d
+        size = length-drop d rs
 
-  -- the records of a mail are taken up to its last
-  pub took-form : (l : ℕ) (ms : List ℕ) → l ≤ J → l ≤ length ms → All Proper ms
-      → KeptForm J (tookKept l k) (written (tookBook l (k .last)) rs ms)
-  unfolding tookKept tookBook written pick
-  took-form l ms room enough p = go (ltb (k .last) l) refl
-    where
-      go : (b : Bool) → ltb (k .last) l ≡ b
-          → KeptForm J (lasting (pick b l (k .last)) k)
-          (written (pick b (Book.Take (k .last) l) Book.Keep) rs ms)
-      go true e =
-          let h : k .last < l = ltb-true (k .last) l e in
-          let size : length (take (k .last) rs ++ drop (k .last) (take l ms)) ≡ l
-          = simp (length-append, length-take, length-drop) (omega (arith, f .held .all)) in
-          record {
-            held = record {
-              all = omega (arith, size);
-              next = omega (arith, size);
-              room = omega
-                  (arith, size);
-            };
-            records = All-append (All-take (k .last) (f .records))
-                (All-drop (k .last) (All-take l p));
-            pn = f .pn;
-            stored-pn = f .stored-pn;
-            stored-number = f .stored-number;
-          }
-      go false e = record {
-        held = f .held;
-        records = f .records;
-        pn = f .pn;
-        stored-pn = f .stored-pn;
-        stored-number = f .stored-number;
-      }
+    -- .. and last+1 holds r
+    pub stored-form : (q r : ℕ) → q ≤ mostPn → Room J g (k .last) → Proper r
+        → KeptForm J (keeping g (storing q (k .last + 1) k))
+        (drop d (take (span (k .first) (k .last)) rs) ++ (r ∷ []))
+    stored-form q r h room p = record {
+      last = f .last;
+      first = low;
+      held = record {
+        all = omega (arith, size);
+        next = omega (arith, size);
+        most = omega (arith, size, room .number);
+        room = omega (arith, size, room .records);
+      };
+      records = All-append (All-drop d (All-take (span (k .first) (k .last)) (f .records)))
+          (cons p nil);
+      pn = f .pn;
+      stored-pn = h;
+      stored-number = omega (arith, room .number);
+    }
+      where
+        size : g + length (drop d (take (span (k .first) (k .last)) rs) ++ (r ∷ [])) ≡ k .last + 2
+        size = stored-length (storeOf k rs) kept-shaped up q r
+
+    -- what is kept of the book is there, and there is room
+    pub stored-fits : (r : ℕ) (ms : List ℕ) → Room J g (k .last)
+        → BookFits J rs ms (Book.Put d (span (k .first) (k .last)) r)
+    stored-fits r ms room = (
+      omega (arith, up .by, up .top),
+      omega (arith, f .held .all),
+      omega (arith, up .by, up .top, room .records, low .top),
+    )
+
+  -- the records of a mail are taken, of a sender that keeps from F to L
+  module _ (F L : ℕ) (ms : List ℕ) (top : L ≤ mostNumber) (low : FormedFirst F L)
+      (sent : Spans F L ms) (room : length ms ≤ J) where
+    pub took-form : All Proper ms → KeptForm J (tookKept F L k) (written (tookBook F L k) rs ms)
+    unfolding tookKept
+    took-form p = let shape = took-shaped F L ms a kept-shaped sent in record {
+      last = omega (arith, last, top, f .last);
+      first = record {
+        some = shape .some;
+        top = omega (arith, first, last, f .first .top, low .top);
+      };
+      held = record {
+        all = shape .all;
+        next = shape .next;
+        most = bound (below? (k .last) L) .0;
+        room = bound (below? (k .last) L) .1;
+      };
+      records = took-cases F L ms a kept-shaped (All Proper)
+          (λ e. All-take (span F L) p)
+          (λ e m. All-append
+          (All-drop (higher (k .first) F - k .first)
+          (All-take (span (k .first) (k .last)) (f .records)))
+          (All-drop (span F (k .last)) (All-take (span F L) p)))
+          (λ e m. All-drop (higher (k .first) F - k .first) (f .records));
+      pn = f .pn;
+      stored-pn = f .stored-pn;
+      stored-number = f .stored-number;
+    }
+      where
+        a : Store
+        a = storeOf k rs
+
+        first : higher (k .first) F ≡ max (k .first) F
+        first = higher-max (k .first) F
+
+        last : higher (k .last) L ≡ max (k .last) L
+        last = higher-max (k .last) L
+
+        count : ℕ
+        count = length (written (tookBook F L k) rs ms)
+
+        bound : Or (k .last < L) (L ≤ k .last)
+            → (higher (k .first) F + count ≤ max (higher (k .last) L) mostNumber + 1) × (count ≤ J)
+        bound (left h) = let size = took-more F L ms a kept-shaped sent h in
+            (omega (arith, size, last, top), omega (arith, size, first, sent .all, room))
+        bound (right h) = let size = took-none F L ms a kept-shaped sent h in
+            (omega (arith, size, last, f .held .most), omega (arith, size, first, f .held .room))
+
+    pub took-fits : BookFits J rs ms (tookBook F L k)
+    took-fits =
+        took-book (BookFits J rs ms) F L k
+        (λ e. (
+          omega arith,
+          omega arith,
+          omega (arith, e, low .top),
+          omega (arith, sent .all),
+          omega (arith, sent .next, room),
+        ))
+        (λ e m. let up = raises-to (storeOf k rs) kept-shaped F e in
+        let own : k .first + span (k .first) (k .last) ≡ k .last + 1
+        = omega (arith, f .first .top) in
+        let theirs : F + span F (k .last) ≡ k .last + 1 = omega (arith, e) in
+        let all : F + span F L ≡ L + 1 = omega (arith, e, m) in
+        let within : higher (k .first) F - k .first ≤ span (k .first) (k .last)
+        = omega (arith, up .by, up .top, own) in
+        let some : span F (k .last) < span F L = omega (arith, theirs, all, m) in (
+          within,
+          omega (arith, f .held .all),
+          some,
+          omega (arith, all, sent .all),
+          kept-room _ _ _ _ _ _ _ _ _ _ (up .by) within own theirs some all
+              (omega (arith, higher-max (k .first) F)) (omega (arith, sent .all, room)),
+        ))
+        (λ e m. let up = raises-to (storeOf k rs) kept-shaped F e in
+        omega (arith, up .by, up .top, f .held .all))
 
 -- ---- the best
 
-pub record BestForm (J : ℕ) (b : Best) : Type 0 where
+pub record BestForm (b : Best) : Type 0 where
   pub pn : b .pn ≤ mostPn
-  pub number : b .number ≤ J
+  pub number : b .number ≤ mostNumber
   pub value : Or (b .value ≡ 0) (Proper (b .value))
 
-pub none-form : (J : ℕ) → BestForm J none
-none-form J = record { pn = omega arith; number = omega arith; value = left refl }
+pub none-form : BestForm none
+none-form = record { pn = omega arith; number = omega arith; value = left refl }
 
-pub cleared-form : {J : ℕ} (l : ℕ) (b : Best) → BestForm J b → BestForm J (cleared l b)
+pub cleared-form : (l : ℕ) (b : Best) → BestForm b → BestForm (cleared l b)
 unfolding cleared
-cleared-form {J} l b f = pick-elim (BestForm J) (leb (b .number) l) (λ e. none-form J) (λ e. f)
+cleared-form l b f = pick-elim BestForm (leb (b .number) l) (λ e. none-form) (λ e. f)
 
 -- "If last+1 is held it becomes the best unagreed"
 pub best-held-form : {J : ℕ} {k : Kept} {rs : List ℕ} → KeptForm J k rs
-    → BestForm J (bestHeld k (heldAt rs (k .last)))
+    → BestForm (bestHeld k (heldAt rs (span (k .first) (k .last))))
 unfolding bestHeld
 best-held-form {J} {k} {rs} f =
-    held-elim (λ (h : Held). BestForm J (bestHeld k h)) rs (k .last)
+    held-elim (λ (h : Held). BestForm (bestHeld k h)) rs (span (k .first) (k .last))
     (λ h. record {
       pn = under-form f;
-      number = omega (arith, f .held .room);
-      value = right (All-at (f .records) (k .last) 0 h);
+      number = next-number f h;
+      value = right (All-at (f .records) (span (k .first) (k .last)) 0 h);
     })
-    (λ h. none-form J)
+    (λ h. none-form)
 
 -- the mail's record at its last+1 becomes the best, or the best is cleared
-pub bettered-form : {J : ℕ} (l : ℕ) (b : Best) (m : Mail) (ms : List ℕ)
-    → BestForm J b → length ms ≤ J → All Proper ms → m .unagreed ≤ mostPn
-    → BestForm J (bettered l b m (heldAt ms (m .last)))
+pub bettered-form : {J : ℕ} (l : ℕ) (b : Best) (m : Mail) (ms : List ℕ) → BestForm b
+    → m .last ≤ mostNumber → FormedFirst (m .first) (m .last)
+    → HeldCount J (m .first) (m .last) (length ms) → All Proper ms → m .unagreed ≤ mostPn
+    → BestForm (bettered l b m (heldAt ms (span (m .first) (m .last))))
 unfolding bettered
-bettered-form {J} l b m ms f room p u =
-    held-elim (λ (h : Held). BestForm J (bettered l b m h)) ms (m .last)
-    (λ h. pick-elim (BestForm J) (improves l b m)
+bettered-form l b m ms f top low held p u =
+    held-elim (λ (h : Held). BestForm (bettered l b m h)) ms (span (m .first) (m .last))
+    (λ h. pick-elim BestForm (improves l b m)
     (λ e. record {
       pn = u;
-      number = omega arith;
-      value = right (All-at p (m .last) 0 h);
+      number = omega (arith, h, top, low .top, held .most);
+      value = right (All-at p (span (m .first) (m .last)) 0 h);
     })
     (λ e. cleared-form l b f))
     (λ h. cleared-form l b f)
 
 -- ---- the peers
 
-pub record PeersForm (n J c : ℕ) (peers : List ℕ) : Type 0 where
+pub record PeersForm (n c : ℕ) (peers : List ℕ) : Type 0 where
   pub places : length peers ≡ mostBoxes
-  pub each : (k : ℕ) → In k mostBoxes → Peer n J c k (getD peers (k - 1) 0)
+  pub each : (k : ℕ) → In k mostBoxes → Peer n c k (getD peers (k - 1) 0)
 
-pub unknown-form : (n J c : ℕ) → PeersForm n J c allUnknown
-unknown-form n J c = record { places = refl; each = λ k h. left (at k h) }
+pub unknown-form : (n c : ℕ) → PeersForm n c allUnknown
+unknown-form n c = record { places = refl; each = λ k h. left (at k h) }
   where
     at : (k : ℕ) → In k mostBoxes → getD allUnknown (k - 1) 0 ≡ unknown
     at zero h = absurd (omega arith)
@@ -198,12 +285,12 @@ unknown-form n J c = record { places = refl; each = λ k h. left (at k h) }
     at (suc (suc (suc (suc (suc (suc k)))))) h = absurd (omega arith)
 
 -- "Note the peer's last."
-pub noted-form : {n J c : ℕ} (peers : List ℕ) (a l : ℕ)
-    → PeersForm n J c peers → In a n → n ≤ mostBoxes → (a ≡ c → ⊥) → l ≤ J
-    → PeersForm n J c (noted peers a l)
+pub noted-form : {n c : ℕ} (peers : List ℕ) (a l : ℕ)
+    → PeersForm n c peers → In a n → n ≤ mostBoxes → (a ≡ c → ⊥) → l ≤ mostNumber
+    → PeersForm n c (noted peers a l)
 unfolding noted
-noted-form {n} {J} {c} peers a l f h few ne room =
-    pick-elim (PeersForm n J c) (ltb 0 a && leb a mostBoxes)
+noted-form {n} {c} peers a l f h few ne room =
+    pick-elim (PeersForm n c) (ltb 0 a && leb a mostBoxes)
     (λ e. record {
       places = length-set peers (a - 1) l ∙ f .places;
       each = λ k i. at k i
@@ -212,7 +299,7 @@ noted-form {n} {J} {c} peers a l f h few ne room =
     (λ e. f)
   where
     at : (k : ℕ) → In k mostBoxes → Or (k ≡ a) (k ≡ a → ⊥)
-        → Peer n J c k (getD (set peers (a - 1) l) (k - 1) 0)
+        → Peer n c k (getD (set peers (a - 1) l) (k - 1) 0)
     at k i (left e) =
         let here : getD (set peers (a - 1) l) (k - 1) 0 ≡ l
         = rw e (getD-set-same peers (a - 1) l 0 (omega (arith, f .places))) in
@@ -227,6 +314,8 @@ noted-form {n} {J} {c} peers a l f h few ne room =
 module _ {n J c : ℕ} {x : Box} (f : FormedBox n J c x) where
   pub kept-part : KeptForm J (x .head .kept) (x .records)
   kept-part = record {
+    last = f .last;
+    first = f .first;
     held = f .held;
     records = f .records;
     pn = f .pn;
@@ -234,18 +323,20 @@ module _ {n J c : ℕ} {x : Box} (f : FormedBox n J c x) where
     stored-number = f .stored-number;
   }
 
-  pub best-part : BestForm J (x .head .best)
+  pub best-part : BestForm (x .head .best)
   best-part = record { pn = f .best-pn; number = f .best-number; value = f .best }
 
-  pub peers-part : PeersForm n J c (x .head .peers)
+  pub peers-part : PeersForm n c (x .head .peers)
   peers-part = record { places = f .places; each = f .peers }
 
 pub box-of : {n J c : ℕ} {h : BoxState} {rs : List ℕ} → KeptForm J (h .kept) rs
-    → BestForm J (h .best) → setForm n (h .answered) ≡ true
+    → BestForm (h .best) → setForm n (h .answered) ≡ true
     → setForm n (h .accepts) ≡ true → Or (h .waiting ≡ 0) (Proper (h .waiting))
-    → Or (h .agreeing ≡ 0) (Proper (h .agreeing)) → PeersForm n J c (h .peers)
+    → Or (h .agreeing ≡ 0) (Proper (h .agreeing)) → PeersForm n c (h .peers)
     → FormedBox n J c (record { head = h; records = rs })
 box-of k b answered accepts waiting agreeing p = record {
+  last = k .last;
+  first = k .first;
   held = k .held;
   records = k .records;
   pn = k .pn;

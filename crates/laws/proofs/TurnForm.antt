@@ -1,39 +1,43 @@
 -- A turn of a box by form gives a box by form, a change of the book that fits, and letters by form.
-use Prim.Native.Nat.{ℕ, zero, suc, _+_, _≤_, _<_, max}
+use Prim.Native.Nat.{ℕ, _+_, _≤_, _<_, max, min}
 use mathlib.Core.Path.{_≡_, refl}
 use mathlib.Core.Bool.{true}
-use mathlib.Core.List.{List, [], _∷_, _++_}
+use mathlib.Core.List.{List, []}
 use native.Mathlib.Omega.{arith}
 use lib.Dec.{ltb}
 use lib.ListN.{length, getD, take, length-take}
 use borrow.Author.Tests.{ltb-true, leb-true, le-leb, lt-ltb}
-use Rattle.rules.specs.Sizes.{mostBoxes, mostPn, recordOf, leftOf, rightOf, proper}
+use Rattle.rules.specs.Sizes.{mostBoxes, mostNumber, mostPn, recordOf, leftOf, rightOf, proper}
 use Rattle.rules.specs.Sets.{setForm, bit}
 use Rattle.rules.specs.NewPn.{newPn}
-use Rattle.rules.specs.Turns.{settled, still, mailOf}
-use Rattle.rules.specs.Parts.{others, tookKept, tookBook}
+use Rattle.rules.specs.Turns.{settled, still, mailOf, mailFrom}
+use Rattle.rules.specs.Parts.{others, span, higher, tookKept, tookBook}
 use Rattle.rules.specs.Last.{noted, heard, lagging, raised, counted, uncounted, replied, onLast}
 use Rattle.rules.specs.Mails.{unagreedOf, onCollect, onBegin, onAccept, onCommit, onLease, ofKind}
 use Rattle.rules.specs.Mails.{onMail}
-use Rattle.rules.specs.Steps.{recover, collect, started, leased, hasPrevious, ready, offer}
-use Rattle.rules.specs.Steps.{canPropose, propose, canAgree, agree, finish, acted}
-use Rattle.rules.specs.Box.{Box, Letter, Event, own, mail, heldAt, mine, written, enclosed}
+use Rattle.rules.specs.Steps.{recover, collect, started, leased, hasPrevious, canReady, ready}
+use Rattle.rules.specs.Steps.{offer, canPropose, propose, canAgree, agree, finish, trim, acted}
+use Rattle.rules.specs.Box.{Box, Letter, Event, own, mail, mine, nextOf, written, enclosed}
 use Rattle.rules.specs.Box.{BookFits, letterOf, turnOf, turned, brought}
 use Rattle.laws.specs.Frames.{ActFits}
-use Rattle.laws.proofs.Types.{Act, Answer, Book, BoxState, Held, Kind, Out, Refusal, Setting}
+use Rattle.laws.proofs.Types.{Act, Answer, BoxState, Held, Kept, Kind, Out, Refusal, Setting}
 use Rattle.laws.proofs.Types.{Turn, Verdict}
-use Rattle.laws.proofs.Logic.{Or, left, right, In, All, nil, cons, All-at, All-take, and-yes}
+use Rattle.laws.proofs.Logic.{Or, left, right, In, nil, cons, All-at, All-take, and-yes}
 use Rattle.laws.proofs.Logic.{and-both, pick-elim}
 use Rattle.laws.proofs.SetLaws.{set-bit, set-joined, set-without, set-and}
-use Rattle.laws.proofs.FormLaws.{Proper, FormedBox, FormedKind, FormedLetter}
+use Rattle.laws.proofs.FormLaws.{Proper, FormedFirst, FormedBox, Bare, FormedKind}
+use Rattle.laws.proofs.FormLaws.{FormedLetter}
+use Rattle.laws.proofs.View.{store, at, Spans, last-spans, commit-spans, held-elim}
+use Rattle.laws.proofs.View.{higher-max, stored, Raises, raises-none, raises-to, raises-trim}
+use Rattle.laws.proofs.View.{stored-next}
 use Rattle.laws.proofs.StepLaws.{by-verdict}
-use Rattle.laws.proofs.Conditions.{go-unless, go-last, go-begin, can-propose, can-agree}
-use Rattle.laws.proofs.Conditions.{has-previous}
-use Rattle.laws.proofs.StoreForm.{held-elim, is-held, KeptForm, last-room, under-form}
-use Rattle.laws.proofs.StoreForm.{promised-form, agreed-form, stored-form, took-form}
-use Rattle.laws.proofs.StoreForm.{BestForm, cleared-form, best-held-form, bettered-form}
-use Rattle.laws.proofs.StoreForm.{PeersForm, unknown-form, noted-form, kept-part, best-part}
-use Rattle.laws.proofs.StoreForm.{peers-part, box-of}
+use Rattle.laws.proofs.Conditions.{go-unless, Room, room-next, room-where, go-last, go-begin}
+use Rattle.laws.proofs.Conditions.{can-propose, can-agree, can-trim, has-previous}
+use Rattle.laws.proofs.StoreForm.{is-held, KeptForm, kept-shaped, under-form, promised-form}
+use Rattle.laws.proofs.StoreForm.{agreed-form, trimmed-form, stored-form, stored-fits}
+use Rattle.laws.proofs.StoreForm.{took-form, took-fits, BestForm, cleared-form}
+use Rattle.laws.proofs.StoreForm.{best-held-form, bettered-form, PeersForm, unknown-form}
+use Rattle.laws.proofs.StoreForm.{noted-form, kept-part, best-part, peers-part, box-of}
 
 -- ---- a turn that fits
 
@@ -49,10 +53,10 @@ pub record Fits (n J c : ℕ) (x : Box) (ms : List ℕ) (t : Turn) : Type 0 wher
   pub leads : t .next .leads ≡ x .head .leads
 
 -- a mail without records
-bare : {J : ℕ} (k : Kind) (pn last : ℕ) (rs : List ℕ) → enclosed k last rs ≡ []
-    → FormedKind k J pn last 0 0
-    → pn ≤ mostPn → last ≤ J → FormedLetter J (letterOf (mailOf k pn last 0) rs)
-bare {J} k pn last rs e f p l = record {
+bare : {J : ℕ} (k : Kind) (pn last : ℕ) (rs : List ℕ) → enclosed k (span 0 last) rs ≡ []
+    → FormedKind k J pn last 0 0 0
+    → pn ≤ mostPn → last ≤ mostNumber → FormedLetter J (letterOf (mailOf k pn last 0) rs)
+bare k pn last rs e f p l = record {
   kind = rw e f;
   records = rw e nil;
   pn = p;
@@ -60,24 +64,29 @@ bare {J} k pn last rs e f p l = record {
   last = l;
 }
 
--- a Commit of the first l records
-commit-letter : {J : ℕ} (pn l : ℕ) (rs : List ℕ) → l ≤ length rs → l ≤ J → All Proper rs
-    → pn ≤ mostPn
-    → FormedLetter J (letterOf (mailOf Kind.Commit pn l 0) rs)
-unfolding enclosed
-commit-letter pn l rs h room p q = record {
-  kind = record { all-records = rw length-take (omega arith); no-unagreed = refl };
-  records = All-take l p;
-  pn = q;
-  unagreed = omega arith;
-  last = room;
-}
+nothing : Bare 0 0 0
+nothing = record { no-records = refl; no-unagreed = refl; no-first = refl }
 
--- what is put after the first l
-last-of : (l : ℕ) (rs : List ℕ) (r : ℕ) → l ≤ length rs → getD (take l rs ++ (r ∷ [])) l 0 ≡ r
-last-of zero rs r h = refl
-last-of (suc l) [] r h = absurd (omega arith)
-last-of (suc l) (q ∷ rs) r h = last-of l rs r (omega arith)
+-- a Commit of the records of first to last
+commit-letter : {J : ℕ} {k : Kept} {rs : List ℕ} (pn : ℕ) → KeptForm J k rs → pn ≤ mostPn
+    → FormedLetter J (letterOf (mailFrom (k .first) Kind.Commit pn (k .last) 0) rs)
+unfolding enclosed
+commit-letter {J} {k} {rs} pn f p = record {
+  kind = record {
+    first = f .first;
+    all-records = omega (arith, size, f .first .top, f .held .all);
+    room = omega (arith, size, f .held .room);
+    no-unagreed = refl;
+  };
+  records = All-take (span (k .first) (k .last)) (f .records);
+  pn = p;
+  unagreed = omega arith;
+  last = f .last;
+}
+  where
+    size : length (take (span (k .first) (k .last)) rs)
+        ≡ min (span (k .first) (k .last)) (length rs)
+    size = length-take (span (k .first) (k .last)) rs
 
 -- two frame numbers of 32 bits, neither 0
 pair-proper : (l r : ℕ) → 0 < l → l < 4294967296 → 0 < r → r < 4294967296 → Proper (recordOf l r)
@@ -122,7 +131,7 @@ module _ (s : Setting) (x : Box) (f : FormedBox (s .n) (s .j) (s .me) x) (few : 
   unfolding others
   others-form = set-without (s .n) (s .present) (s .me) present
 
-  -- ---- the leader's steps
+  -- ---- steps
 
   recover-fits : Good [] (recover (x .head) s)
   unfolding recover written
@@ -145,48 +154,61 @@ module _ (s : Setting) (x : Box) (f : FormedBox (s .n) (s .j) (s .me) x) (few : 
       (λ go. record {
         box = box-of k (best-held-form k) (set-bit (s .n) (s .me) few me) (f .accepts) (f .waiting)
             (f .agreeing)
-            (unknown-form (s .n) (s .j) (s .me));
+            (unknown-form (s .n) (s .me));
         book = tt;
         out = (
           others-form,
-          bare Kind.Collect _ _ (x .records) refl
-              (record { no-records = refl; no-unagreed = refl }) (k .pn) (last-room k),
+          bare Kind.Collect _ _ (x .records) refl nothing (k .pn) (k .last),
         );
         leads = refl;
       })
 
   -- last+1 holds r, which is proper; b is the head with other fields, of which form is asked anew
-  started-fits : (b : BoxState) (r : ℕ) → b .kept ≡ x .head .kept → BestForm (s .j) (b .best)
+  started-fits : (b : BoxState) (r : ℕ) → b .kept ≡ x .head .kept → BestForm (b .best)
       → setForm (s .n) (b .answered) ≡ true
-      → Or (b .waiting ≡ 0) (Proper (b .waiting)) → PeersForm (s .n) (s .j) (s .me) (b .peers)
+      → Or (b .waiting ≡ 0) (Proper (b .waiting)) → PeersForm (s .n) (s .me) (b .peers)
       → b .leads ≡ x .head .leads
-      → x .head .kept .last < s .j → Proper r → Good [] (started b s r)
+      → Room (s .j) (x .head .kept .first) (x .head .kept .last) → Proper r
+      → Good [] (started b s r)
   unfolding started written enclosed
   started-fits b r e best answered waiting peers leads room p = record {
     box = box-of
-        (rw e (stored-form k (x .head .kept .pn) r (k .pn) room p))
+        (rw e (stored-form k none (k .first) (x .head .kept .pn) r (k .pn) room p))
         best answered (set-bit (s .n) (s .me) few me) waiting (right p) peers;
-    book = rw e (k .held .all, room);
+    book = rw e (stored-fits k none (k .first) r [] room);
     out = rw e (
       others-form,
       record {
-        kind = record { one-record = refl; room = room; no-unagreed = refl };
+        kind = record {
+          first = k .first;
+          one-record = refl;
+          fits = one;
+          room = room .number;
+          no-unagreed = refl;
+        };
         records = rw here (cons p nil);
         pn = k .pn;
         unagreed = omega arith;
-        last = omega arith;
+        last = k .last;
       },
     );
     leads = leads;
   }
     where
-      here : getD (take (x .head .kept .last) (x .records) ++ (r ∷ [])) (x .head .kept .last) 0 ≡ r
-      here = last-of (x .head .kept .last) (x .records) r (k .held .all)
+      none : Raises (store x) 0 (x .head .kept .first)
+      none = raises-none (store x) (kept-shaped k)
 
-  leased-fits : (b : BoxState) → b .kept ≡ x .head .kept → BestForm (s .j) (b .best)
+      one : 1 ≤ s .j
+      one = omega (arith, room .records, none .top)
+
+      here : at (stored 0 (x .head .kept .first) (x .head .kept .pn) r (store x))
+          (x .head .kept .last + 1) ≡ r
+      here = stored-next (store x) (kept-shaped k) none (x .head .kept .pn) r
+
+  leased-fits : (b : BoxState) → b .kept ≡ x .head .kept → BestForm (b .best)
       → setForm (s .n) (b .answered) ≡ true
       → setForm (s .n) (b .accepts) ≡ true → Or (b .waiting ≡ 0) (Proper (b .waiting))
-      → Or (b .agreeing ≡ 0) (Proper (b .agreeing)) → PeersForm (s .n) (s .j) (s .me) (b .peers)
+      → Or (b .agreeing ≡ 0) (Proper (b .agreeing)) → PeersForm (s .n) (s .me) (b .peers)
       → b .leads ≡ x .head .leads → Good [] (leased b s)
   unfolding leased written enclosed
   leased-fits b e best answered accepts waiting agreeing peers leads = record {
@@ -195,25 +217,24 @@ module _ (s : Setting) (x : Box) (f : FormedBox (s .n) (s .j) (s .me) x) (few : 
     out = rw e (
       others-form,
       bare Kind.Lease 0 _ (x .records) refl
-          (record { bare = record { no-records = refl; no-unagreed = refl }; no-pn = refl })
-          (omega arith) (last-room k),
+          (record { bare = nothing; no-pn = refl }) (omega arith) (k .last),
     );
     leads = leads;
   }
 
-  -- the best that is started anew has a number after last, and so its record has room
   ready-fits : Good [] (ready (x .head) s)
   unfolding ready
   ready-fits =
       settled-fits [] _ _
-      (λ go. pick-elim (Good []) (hasPrevious (x .head))
+      (λ go. let asked = go-unless _ _ _ (go-unless (canReady (x .head) s) _ _ go .1) .0 in
+      pick-elim (Good []) (hasPrevious (x .head))
       (λ e. let p = has-previous (x .head) e in
       started-fits _ _ refl (best-part f) (f .answered) (f .waiting)
-      (unknown-form (s .n) (s .j) (s .me)) refl
-      (omega (arith, f .best-number, p .0))
+      (unknown-form (s .n) (s .me)) refl
+      (room-where (s .j) (x .head .kept .first) (x .head .kept .last) e asked)
       (some-proper (f .best) (p .1)))
       (λ e. leased-fits _ refl (best-part f) (f .answered) (f .accepts) (f .waiting) (f .agreeing)
-      (unknown-form (s .n) (s .j) (s .me)) refl))
+      (unknown-form (s .n) (s .me)) refl))
 
   offer-fits : (l r : ℕ) → l < 4294967296 → r < 4294967296 → Good [] (offer (x .head) s l r)
   unfolding offer written
@@ -234,9 +255,9 @@ module _ (s : Setting) (x : Box) (f : FormedBox (s .n) (s .j) (s .me) x) (few : 
   propose-fits =
       settled-fits [] _ _
       (λ go. let p = go-unless (canPropose (x .head) s) Refusal.Condition _ go in
-      let q = go-unless (ltb (x .head .kept .last) (s .j)) Refusal.Book Verdict.Go (p .1) in
+      let q = go-unless _ _ _ (p .1) in
       started-fits _ _ refl (best-part f) (f .answered) (left refl) (peers-part f) refl
-      (ltb-true (x .head .kept .last) (s .j) (q .0))
+      (room-next (s .j) (x .head .kept .first) (x .head .kept .last) (q .0))
       (some-proper (f .waiting) (can-propose (p .0) .1)))
 
   agree-fits : Good [] (agree (x .head) s (mine x))
@@ -245,14 +266,13 @@ module _ (s : Setting) (x : Box) (f : FormedBox (s .n) (s .j) (s .me) x) (few : 
       settled-fits [] _ _
       (λ go. let can = can-agree (go-unless (canAgree (x .head) s (mine x)) Refusal.Condition
       Verdict.Go go .0) in
-      let held : x .head .kept .last < length (x .records) = is-held _ _ (can .held) in
-      let room : x .head .kept .last + 1 ≤ s .j = omega (arith, k .held .room) in
+      let agreed = agreed-form k (is-held _ _ (can .held)) in
       record {
-        box = box-of (agreed-form k held) (best-part f) (f .answered) (f .accepts) (f .waiting)
+        box = box-of agreed (best-part f) (f .answered) (f .accepts) (f .waiting)
             (left refl)
             (peers-part f);
         book = tt;
-        out = (others-form, commit-letter _ _ (x .records) (omega arith) room (k .records) (k .pn));
+        out = (others-form, commit-letter (x .head .kept .pn) agreed (k .pn));
         leads = refl;
       })
 
@@ -263,6 +283,22 @@ module _ (s : Setting) (x : Box) (f : FormedBox (s .n) (s .j) (s .me) x) (few : 
       (λ go. leased-fits _ refl (best-part f) (f .answered) (f .accepts) (f .waiting) (f .agreeing)
       (peers-part f) refl)
 
+  trim-fits : (n : ℕ) → Good [] (trim (x .head) s n)
+  unfolding trim written
+  trim-fits n =
+      settled-fits [] _ _
+      (λ go. let can = can-trim {b = x .head} (go-unless _ _ _ go .0) in
+      let up = raises-trim (store x) (kept-shaped k) n (can .above) (can .agreed) in
+      record {
+        box = box-of
+            (trimmed-form k up
+            (record { some = omega (arith, can .above); top = omega (arith, can .agreed) }))
+            (best-part f) (f .answered) (f .accepts) (f .waiting) (f .agreeing) (peers-part f);
+        book = omega (arith, up .by, up .top, k .held .all);
+        out = tt;
+        leads = refl;
+      })
+
   pub act-fits : (a : Act) → ActFits a → Good [] (acted a (x .head) s (mine x))
   unfolding acted
   act-fits Act.Recover h = recover-fits
@@ -272,6 +308,7 @@ module _ (s : Setting) (x : Box) (f : FormedBox (s .n) (s .j) (s .me) x) (few : 
   act-fits Act.Propose h = propose-fits
   act-fits Act.Agree h = agree-fits
   act-fits Act.Finish h = finish-fits
+  act-fits (Act.Trim n) h = trim-fits n
 
   -- ---- mail
 
@@ -279,6 +316,11 @@ module _ (s : Setting) (x : Box) (f : FormedBox (s .n) (s .j) (s .me) x) (few : 
       (g : FormedLetter (s .j) y) where
     abbrev Heard : Turn → Type 0
     Heard t = Good (y .records) t
+
+    abbrev Kinded : Kind → Type 0
+    Kinded kind =
+        FormedKind kind (s .j) (y .head .pn) (y .head .last) (y .head .first) (y .head .unagreed)
+        (length (y .records))
 
     reply-form : setForm (s .n) (bit a) ≡ true
     reply-form = set-bit (s .n) a few from
@@ -294,11 +336,11 @@ module _ (s : Setting) (x : Box) (f : FormedBox (s .n) (s .j) (s .me) x) (few : 
           out = (
             reply-form,
             record {
-              kind = record { held = k .held; under = under };
+              kind = record { first = k .first; held = k .held; under = under };
               records = k .records;
               pn = pn;
               unagreed = unagreed;
-              last = last-room k;
+              last = k .last;
             },
           );
           leads = refl;
@@ -310,17 +352,17 @@ module _ (s : Setting) (x : Box) (f : FormedBox (s .n) (s .j) (s .me) x) (few : 
         unagreed : unagreedOf (x .head .kept) (mine x) ≤ mostPn
         unagreed =
             held-elim (λ (h : Held). unagreedOf (x .head .kept) h ≤ mostPn) (x .records)
-            (x .head .kept .last)
+            (span (x .head .kept .first) (x .head .kept .last))
             (λ h. under-form k)
             (λ h. omega arith)
 
         under : Or (unagreedOf (x .head .kept) (mine x) ≡ 0)
-            (length (x .records) ≡ x .head .kept .last + 1)
+            (x .head .kept .first + length (x .records) ≡ x .head .kept .last + 2)
         under =
             held-elim (λ (h : Held). Or (unagreedOf (x .head .kept) h ≡ 0)
-            (length (x .records) ≡ x .head .kept .last + 1))
-            (x .records) (x .head .kept .last)
-            (λ h. right (omega (arith, k .held .next)))
+            (x .head .kept .first + length (x .records) ≡ x .head .kept .last + 2))
+            (x .records) (span (x .head .kept .first) (x .head .kept .last))
+            (λ h. right (omega (arith, h, k .first .top, k .held .next)))
             (λ h. left refl)
 
     accept-heard : Heard (onAccept (x .head) a (y .head))
@@ -348,55 +390,58 @@ module _ (s : Setting) (x : Box) (f : FormedBox (s .n) (s .j) (s .me) x) (few : 
           leads = refl;
         })
 
-    -- the lasts are the same, so that the mail's room is the box's
-    begin-heard : FormedKind Kind.Begin (s .j) (y .head .pn) (y .head .last) (y .head .unagreed)
-        (length (y .records))
-        → Heard (onBegin (x .head) a (y .head) (getD (y .records) 0 0))
+    -- the lasts are the same, and so first is raised to no more than last+1
+    begin-heard : Kinded Kind.Begin
+        → Heard (onBegin (x .head) s a (y .head) (getD (y .records) 0 0))
     unfolding onBegin written enclosed
     begin-heard h =
         settled-fits _ _ _
-        (λ go. let taken = go-begin {b = x .head} {m = y .head} go in
-        let room : x .head .kept .last < s .j = omega (arith, h .room, taken .place) in
+        (λ go. let taken = go-begin {b = x .head} {s = s} {m = y .head} go in
+        let up = raises-to (store x) (kept-shaped k) (y .head .first)
+        (omega (arith, h .first .top, taken .place)) in
+        let low = low-form (h .first) (taken .place) in
         record {
           box = box-of
-              (stored-form k (y .head .pn) _ (g .pn) room
+              (stored-form k up low (y .head .pn) _ (g .pn) (taken .room)
               (All-at (g .records) 0 0 (omega (arith, h .one-record))))
               (best-part f) (f .answered) (f .accepts) (f .waiting) (f .agreeing) (peers-part f);
-          book = (k .held .all, room);
-          out = (
-            reply-form,
-            bare Kind.Accept _ _ (x .records) refl
-                (record { no-records = refl; no-unagreed = refl }) (g .pn) (last-room k),
-          );
+          book = stored-fits k up low (getD (y .records) 0 0) (y .records) (taken .room);
+          out = (reply-form, bare Kind.Accept _ _ (x .records) refl nothing (g .pn) (k .last));
           leads = refl;
         })
+      where
+        low-form : FormedFirst (y .head .first) (y .head .last)
+            → x .head .kept .last ≡ y .head .last
+            → FormedFirst (higher (x .head .kept .first) (y .head .first)) (x .head .kept .last)
+        low-form l e = let is = higher-max (x .head .kept .first) (y .head .first) in record {
+          some = omega (arith, is, l .some);
+          top = omega (arith, is, l .top, e, k .first .top);
+        }
 
-    took-book : y .head .last ≤ length (y .records)
-        → BookFits (s .j) (x .records) (y .records) (tookBook (y .head .last) (x .head .kept .last))
-    unfolding tookBook
-    took-book h =
-        pick-elim (BookFits (s .j) (x .records) (y .records))
-        (ltb (x .head .kept .last) (y .head .last))
-        (λ e. let l : x .head .kept .last < y .head .last = ltb-true (x .head .kept .last)
-        (y .head .last) e in
-        (k .held .all, omega arith, h, g .last))
-        (λ e. tt)
+    -- records are taken
+    module _ (low : FormedFirst (y .head .first) (y .head .last))
+        (sent : Spans (y .head .first) (y .head .last) (y .records))
+        (room : length (y .records) ≤ s .j) where
+      took-fit : BookFits (s .j) (x .records) (y .records)
+          (tookBook (y .head .first) (y .head .last) (x .head .kept))
+      took-fit = took-fits k (y .head .first) (y .head .last) (y .records) (g .last) low sent room
 
-    took : y .head .last ≤ length (y .records)
-        → KeptForm (s .j) (tookKept (y .head .last) (x .head .kept))
-        (written (tookBook (y .head .last) (x .head .kept .last)) (x .records) (y .records))
-    took h = took-form k (y .head .last) (y .records) (g .last) h (g .records)
+      took : KeptForm (s .j) (tookKept (y .head .first) (y .head .last) (x .head .kept))
+          (written (tookBook (y .head .first) (y .head .last) (x .head .kept)) (x .records)
+          (y .records))
+      took =
+          took-form k (y .head .first) (y .head .last) (y .records) (g .last) low sent room
+          (g .records)
 
-    commit-heard : FormedKind Kind.Commit (s .j) (y .head .pn) (y .head .last) (y .head .unagreed)
-        (length (y .records))
-        → Heard (onCommit (x .head) (y .head))
+    commit-heard : Kinded Kind.Commit → Heard (onCommit (x .head) (y .head))
     unfolding onCommit
     commit-heard h =
         settled-fits _ _ _
         (λ go. record {
-          box = box-of (took (omega (arith, h .all-records))) (cleared-form _ _ (best-part f))
+          box = box-of (took (h .first) (commit-spans h) (h .room))
+              (cleared-form _ _ (best-part f))
               (f .answered) (f .accepts) (f .waiting) (f .agreeing) (peers-part f);
-          book = took-book (omega (arith, h .all-records));
+          book = took-fit (h .first) (commit-spans h) (h .room);
           out = tt;
           leads = refl;
         })
@@ -406,7 +451,7 @@ module _ (s : Setting) (x : Box) (f : FormedBox (s .n) (s .j) (s .me) x) (few : 
     lagging-set peers last = set-and (s .n) (others s) _ others-form
 
     replied-leads : replied (heard (x .head) a (y .head)) (s .me) a (y .head)
-        (heldAt (y .records) (y .head .last)) .leads ≡ x .head .leads
+        (nextOf y) .leads ≡ x .head .leads
     unfolding replied raised counted uncounted heard
     replied-leads =
         pick-elim (λ (b : BoxState). b .leads ≡ x .head .leads) _ (λ e. refl)
@@ -414,14 +459,12 @@ module _ (s : Setting) (x : Box) (f : FormedBox (s .n) (s .j) (s .me) x) (few : 
 
     -- what Last makes of the box, once it has heard
     replied-form : (rs : List ℕ) → KeptForm (s .j) (heard (x .head) a (y .head) .kept) rs
-        → FormedKind Kind.Last (s .j) (y .head .pn) (y .head .last) (y .head .unagreed)
-        (length (y .records))
+        → Kinded Kind.Last
         → (ltb (heard (x .head) a (y .head) .kept .pn) (y .head .pn) ≡ true
         → newPn (y .head .pn) (s .me) ≤ mostPn)
         → FormedBox (s .n) (s .j) (s .me)
         (record {
-          head = replied (heard (x .head) a (y .head)) (s .me) a (y .head)
-              (heldAt (y .records) (y .head .last));
+          head = replied (heard (x .head) a (y .head)) (s .me) a (y .head) (nextOf y);
           records = rs;
         })
     unfolding replied raised counted uncounted heard
@@ -430,8 +473,8 @@ module _ (s : Setting) (x : Box) (f : FormedBox (s .n) (s .j) (s .me) x) (few : 
         (λ e. box-of (promised-form t _ (fits e)) (cleared-form _ _ (best-part f))
         (f .answered) (f .accepts) (f .waiting) (f .agreeing) noted-peers)
         (λ e. pick-elim Boxed _
-        (λ d. box-of t (bettered-form _ _ (y .head) (y .records) (best-part f) (h .held .room)
-        (g .records) (g .unagreed))
+        (λ d. box-of t (bettered-form _ _ (y .head) (y .records) (best-part f) (g .last)
+        (h .first) (h .held) (g .records) (g .unagreed))
         (set-joined (s .n) (x .head .answered) a few (f .answered) from) (f .accepts) (f .waiting)
         (f .agreeing) noted-peers)
         (λ d. box-of t (cleared-form _ _ (best-part f))
@@ -440,27 +483,21 @@ module _ (s : Setting) (x : Box) (f : FormedBox (s .n) (s .j) (s .me) x) (few : 
         Boxed : BoxState → Type 0
         Boxed b = FormedBox (s .n) (s .j) (s .me) (record { head = b; records = rs })
 
-        noted-peers : PeersForm (s .n) (s .j) (s .me) (noted (x .head .peers) a (y .head .last))
+        noted-peers : PeersForm (s .n) (s .me) (noted (x .head .peers) a (y .head .last))
         noted-peers = noted-form (x .head .peers) a (y .head .last) (peers-part f) from few other
             (g .last)
 
-    last-heard : FormedKind Kind.Last (s .j) (y .head .pn) (y .head .last) (y .head .unagreed)
-        (length (y .records))
-        → Heard (onLast (x .head) s a (y .head) (heldAt (y .records) (y .head .last)))
+    last-heard : Kinded Kind.Last → Heard (onLast (x .head) s a (y .head) (nextOf y))
     unfolding onLast heard tookKept
     last-heard h =
         settled-fits _ _ _
         (λ go. let taken = go-last {b = x .head} {s = s} {m = y .head} go in
-        let all = took (h .held .all) in
+        let all = took (h .first) (last-spans h) (h .held .room) in
         record {
           box = replied-form _ all h
               (λ e. fits (taken .new) (ltb-true (x .head .kept .pn) (y .head .pn) e));
-          book = took-book (h .held .all);
-          out = (
-            lagging-form,
-            commit-letter _ _ _ (all .held .all) (last-room all) (all .records)
-                (k .pn),
-          );
+          book = took-fit (h .first) (last-spans h) (h .held .room);
+          out = (lagging-form, commit-letter (x .head .kept .pn) all (k .pn));
           leads = leads-on;
         })
       where
@@ -470,21 +507,20 @@ module _ (s : Setting) (x : Box) (f : FormedBox (s .n) (s .j) (s .me) x) (few : 
         fits (right e) d = e
 
         lagging-form : setForm (s .n) (lagging (noted (x .head .peers) a (y .head .last))
-            (tookKept (y .head .last) (x .head .kept) .last) s) ≡ true
+            (tookKept (y .head .first) (y .head .last) (x .head .kept) .last) s) ≡ true
         lagging-form = lagging-set _ _
 
-        leads-on : replied (heard (x .head) a (y .head)) (s .me) a (y .head)
-            (heldAt (y .records) (y .head .last)) .leads ≡ x .head .leads
+        leads-on : replied (heard (x .head) a (y .head)) (s .me) a (y .head) (nextOf y) .leads
+            ≡ x .head .leads
         leads-on = replied-leads
 
     pub mail-fits : Heard (turnOf s x (mail a y))
     unfolding onMail ofKind
     mail-fits = settled-fits _ _ _ (λ go. of-kind (y .head .kind) (g .kind))
       where
-        of-kind : (kind : Kind) → FormedKind kind (s .j) (y .head .pn) (y .head .last)
-            (y .head .unagreed) (length (y .records))
-            → Heard (ofKind kind (x .head) s a (y .head) (getD (y .records) 0 0)
-            (heldAt (y .records) (y .head .last)) (mine x))
+        of-kind : (kind : Kind) → Kinded kind
+            → Heard (ofKind kind (x .head) s a (y .head) (getD (y .records) 0 0) (nextOf y)
+            (mine x))
         of-kind Kind.Collect h = collect-heard
         of-kind Kind.Last h = last-heard h
         of-kind Kind.Begin h = begin-heard h

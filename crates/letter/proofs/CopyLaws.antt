@@ -7,21 +7,22 @@ use lib.ListN.{take, getD}
 use lib.Seq.{getD-take}
 use Rattle.words.specs.Rows.{part}
 use Rattle.words.proofs.PartLaws.{part-part}
-use Rattle.letter.specs.Place.{letterAt, placeFits}
+use Rattle.letter.specs.Place.{letterAt, placeFits, headWords, countAt}
 
 -- n words of p are held, its fields and its records, and q begins with them
-module _ (p q : List ℕ) (n : ℕ) (held : n ≡ 5 + getD p 4 0) (same : take n q ≡ take n p) where
-  same-word : (i : ℕ) → i < 5 → getD q i 0 ≡ getD p i 0
+module _ (p q : List ℕ) (n : ℕ) (held : n ≡ headWords + getD p countAt 0)
+    (same : take n q ≡ take n p) where
+  same-word : (i : ℕ) → i < headWords → getD q i 0 ≡ getD p i 0
   same-word i h =
       let b : i < n = omega arith in
       rw (← getD-take n q i 0 b, same, getD-take n p i 0 b)
 
-  same-records : part q 5 (getD p 4 0) ≡ part p 5 (getD p 4 0)
+  same-records : part q headWords (getD p countAt 0) ≡ part p headWords (getD p countAt 0)
   same-records =
-      let c = getD p 4 0 in
-      sym (part-part 0 n 5 c q (omega arith))
-      ∙ ap (λ (l : List ℕ). part l 5 c) same
-      ∙ part-part 0 n 5 c p (omega arith)
+      let c = getD p countAt 0 in
+      sym (part-part 0 n headWords c q (omega arith))
+      ∙ ap (λ (l : List ℕ). part l headWords c) same
+      ∙ part-part 0 n headWords c p (omega arith)
 
   pub copied-letter : letterAt q ≡ letterAt p
   copied-letter =
@@ -31,9 +32,10 @@ module _ (p q : List ℕ) (n : ℕ) (held : n ≡ 5 + getD p 4 0) (same : take n
         same-word 2 (omega arith),
         same-word 3 (omega arith),
         same-word 4 (omega arith),
+        same-word 5 (omega arith),
         same-records,
       )
 
   pub copied-fits : (J : ℕ) → placeFits J q ≡ placeFits J p
   unfolding placeFits
-  copied-fits J = rw (same-word 0 (omega arith), same-word 4 (omega arith))
+  copied-fits J = rw (same-word 0 (omega arith), same-word countAt (omega arith))

@@ -13,8 +13,8 @@ use Rattle.rules.specs.Every.{all}
 use Rattle.rules.specs.Box.{enclosed}
 use Rattle.rules.specs.declared.model.Kind.{Kind}
 use Rattle.rules.specs.declared.model.Mail.{Mail}
-use Rattle.letter.specs.Place.{letterAt, placeFits, wordsOfMail}
-use Rattle.letter.specs.Lent.{enclosedFrom, enclosedCount, Encloses, Enclosed}
+use Rattle.letter.specs.Place.{letterAt, placeFits, wordsOfMail, headWords}
+use Rattle.letter.specs.Lent.{agreedOf, enclosedFrom, enclosedCount, Encloses, Enclosed}
 use Rattle.letter.proofs.KindLaws.{kind-back, kind-in}
 
 -- The records that go with a mail are a part of those held.
@@ -36,9 +36,9 @@ pub count-enclosed : (k : Kind) (l : ℕ) (rs : List ℕ)
 count-enclosed k l rs h = ap length (enclosed-part k l rs h) ∙ length-part (enclosedFrom k l) _ rs h
 
 module _ (p : List ℕ) (m : Mail) (ys : List ℕ) (count : ℕ) (long : length ys ≡ count) where
-  -- the place, its five words written and then its records
+  -- the place, its words written and then its records
   abbrev pub filled : List ℕ
-  filled = splice (wordsOfMail m count ++ drop 5 p) 5 count ys
+  filled = splice (wordsOfMail m count ++ drop headWords p) headWords count ys
 
   pub filled-letter : letterAt filled ≡ record { head = m; records = ys }
   filled-letter = λ i. record {
@@ -46,32 +46,34 @@ module _ (p : List ℕ) (m : Mail) (ys : List ℕ) (count : ℕ) (long : length 
       kind = kind-back (m .kind) i;
       pn = m .pn;
       last = m .last;
+      first = m .first;
       unagreed = m .unagreed;
     };
-    records = take-at ys (drop count (drop 5 p)) count long i;
+    records = take-at ys (drop count (drop headWords p)) count long i;
   }
 
-  module _ (room : 5 + count ≤ length p) where
+  module _ (room : headWords + count ≤ length p) where
     filled-length : length filled ≡ length p
     filled-length =
-        let ws = wordsOfMail m count ++ drop 5 p in
+        let ws = wordsOfMail m count ++ drop headWords p in
         let e : length ws ≡ length p = simp (length-append, length-drop) (omega arith) in
-        length-splice 5 count ws ys (omega arith) long ∙ e
+        length-splice headWords count ws ys (omega arith) long ∙ e
 
-    pub filled-fits : (J : ℕ) → length p ≡ 5 + J → placeFits J filled ≡ true
+    pub filled-fits : (J : ℕ) → length p ≡ headWords + J → placeFits J filled ≡ true
     unfolding placeFits all
     filled-fits J e = rw (kind-in (m .kind), le-leb count J (omega arith))
 
 -- What the code of `enclose` has written is the letter.
 pub enclose-law : (p : List ℕ) (m : Mail) (rs : List ℕ) → Encloses p m rs
     → (from count : ℕ) (ws q : List ℕ)
-    → from ≡ enclosedFrom (m .kind) (m .last)
-    → count ≡ enclosedCount (m .kind) (m .last) (length rs)
-    → ws ≡ wordsOfMail m count → q ≡ splice (ws ++ drop 5 p) 5 count (part rs from count)
+    → from ≡ enclosedFrom (m .kind) (agreedOf m)
+    → count ≡ enclosedCount (m .kind) (agreedOf m) (length rs)
+    → ws ≡ wordsOfMail m count
+    → q ≡ splice (ws ++ drop headWords p) headWords count (part rs from count)
     → Enclosed p m rs q
 enclose-law p m rs ok from count ws q ef ec ew eq =
     let k = m .kind in
-    let l = m .last in
+    let l = agreedOf m in
     let long = count-enclosed k l rs (ok .held) in
     rw (eq, ew, ef, ec, ← enclosed-part k l rs (ok .held))
     (record {

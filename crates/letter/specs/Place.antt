@@ -1,4 +1,5 @@
--- A mail in words: kind, pn, last, unagreed pn, count of records, and then room for J records.
+-- A mail in words: kind, pn, last, first, unagreed pn, count of records, and then room for J
+-- records. "In the image first stands after last, in boxes and such mail" (Q-4).
 use Prim.Native.Nat.{ℕ, zero, suc}
 use mathlib.Core.Bool.{Bool}
 use mathlib.Core.List.{List, [], _∷_}
@@ -24,15 +25,18 @@ pnAt = 1
 abbrev pub lastAt : ℕ
 lastAt = 2
 
+abbrev pub firstAt : ℕ
+firstAt = 3
+
 abbrev pub unagreedAt : ℕ
-unagreedAt = 3
+unagreedAt = 4
 
 abbrev pub countAt : ℕ
-countAt = 4
+countAt = 5
 
 -- the records stand behind these
 abbrev pub headWords : ℕ
-headWords = 5
+headWords = 6
 
 -- ---- what they say
 
@@ -55,6 +59,7 @@ mailAt p = record {
   kind = kindOf (getD p kindAt 0);
   pn = getD p pnAt 0;
   last = getD p lastAt 0;
+  first = getD p firstAt 0;
   unagreed = getD p unagreedAt 0;
 }
 
@@ -78,4 +83,5 @@ placeForm J p =
 
 -- the words of a mail that has so many records
 abbrev pub wordsOfMail : Mail → ℕ → List ℕ
-wordsOfMail m count = kindNumber (m .kind) ∷ m .pn ∷ m .last ∷ m .unagreed ∷ count ∷ []
+wordsOfMail m count =
+    kindNumber (m .kind) ∷ m .pn ∷ m .last ∷ m .first ∷ m .unagreed ∷ count ∷ []

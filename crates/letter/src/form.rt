@@ -1,18 +1,19 @@
 // By form of a letter: its words field by field in the image's order, then its records.
 ghost use mathlib.Core.Path.{_≡_};
-ghost use Prim.Native.Nat.{_+_, _≤_};
-ghost use lib.Dec.{eqb};
+ghost use Prim.Native.Nat.{_≤_};
 ghost use lib.ListN.{length};
 ghost use Rattle.letter.specs.Place.{placeForm, headWords};
 ghost use Rattle.letter.specs.Lent.{PlaceSized};
 ghost use Rattle.letter.specs.Faults.{
   pnFits,
   lastFits,
+  firstFits,
   unagreedFits,
   countFits,
   headFault,
 };
 use crate::COUNT;
+use crate::FIRST;
 use crate::KIND;
 use crate::LAST;
 use crate::PN;
@@ -22,6 +23,7 @@ use crate::records;
 use rules::model::Kind;
 use values::Fault;
 use values::Field;
+use values::MOST_NUMBER;
 use values::MOST_PN;
 
 // What each kind asks of its pn ..
@@ -39,17 +41,31 @@ fn is_pn(k: Kind, pn: u64) -> bool
 }
 
 // .. of its last ..
-fn is_last(k: Kind, j: u32, last: u64) -> bool
-    ensures { λ r. ⌜ r ≡ lastFits k j last ⌝ }
+fn is_last(k: Kind, last: u64) -> bool
+    ensures { λ r. ⌜ r ≡ lastFits k last ⌝ }
 {
-    let most = j as u64;
     match k {
-        Kind::Collect => last <= most,
-        Kind::Last => last <= most,
-        Kind::Begin => last < most,
-        Kind::Accept => last <= most,
-        Kind::Commit => last <= most,
-        Kind::Lease => last <= most,
+        Kind::Collect => last <= MOST_NUMBER,
+        Kind::Last => last <= MOST_NUMBER,
+        Kind::Begin => last < MOST_NUMBER,
+        Kind::Accept => last <= MOST_NUMBER,
+        Kind::Commit => last <= MOST_NUMBER,
+        Kind::Lease => last <= MOST_NUMBER,
+    }
+}
+
+// .. of its first ..
+fn is_first(k: Kind, first: u64, last: u64) -> bool
+    ensures { λ r. ⌜ r ≡ firstFits k first last ⌝ }
+{
+    let carried = values::is_first(first, last);
+    match k {
+        Kind::Collect => first == 0,
+        Kind::Last => carried,
+        Kind::Begin => carried,
+        Kind::Accept => first == 0,
+        Kind::Commit => carried,
+        Kind::Lease => first == 0,
     }
 }
 
@@ -67,27 +83,20 @@ fn is_unagreed(k: Kind, unagreed: u64) -> bool
     }
 }
 
-fn is_one_more(count: u64, last: u64) -> bool
-    ensures { λ r. ⌜ r ≡ eqb count (last + 1) ⌝ }
-{
-    if count == 0 {
-        return false;
-    }
-    count - 1 == last
-}
-
 // .. and of how many records it has.
-fn is_count(k: Kind, j: u32, last: u64, unagreed: u64, count: u64) -> bool
-    ensures { λ r. ⌜ r ≡ countFits k j last unagreed count ⌝ }
+fn is_count(k: Kind, j: u32, first: u64, last: u64, unagreed: u64, count: u64) -> bool
+    ensures { λ r. ⌜ r ≡ countFits k j first last unagreed count ⌝ }
 {
-    let held = values::is_count(j, last, count);
-    let one_more = is_one_more(count, last);
+    let most = j as u64;
+    let held = values::is_count(j, first, last, count);
+    let agreed = values::is_agreed(j, first, last, count);
+    let full = values::is_full(j, first, last, count);
     match k {
         Kind::Collect => count == 0,
-        Kind::Last => held & ((unagreed == 0) | one_more),
-        Kind::Begin => count == 1,
+        Kind::Last => held & ((unagreed == 0) | full),
+        Kind::Begin => (count == 1) & (count <= most),
         Kind::Accept => count == 0,
-        Kind::Commit => count == last,
+        Kind::Commit => agreed,
         Kind::Lease => count == 0,
     }
 }
@@ -101,11 +110,13 @@ pub fn head_fault(w: &[u64], j: u32) -> Fault
     let k = kind_of(number);
     let kind = (1 <= number) & (number <= 6);
     let pn = is_pn(k, w[PN]);
-    let last = is_last(k, j, w[LAST]);
+    let last = is_last(k, w[LAST]);
+    let first = is_first(k, w[FIRST], w[LAST]);
     let unagreed = is_unagreed(k, w[UNAGREED]);
-    let count = is_count(k, j, w[LAST], w[UNAGREED], w[COUNT]);
+    let count = is_count(k, j, w[FIRST], w[LAST], w[UNAGREED], w[COUNT]);
     let f = values::unless(count, Field::Count, Fault::None);
     let f = values::unless(unagreed, Field::Unagreed, f);
+    let f = values::unless(first, Field::First, f);
     let f = values::unless(last, Field::Last, f);
     let f = values::unless(pn, Field::Pn, f);
     values::unless(kind, Field::Kind, f)

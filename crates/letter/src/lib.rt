@@ -1,10 +1,12 @@
-// One mail in lent words: five words of its fields, and then room for its records.
+// One mail in lent words: the words of its fields, and then room for its records.
 ghost use mathlib.Core.Path.{_≡_};
 ghost use lib.ListN.{getD};
-ghost use Rattle.rules.specs.Box.{heldAt};
+ghost use Rattle.rules.specs.Box.{nextOf};
 ghost use Rattle.letter.specs.Place.{kindOf, mailAt, letterAt};
 ghost use Rattle.letter.specs.Lent.{
   PlaceReadable,
+  Numbered,
+  agreedOf,
   enclosedFrom,
   enclosedCount,
   Encloses,
@@ -14,6 +16,7 @@ use rules::model::Held;
 use rules::model::Kind;
 use rules::model::Mail;
 use rules::numbers;
+use rules::parts;
 
 mod form;
 
@@ -27,11 +30,13 @@ pub const PN: usize = 1;
 
 pub const LAST: usize = 2;
 
-pub const UNAGREED: usize = 3;
+pub const FIRST: usize = 3;
 
-pub const COUNT: usize = 4;
+pub const UNAGREED: usize = 4;
 
-pub const HEAD: usize = 5;
+pub const COUNT: usize = 5;
+
+pub const HEAD: usize = 6;
 
 pub fn kind_of(x: u64) -> Kind
     ensures { λ r. ⌜ r ≡ kindOf x ⌝ }
@@ -54,11 +59,13 @@ pub fn load(place: &[u64]) -> Mail
     let kind = kind_of(place[KIND]);
     let pn = values::number(place[PN]);
     let last = values::number(place[LAST]);
+    let first = values::number(place[FIRST]);
     let unagreed = values::number(place[UNAGREED]);
     Mail {
         kind: kind,
         pn: pn,
         last: last,
+        first: first,
         unagreed: unagreed,
     }
 }
@@ -85,25 +92,32 @@ pub fn first_record(place: &[u64]) -> u64
     0
 }
 
+// How many of a mail's records are agreed.
+fn agreed(m: Mail) -> u32
+    requires { ⌜ Numbered m ⌝ }
+    ensures { λ r. ⌜ r ≡ agreedOf m ⌝ }
+{
+    parts::span(m.first, m.last)
+}
+
 // What it holds at its last+1.
 pub fn after_last(place: &[u64]) -> Held
     requires { ⌜ PlaceReadable (now place) ⌝ }
-    ensures { λ r.
-        ⌜ r ≡ heldAt (letterAt (now (place .entry)) .records)
-        (mailAt (now (place .entry)) .last) ⌝ }
+    requires { ⌜ Numbered (mailAt (now place)) ⌝ }
+    ensures { λ r. ⌜ r ≡ nextOf (letterAt (now (place .entry))) ⌝ }
 {
-    let last = values::number(place[LAST]);
-    values::held_at(records(place), last)
+    let m = load(place);
+    values::held_at(records(place), agreed(m))
 }
 
-// Where the records that go with a mail begin ..
-fn enclosed_from(k: Kind, last: u32) -> usize
-    ensures { λ r. ⌜ r ≡ enclosedFrom k last ⌝ }
+// Where the records that go with a mail begin, a of them agreed ..
+fn enclosed_from(k: Kind, a: u32) -> usize
+    ensures { λ r. ⌜ r ≡ enclosedFrom k a ⌝ }
 {
     match k {
         Kind::Collect => 0,
         Kind::Last => 0,
-        Kind::Begin => last as usize,
+        Kind::Begin => a as usize,
         Kind::Accept => 0,
         Kind::Commit => 0,
         Kind::Lease => 0,
@@ -111,15 +125,15 @@ fn enclosed_from(k: Kind, last: u32) -> usize
 }
 
 // .. and how many of those held they are.
-fn enclosed_count(k: Kind, last: u32, held: usize) -> usize
-    ensures { λ r. ⌜ r ≡ enclosedCount k last held ⌝ }
+fn enclosed_count(k: Kind, a: u32, held: usize) -> usize
+    ensures { λ r. ⌜ r ≡ enclosedCount k a held ⌝ }
 {
     match k {
         Kind::Collect => 0,
         Kind::Last => held,
         Kind::Begin => 1,
         Kind::Accept => 0,
-        Kind::Commit => last as usize,
+        Kind::Commit => a as usize,
         Kind::Lease => 0,
     }
 }
@@ -130,12 +144,14 @@ pub fn enclose(place: &mut [u64], m: Mail, records: &[u64])
     ensures { λ _. ⌜ Enclosed (now (place .entry)) m (now (records .entry)) (now (place .exit)) ⌝ }
 {
     let kind = m.kind;
-    let from = enclosed_from(kind, m.last);
-    let count = enclosed_count(kind, m.last, records.len());
+    let a = agreed(m);
+    let from = enclosed_from(kind, a);
+    let count = enclosed_count(kind, a, records.len());
     let fields = [
         values::wide(numbers::kind_number(kind)),
         values::wide(m.pn),
         values::wide(m.last),
+        values::wide(m.first),
         values::wide(m.unagreed),
         words::word(count),
     ];

@@ -29,6 +29,7 @@ pub enum Word {
     Propose,
     Agree,
     Finish,
+    Trim,
     Stop,
     Return,
     Timeout,
@@ -109,6 +110,7 @@ fn word_at(s: &[u8]) -> Word
     let w = or_word(b"timeout ", s, Word::Timeout, w);
     let w = or_word(b"return ", s, Word::Return, w);
     let w = or_word(b"stop ", s, Word::Stop, w);
+    let w = or_word(b"trim ", s, Word::Trim, w);
     let w = or_word(b"finish ", s, Word::Finish, w);
     let w = or_word(b"agree ", s, Word::Agree, w);
     let w = or_word(b"propose ", s, Word::Propose, w);
@@ -134,6 +136,7 @@ fn width(w: Word) -> usize
         Word::Propose => 8,
         Word::Agree => 6,
         Word::Finish => 7,
+        Word::Trim => 5,
         Word::Stop => 5,
         Word::Return => 7,
         Word::Timeout => 8,
@@ -159,6 +162,7 @@ fn arity(w: Word) -> u32
         Word::Propose => 1,
         Word::Agree => 1,
         Word::Finish => 1,
+        Word::Trim => 2,
         Word::Stop => 1,
         Word::Return => 1,
         Word::Timeout => 1,
@@ -293,6 +297,7 @@ fn line_with(w: Word, n: Numbers) -> Line
         Word::Propose => Line::Call(Call::Propose(n.d)),
         Word::Agree => Line::Call(Call::Agree(n.d)),
         Word::Finish => Line::Call(Call::Finish(n.d)),
+        Word::Trim => Line::Call(Call::Trim(n.c, n.d)),
         Word::Stop => Line::Call(Call::Stop(n.d)),
         Word::Return => Line::Call(Call::Return(n.d)),
         Word::Timeout => Line::Call(Call::Timeout(n.d)),

@@ -1,4 +1,4 @@
--- What a turn makes of the records in a row: one is put, or those of a mail are taken.
+-- What a turn makes of the records in a row: some leave, one is put, or those of a mail are taken.
 use mathlib.Core.Path.{_≡_, refl, sym, ap, _∙_}
 use mathlib.Core.List.{List, [], _∷_, _++_}
 use Prim.Native.Nat.{ℕ, _+_, _-_, _≤_, _<_}
@@ -8,14 +8,15 @@ use native.Mathlib.Omega.{arith}
 use lib.ListN.{length, take, drop, getD, set, length-set, length-append, length-take, length-drop}
 use lib.Seq.{take-all, take-take, take-suc-set, drop-set-add}
 use Rattle.words.specs.Rows.{part, splice}
-use Rattle.words.proofs.PartLaws.{length-part, length-splice, part-part, part-drop, drop-splice}
-use Rattle.words.proofs.PartLaws.{take-splice-end}
+use Rattle.words.proofs.PartLaws.{length-part, length-splice, part-part, part-drop, part-splice}
+use Rattle.words.proofs.PartLaws.{drop-splice, take-splice-end}
 use Rattle.rules.specs.Box.{written}
 use Rattle.rules.specs.declared.model.Book.{Book}
 use Rattle.rules.specs.declared.model.Turn.{Turn}
-use Rattle.letter.specs.Place.{letterAt}
-use Rattle.row.specs.Row.{wordsOf}
-use Rattle.row.specs.Lent.{countAfter, Writes, Wrote, Plays, Played}
+use Rattle.letter.specs.Place.{letterAt, headWords as letterHead, countAt as letterCount}
+use Rattle.row.specs.Row.{wordsOf, headWords, countAt}
+use Rattle.row.specs.Lent.{recordsOf, moved, countAfter, CountFits, Writes, Wrote, Plays}
+use Rattle.row.specs.Lent.{Played}
 use Rattle.row.proofs.StoreLaws.{box-stored, fits-stored}
 
 -- ---- parts
@@ -26,11 +27,6 @@ in-part xs a k l h =
     let m = simp (length-take, length-drop) at h in
     (omega arith, omega arith)
 
--- The first l of a part are the first l from its start on.
-take-part : (xs : List ℕ) (a k l : ℕ) → l ≤ length (part xs a k)
-    → take l (part xs a k) ≡ take l (drop a xs)
-take-part xs a k l h = take-take l k (drop a xs) (in-part xs a k l h .0)
-
 -- The elements a + 1 to l.
 drop-take : (xs : List ℕ) (a l : ℕ) → a ≤ l → l ≤ length xs → drop a (take l xs) ≡ part xs a (l - a)
 drop-take xs a l h m =
@@ -40,89 +36,181 @@ drop-take xs a l h m =
     ∙ part-part 0 l a (l - a) xs (omega arith)
     ∙ ap (λ (k : ℕ). part xs k (l - a)) (zero-add a)
 
--- What is put from h + a to h + l follows the first a behind h.
-put-behind : (h a l : ℕ) (xs ys : List ℕ) → a ≤ l → h + l ≤ length xs → length ys ≡ l - a
-    → take l (drop h (splice xs (h + a) (l - a) ys)) ≡ take a (drop h xs) ++ ys
-put-behind h a l xs ys le room long =
-    let start : a ≤ length (drop h xs) = rw length-drop (omega arith) in
-    let whole : l ≡ a + (l - a) = omega arith in
-    rw (drop-splice h a (l - a) xs ys (omega arith))
-    (ap (λ (k : ℕ). take k (splice (drop h xs) a (l - a) ys)) whole
-    ∙ take-splice-end a (l - a) (drop h xs) ys start long)
+-- All but b of the first e of a part, as they stand behind its start h.
+within-part : (xs : List ℕ) (h k b e : ℕ) → b ≤ e → e ≤ length (part xs h k)
+    → drop b (take e (part xs h k)) ≡ part xs (h + b) (e - b)
+within-part xs h k b e le held =
+    let i = in-part xs h k e held in
+    let some : e ≤ length (drop h xs) = rw length-drop (i .1) in
+    ap (drop b) (take-take e k (drop h xs) (i .0))
+    ∙ drop-take (drop h xs) b e le some
+    ∙ part-drop h b (e - b) xs
 
 -- ---- what the code of `write` has written, book by book
+
+-- of the first a records the first d leave
+module _ (r : List ℕ) (d a : ℕ) (le : d ≤ a) (room : headWords + a ≤ length r) where
+  long : length (part r (headWords + d) (a - d)) ≡ a - d
+  long = length-part (headWords + d) (a - d) r (omega arith)
+
+  pub moved-length : length (moved d a r) ≡ length r
+  moved-length =
+      length-splice headWords (a - d) r (part r (headWords + d) (a - d)) (omega arith) long
+
+  pub moved-records : take (a - d) (drop headWords (moved d a r))
+      ≡ part r (headWords + d) (a - d)
+  moved-records =
+      part-splice headWords (a - d) r (part r (headWords + d) (a - d)) (omega arith) long
 
 module _ (r p : List ℕ) where
   pub keep-law : Wrote r p Book.Keep r
   unfolding written
   keep-law = record { words = refl; records = refl }
 
-  pub put-law : (l v : ℕ) (q : List ℕ) → Writes r p (Book.Put l v) → q ≡ set r (20 + l) v
-      → Wrote r p (Book.Put l v) q
+  -- A book that fits leaves the records within the row.
+  kept-room : {J a : ℕ} → length r ≡ headWords + J → getD r countAt 0 ≤ J
+      → a ≤ length (recordsOf r) → headWords + a ≤ length r
+  kept-room {J} {a} w c h = omega (arith, in-part r headWords (getD r countAt 0) a h .0)
+
+  -- .. and what stays of the first a is what the book says.
+  stays : (d a : ℕ) → d ≤ a → a ≤ length (recordsOf r) → headWords + a ≤ length r
+      → take (a - d) (drop headWords (moved d a r)) ≡ drop d (take a (recordsOf r))
+  stays d a le held room =
+      moved-records r d a le room
+      ∙ sym (within-part r headWords (getD r countAt 0) d a le held)
+
+  pub drop-room : (d : ℕ) → Writes r p (Book.Drop d)
+      → (d ≤ getD r countAt 0) × (headWords + getD r countAt 0 ≤ length r)
+  drop-room d w =
+      let i = in-part r headWords (getD r countAt 0) d (w .book) in
+      (i .0, omega (arith, w .words, w .count))
+
+  pub drop-law : (d : ℕ) (q : List ℕ) → Writes r p (Book.Drop d)
+      → q ≡ moved d (getD r countAt 0) r → Wrote r p (Book.Drop d) q
   unfolding written
-  put-law l v q w e =
-      let at : l < length (drop 20 r) = rw length-drop (omega (arith, w .words, w .book .1)) in
+  drop-law d q w e =
+      let c = getD r countAt 0 in
+      let room = drop-room d w in
+      let whole : c ≤ length (recordsOf r) =
+      rw (length-part headWords c r (room .1)) (omega arith) in
       rw e
       (record {
-        words = length-set r (20 + l) v;
+        words = moved-length r d c (room .0) (room .1);
         records =
-            rw (add-one, drop-set-add 20 r l v, take-suc-set (drop 20 r) l v at)
+            stays d c (room .0) whole (room .1)
+            ∙ ap (drop d) (take-all c (recordsOf r) (few c));
+      })
+    where
+      few : (c : ℕ) → length (part r headWords c) ≤ c
+      few c = rw length-take (omega arith)
+
+  pub put-room : (d a v : ℕ) → Writes r p (Book.Put d a v)
+      → (d ≤ a) × (headWords + a ≤ length r) × (headWords + (a - d) < length r)
+  put-room d a v w = (
+    w .book .0,
+    kept-room (w .words) (w .count) (w .book .1),
+    omega (arith, w .words, w .book .2),
+  )
+
+  pub put-law : (d a v : ℕ) (q : List ℕ) → Writes r p (Book.Put d a v)
+      → q ≡ set (moved d a r) (headWords + (a - d)) v → Wrote r p (Book.Put d a v) q
+  unfolding written
+  put-law d a v q w e =
+      let m = moved d a r in
+      let room = put-room d a v w in
+      let same = moved-length r d a (room .0) (room .1) in
+      let at : a - d < length (drop headWords m) = rw (length-drop, same) (omega (arith, room .2)) in
+      rw e
+      (record {
+        words = length-set m (headWords + (a - d)) v ∙ same;
+        records =
+            rw (
+              add-one,
+              drop-set-add headWords m (a - d) v,
+              take-suc-set (drop headWords m) (a - d) v at,
+            )
             (ap (λ (f : List ℕ). f ++ (v ∷ []))
-            (sym (take-part r 20 (getD r 19 0) l (w .book .0))));
+            (stays d a (room .0) (w .book .1) (room .1)));
       })
 
-  -- The mail's place has the records that are taken ..
-  pub room-for : (a l : ℕ) → Writes r p (Book.Take a l) → 5 + l ≤ length p
-  room-for a l w = omega (arith, in-part p 5 (getD p 4 0) l (w .book .2) .1, w .book .1)
+  -- The mail's place has the records that are taken, and the row has room for them.
+  pub record TakeRoom (d a b e : ℕ) : Type 0 where
+    pub stay : d ≤ a
+    pub kept : headWords + a ≤ length r
+    pub some : b ≤ e
+    pub there : letterHead + e ≤ length p
+    pub room : headWords + (a - d) + (e - b) ≤ length r
 
-  -- .. and they are those that the code cuts out.
-  taken : (a l : ℕ) → Writes r p (Book.Take a l)
-      → drop a (take l (letterAt p .records)) ≡ part p (5 + a) (l - a)
-  taken a l w =
-      let some : l ≤ length (drop 5 p) = rw length-drop (omega (arith, room-for a l w)) in
-      ap (drop a) (take-part p 5 (getD p 4 0) l (w .book .2))
-      ∙ drop-take (drop 5 p) a l (omega (arith, w .book .1)) some
-      ∙ part-drop 5 a (l - a) p
+  pub take-room : (d a b e : ℕ) → Writes r p (Book.Take d a b e) → TakeRoom d a b e
+  take-room d a b e w =
+      let i = in-part p letterHead (getD p letterCount 0) e (w .book .3) in
+      record {
+        stay = w .book .0;
+        kept = kept-room (w .words) (w .count) (w .book .1);
+        some = omega (arith, w .book .2);
+        there = omega (arith, i .1, w .book .2);
+        room = omega (arith, w .words, w .book .4);
+      }
 
-  pub take-law : (a l : ℕ) (q : List ℕ) → Writes r p (Book.Take a l)
-      → q ≡ splice r (20 + a) (l - a) (part p (5 + a) (l - a))
-      → Wrote r p (Book.Take a l) q
+  pub take-law : (d a b e : ℕ) (q : List ℕ) → Writes r p (Book.Take d a b e)
+      → q ≡ splice (moved d a r) (headWords + (a - d)) (e - b) (part p (letterHead + b) (e - b))
+      → Wrote r p (Book.Take d a b e) q
   unfolding written
-  take-law a l q w e =
-      let ys = part p (5 + a) (l - a) in
-      let le : a ≤ l = omega (arith, w .book .1) in
-      let room : 20 + l ≤ length r = omega (arith, w .words, w .book .3) in
-      let there : 5 + a + (l - a) ≤ length p = omega (arith, room-for a l w) in
-      let long = length-part (5 + a) (l - a) p there in
-      rw e
+  take-law d a b e q w eq =
+      let m = moved d a r in
+      let ys = part p (letterHead + b) (e - b) in
+      let z = take-room d a b e w in
+      let same = moved-length r d a (z .stay) (z .kept) in
+      let there : letterHead + b + (e - b) ≤ length p = omega (arith, z .there, z .some) in
+      let long = length-part (letterHead + b) (e - b) p there in
+      let fits : headWords + (a - d) ≤ length m = rw same (omega (arith, z .room)) in
+      let start : a - d ≤ length (drop headWords m) =
+      rw (length-drop, same) (omega (arith, z .room)) in
+      rw eq
       (record {
-        words = length-splice (20 + a) (l - a) r ys (omega arith) long;
+        words =
+            length-splice (headWords + (a - d)) (e - b) m ys (rw same (z .room)) long ∙ same;
         records =
-            rw (put-behind 20 a l r ys le room long, taken a l w)
-            (ap (λ (f : List ℕ). f ++ ys) (sym (take-part r 20 (getD r 19 0) a (w .book .0))));
+            rw (
+              drop-splice headWords (a - d) (e - b) m ys fits,
+              take-splice-end (a - d) (e - b) (drop headWords m) ys start long,
+              stays d a (z .stay) (w .book .1) (z .kept),
+              within-part p letterHead (getD p letterCount 0) b e (z .some) (w .book .3),
+            );
       })
 
 -- ---- what the code of `play` has written
 
--- The new count has room.
-pub after-fits : (r p : List ℕ) (b : Book) (w : Writes r p b) → countAfter b (getD r 19 0) ≤ w .J
+-- The new count has room ..
+pub after-fits : (r p : List ℕ) (b : Book) (w : Writes r p b)
+    → countAfter b (getD r countAt 0) ≤ w .J
 after-fits r p Book.Keep w = w .count
-after-fits r p (Book.Put l v) w = omega (arith, w .book .1)
-after-fits r p (Book.Take a l) w = w .book .3
+after-fits r p (Book.Drop d) w = omega (arith, w .count)
+after-fits r p (Book.Put d a v) w = omega (arith, w .book .2)
+after-fits r p (Book.Take d a b e) w = w .book .4
+
+-- .. and can be counted.
+pub count-fits : (r p : List ℕ) (b : Book) → Writes r p b → CountFits b (getD r countAt 0)
+count-fits r p Book.Keep w = tt
+count-fits r p (Book.Drop d) w = in-part r headWords (getD r countAt 0) d (w .book) .0
+count-fits r p (Book.Put d a v) w = (w .book .0, omega (arith, w .book .2, w .loads))
+count-fits r p (Book.Take d a b e) w =
+    (w .book .0, omega (arith, w .book .2), omega (arith, w .book .4, w .loads))
 
 -- The row holds the box after its turn.
 pub play-law : (n : ℕ) (r p : List ℕ) (t : Turn) → Plays n r p t → (count held : ℕ) (s q : List ℕ)
-    → count ≡ getD r 19 0 → held ≡ countAfter (t .book) count → Wrote r p (t .book) s
-    → q ≡ wordsOf (t .next) held ++ drop 20 s → Played n r p t q
+    → count ≡ getD r countAt 0 → held ≡ countAfter (t .book) count → Wrote r p (t .book) s
+    → q ≡ wordsOf (t .next) held ++ drop headWords s → Played n r p t q
 play-law n r p t ok count held s q ec eh w eq =
     let h = t .next in
-    let held-is : held ≡ countAfter (t .book) (getD r 19 0) = eh ∙ ap (countAfter (t .book)) ec in
+    let held-is : held ≡ countAfter (t .book) (getD r countAt 0) =
+    eh ∙ ap (countAfter (t .book)) ec in
     let room : held ≤ ok .writes .J = rw held-is (after-fits r p (t .book) (ok .writes)) in
     rw eq
     (record {
       box =
-          box-stored n h held (drop 20 s) (ok .five) (ok .above)
+          box-stored n h held (drop headWords s) (ok .five) (ok .above)
           ∙ ap (λ (rs : List ℕ). record { head = h; records = rs }) (rw held-is (w .records));
       words = simp (length-append, length-drop) (omega (arith, w .words, ok .writes .words));
-      fits = λ J e. fits-stored J h held (drop 20 s) (omega (arith, ok .writes .words));
+      fits = λ J e. fits-stored J h held (drop headWords s) (omega (arith, ok .writes .words));
     })

@@ -8,26 +8,27 @@ use borrow.Author.Tests.{leb-true, le-leb}
 use lib.ListN.{length, getD}
 use Rattle.words.proofs.PartLaws.{length-part}
 use Rattle.rules.specs.Every.{all, each, every}
-use Rattle.rules.specs.Sizes.{mostBoxes, mostPn, proper, recordForm}
+use Rattle.rules.specs.Sizes.{mostBoxes, mostNumber, mostPn, proper, recordForm}
 use Rattle.rules.specs.Sets.{setForm}
-use Rattle.rules.specs.Form.{countForm, peerForm, formBox}
+use Rattle.rules.specs.Form.{firstForm, countForm, peerForm, formBox}
+use Rattle.values.specs.Counts.{heldCount}
 use Rattle.values.specs.Faults.{isWhole}
 use Rattle.values.specs.declared.Fault.{Fault}
 use Rattle.values.proofs.AllLaws.{all-at}
 use Rattle.values.proofs.FaultLaws.{then-passed, passed-then}
-use Rattle.values.proofs.RecordLaws.{count-last, count-room}
+use Rattle.values.proofs.CountLaws.{first-says, held-room, held-form}
 use Rattle.values.proofs.SetLaws.{set-fits}
 use Rattle.row.specs.Row.{headOf, boxOf, rowFits, rowForm, headWords, mostState, mostPhase}
-use Rattle.row.specs.Row.{flagAt, stateAt, phaseAt, pnAt, lastAt, storedPnAt, storedNumberAt}
-use Rattle.row.specs.Row.{bestPnAt, bestNumberAt, answeredAt, acceptsAt, bestAt, waitingAt}
-use Rattle.row.specs.Row.{agreeingAt, countAt}
+use Rattle.row.specs.Row.{flagAt, stateAt, phaseAt, pnAt, lastAt, firstAt, storedPnAt}
+use Rattle.row.specs.Row.{storedNumberAt, bestPnAt, bestNumberAt, answeredAt, acceptsAt}
+use Rattle.row.specs.Row.{bestAt, waitingAt, agreeingAt, countAt}
 use Rattle.row.specs.Lent.{RowSized, RowReadable, recordsOf}
 use Rattle.row.specs.Faults.{numberTests, valueTests, peerTests, countTest, headFault}
 use Rattle.row.proofs.PeerLaws.{every-says, every-five, peer-fits}
 
 -- every peer of the words of box b is by form
-abbrev pub peersFit : ℕ → ℕ → ℕ → List ℕ → Bool
-peersFit n J b w = every mostBoxes (peerForm n J b (headOf n w .peers))
+abbrev pub peersFit : ℕ → ℕ → List ℕ → Bool
+peersFit n b w = every mostBoxes (peerForm n b (headOf n w .peers))
 
 -- what the words say where no field is amiss
 pub record HeadSays (n J b : ℕ) (w : List ℕ) : Type 0 where
@@ -35,70 +36,84 @@ pub record HeadSays (n J b : ℕ) (w : List ℕ) : Type 0 where
   pub state : getD w stateAt 0 ≤ mostState
   pub phase : getD w phaseAt 0 ≤ mostPhase
   pub pn : getD w pnAt 0 ≤ mostPn
-  pub last : getD w lastAt 0 ≤ J
+  pub last : getD w lastAt 0 ≤ mostNumber
+  pub first : firstForm (getD w firstAt 0) (getD w lastAt 0) ≡ true
   pub stored-pn : getD w storedPnAt 0 ≤ mostPn
-  pub stored-number : getD w storedNumberAt 0 ≤ J
+  pub stored-number : getD w storedNumberAt 0 ≤ mostNumber
   pub best-pn : getD w bestPnAt 0 ≤ mostPn
-  pub best-number : getD w bestNumberAt 0 ≤ J
+  pub best-number : getD w bestNumberAt 0 ≤ mostNumber
   pub answered : setForm n (getD w answeredAt 0) ≡ true
   pub accepts : setForm n (getD w acceptsAt 0) ≡ true
   pub best : recordForm (getD w bestAt 0) ≡ true
   pub waiting : recordForm (getD w waitingAt 0) ≡ true
   pub agreeing : recordForm (getD w agreeingAt 0) ≡ true
-  pub peers : peersFit n J b w ≡ true
-  pub counted : countForm J (getD w lastAt 0) (getD w countAt 0) ≡ true
+  pub peers : peersFit n b w ≡ true
+  pub counted : countForm J (getD w firstAt 0) (getD w lastAt 0) (getD w countAt 0) ≡ true
   pub count : getD w countAt 0 ≤ J
+
+-- what is held is what the paper says, of words in their ranges
+module _ (w : List ℕ) (J : ℕ) (first : firstForm (getD w firstAt 0) (getD w lastAt 0) ≡ true)
+    (last : getD w lastAt 0 ≤ mostNumber) where
+  held-is : heldCount J (getD w firstAt 0) (getD w lastAt 0) (getD w countAt 0)
+      ≡ countForm J (getD w firstAt 0) (getD w lastAt 0) (getD w countAt 0)
+  held-is =
+      held-form J (getD w firstAt 0) (getD w lastAt 0) (getD w countAt 0) last
+      (first-says (getD w firstAt 0) (getD w lastAt 0) first .1)
 
 module _ (n J b : ℕ) (w : List ℕ) where
   pub head-says : headFault n J b w ≡ Fault.None → HeadSays n J b w
   unfolding headFault
   head-says e =
-      let one = then-passed (numberTests J w) _ e in
+      let one = then-passed (numberTests w) _ e in
       let two = then-passed (valueTests n w) _ (one .1) in
-      let three = then-passed (peerTests n J b w) _ (two .1) in
+      let three = then-passed (peerTests n b w) _ (two .1) in
       let four = then-passed (countTest J w) _ (three .1) in
       let counted = all-at 0 _ (four .0) in
+      let last = leb-true _ _ (all-at 4 _ (one .0)) in
+      let first = all-at 5 _ (one .0) in
       record {
         flag = leb-true _ _ (all-at 0 _ (one .0));
         state = leb-true _ _ (all-at 1 _ (one .0));
         phase = leb-true _ _ (all-at 2 _ (one .0));
         pn = leb-true _ _ (all-at 3 _ (one .0));
-        last = leb-true _ _ (all-at 4 _ (one .0));
-        stored-pn = leb-true _ _ (all-at 5 _ (one .0));
-        stored-number = leb-true _ _ (all-at 6 _ (one .0));
-        best-pn = leb-true _ _ (all-at 7 _ (one .0));
-        best-number = leb-true _ _ (all-at 8 _ (one .0));
+        last = last;
+        first = first;
+        stored-pn = leb-true _ _ (all-at 6 _ (one .0));
+        stored-number = leb-true _ _ (all-at 7 _ (one .0));
+        best-pn = leb-true _ _ (all-at 8 _ (one .0));
+        best-number = leb-true _ _ (all-at 9 _ (one .0));
         answered = all-at 0 _ (two .0);
         accepts = all-at 1 _ (two .0);
         best = all-at 2 _ (two .0);
         waiting = all-at 3 _ (two .0);
         agreeing = all-at 4 _ (two .0);
-        peers = sym (every-five (peerForm n J b (headOf n w .peers))) ∙ five (three .0);
-        counted = counted;
-        count = count-room J (getD w lastAt 0) (getD w countAt 0) counted;
+        peers = sym (every-five (peerForm n b (headOf n w .peers))) ∙ five (three .0);
+        counted = sym (held-is w J first last) ∙ counted;
+        count = held-room J (getD w firstAt 0) (getD w lastAt 0) (getD w countAt 0) counted;
       }
     where
-      five : all (peerForm n J b (headOf n w .peers) 1
-          ∷ peerForm n J b (headOf n w .peers) 2
-          ∷ peerForm n J b (headOf n w .peers) 3
-          ∷ peerForm n J b (headOf n w .peers) 4
-          ∷ peerForm n J b (headOf n w .peers) 5
+      five : all (peerForm n b (headOf n w .peers) 1
+          ∷ peerForm n b (headOf n w .peers) 2
+          ∷ peerForm n b (headOf n w .peers) 3
+          ∷ peerForm n b (headOf n w .peers) 4
+          ∷ peerForm n b (headOf n w .peers) 5
           ∷ []) ≡ true
-          → (peerForm n J b (headOf n w .peers) 5 && peerForm n J b (headOf n w .peers) 4
-          && peerForm n J b (headOf n w .peers) 3 && peerForm n J b (headOf n w .peers) 2
-          && peerForm n J b (headOf n w .peers) 1) ≡ true
+          → (peerForm n b (headOf n w .peers) 5 && peerForm n b (headOf n w .peers) 4
+          && peerForm n b (headOf n w .peers) 3 && peerForm n b (headOf n w .peers) 2
+          && peerForm n b (headOf n w .peers) 1) ≡ true
       five t = rw (all-at 0 _ t, all-at 1 _ t, all-at 2 _ t, all-at 3 _ t, all-at 4 _ t)
 
   pub head-whole : HeadSays n J b w → headFault n J b w ≡ Fault.None
   unfolding headFault all
   head-whole h =
-      passed-then (numberTests J w)
+      passed-then (numberTests w)
       (rw (
         le-leb _ _ (h .flag),
         le-leb _ _ (h .state),
         le-leb _ _ (h .phase),
         le-leb _ _ (h .pn),
         le-leb _ _ (h .last),
+        h .first,
         le-leb _ _ (h .stored-pn),
         le-leb _ _ (h .stored-number),
         le-leb _ _ (h .best-pn),
@@ -106,7 +121,7 @@ module _ (n J b : ℕ) (w : List ℕ) where
       ))
       (passed-then (valueTests n w)
       (rw (h .answered, h .accepts, h .best, h .waiting, h .agreeing))
-      (passed-then (peerTests n J b w)
+      (passed-then (peerTests n b w)
       (rw (
         peer 1 (omega arith) (omega arith),
         peer 2 (omega arith) (omega arith),
@@ -114,9 +129,9 @@ module _ (n J b : ℕ) (w : List ℕ) where
         peer 4 (omega arith) (omega arith),
         peer 5 (omega arith) (omega arith),
       ))
-      (passed-then (countTest J w) (rw (h .counted)) refl)))
+      (passed-then (countTest J w) (rw (held-is w J (h .first) (h .last), h .counted)) refl)))
     where
-      peer : (k : ℕ) → 1 ≤ k → k ≤ mostBoxes → peerForm n J b (headOf n w .peers) k ≡ true
+      peer : (k : ℕ) → 1 ≤ k → k ≤ mostBoxes → peerForm n b (headOf n w .peers) k ≡ true
       peer k low top = every-says mostBoxes _ k (h .peers) low top
 
 -- ---- a row
@@ -143,16 +158,17 @@ pub readable : (n J b : ℕ) (r : List ℕ) → RowSized n J r → HeadSays n J 
 readable n J b r z g = record {
   room = omega (arith, z .words, g .count);
   pn = omega (arith, g .pn);
-  last = omega (arith, z .loads, g .last);
+  last = omega (arith, g .last);
+  first = omega (arith, g .last, first-says (getD r firstAt 0) (getD r lastAt 0) (g .first) .1);
   stored-pn = omega (arith, g .stored-pn);
-  stored-number = omega (arith, z .loads, g .stored-number);
+  stored-number = omega (arith, g .stored-number);
   best-pn = omega (arith, g .best-pn);
-  best-number = omega (arith, z .loads, g .best-number);
+  best-number = omega (arith, g .best-number);
   answered = set-fits n (getD r answeredAt 0) (z .boxes) (g .answered);
   accepts = set-fits n (getD r acceptsAt 0) (z .boxes) (g .accepts);
   peers = λ k a i.
       let m : k ≤ mostBoxes = omega (arith, z .boxes) in
-      peer-fits n J b r k a m (z .loads) i (every-says mostBoxes _ k (g .peers) a m);
+      peer-fits n b r k a m i (every-says mostBoxes _ k (g .peers) a m);
 }
 
 -- What the form of a row says.
@@ -171,30 +187,31 @@ module _ (n J b : ℕ) (r : List ℕ) (z : RowSized n J r) where
       let fits = all-at 0 _ e in
       let box = all-at 1 _ e in
       let count = leb-true (getD r countAt 0) J (all-at 3 _ fits) in
-      let counted = rw (count-held n J r z count) at (all-at 0 _ box) in
+      let counted = rw (count-held n J r z count) at (all-at 2 _ box) in
       let says : HeadSays n J b r = record {
         flag = leb-true _ _ (all-at 0 _ fits);
         state = leb-true _ _ (all-at 1 _ fits);
         phase = leb-true _ _ (all-at 2 _ fits);
-        pn = leb-true _ _ (all-at 2 _ box);
-        last = count-last J (getD r lastAt 0) (getD r countAt 0) counted;
-        stored-pn = leb-true _ _ (all-at 3 _ box);
-        stored-number = leb-true _ _ (all-at 4 _ box);
-        best-pn = leb-true _ _ (all-at 5 _ box);
-        best-number = leb-true _ _ (all-at 6 _ box);
-        answered = all-at 8 _ box;
-        accepts = all-at 9 _ box;
-        best = all-at 7 _ box;
-        waiting = all-at 10 _ box;
-        agreeing = all-at 11 _ box;
-        peers = all-at 13 _ box;
+        pn = leb-true _ _ (all-at 4 _ box);
+        last = leb-true _ _ (all-at 0 _ box);
+        first = all-at 1 _ box;
+        stored-pn = leb-true _ _ (all-at 5 _ box);
+        stored-number = leb-true _ _ (all-at 6 _ box);
+        best-pn = leb-true _ _ (all-at 7 _ box);
+        best-number = leb-true _ _ (all-at 8 _ box);
+        answered = all-at 10 _ box;
+        accepts = all-at 11 _ box;
+        best = all-at 9 _ box;
+        waiting = all-at 12 _ box;
+        agreeing = all-at 13 _ box;
+        peers = all-at 15 _ box;
         counted = counted;
         count = count;
       } in
       record {
         fits = fits;
         box = box;
-        proper = all-at 1 _ box;
+        proper = all-at 3 _ box;
         whole = head-whole n J b r says;
         says = says;
         readable = readable n J b r z says;
@@ -211,6 +228,8 @@ module _ (n J b : ℕ) (r : List ℕ) (z : RowSized n J r) where
         le-leb _ _ (h .state),
         le-leb _ _ (h .phase),
         le-leb _ _ (h .count),
+        le-leb _ _ (h .last),
+        h .first,
         counted,
         le-leb _ _ (h .pn),
         le-leb _ _ (h .stored-pn),

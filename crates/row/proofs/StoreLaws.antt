@@ -11,7 +11,7 @@ use Rattle.words.proofs.PartLaws.{gets-all}
 use Rattle.rules.specs.Every.{all}
 use Rattle.rules.specs.Sizes.{mostBoxes, unknown}
 use Rattle.rules.specs.declared.model.BoxState.{BoxState}
-use Rattle.row.specs.Row.{boxOf, rowFits, wordsOf}
+use Rattle.row.specs.Row.{boxOf, rowFits, wordsOf, headWords}
 use Rattle.row.proofs.NumberLaws.{flag-back, state-back, phase-back}
 use Rattle.row.proofs.NumberLaws.{flag-in, state-in, phase-in}
 
@@ -73,5 +73,5 @@ fits-stored J h count rest room =
 
 -- What the code of `store` has written is the head's words, and behind them what was there.
 pub store-law : (r : List ℕ) (h : BoxState) (held : ℕ) (ws : List ℕ) → ws ≡ wordsOf h held
-    → ws ++ drop 20 r ≡ wordsOf h held ++ drop 20 r
-store-law r h held ws e = ap (λ (l : List ℕ). l ++ drop 20 r) e
+    → ws ++ drop headWords r ≡ wordsOf h held ++ drop headWords r
+store-law r h held ws e = ap (λ (l : List ℕ). l ++ drop headWords r) e

@@ -2,12 +2,13 @@
 use mathlib.Core.Path.{_≡_, refl, sym, _∙_}
 use mathlib.Core.Bool.{true, _&&_}
 use mathlib.Core.List.{List}
-use Prim.Native.Nat.{ℕ}
+use Prim.Native.Nat.{ℕ, _+_, _≤_}
 use native.Mathlib.Omega.{arith}
 use borrow.Author.Tests.{le-leb}
 use lib.ListN.{getD}
-use Rattle.rules.specs.Sizes.{mostBoxes, mostLoads, mostPn}
-use Rattle.rules.specs.Box.{heldAt, own, mail, turnOf}
+use Rattle.rules.specs.Sizes.{mostBoxes, mostLoads, mostNumber, mostPn}
+use Rattle.rules.specs.Parts.{span}
+use Rattle.rules.specs.Box.{heldAt, nextOf, own, mail, turnOf}
 use Rattle.rules.specs.Mails.{onMail}
 use Rattle.rules.specs.Steps.{acted}
 use Rattle.rules.specs.Bounds.{boundedBox, boundedMail, anyMail, anyAct}
@@ -18,9 +19,11 @@ use Rattle.rules.specs.declared.model.Mail.{Mail}
 use Rattle.rules.specs.declared.model.Setting.{Setting}
 use Rattle.rules.specs.declared.model.Turn.{Turn}
 use Rattle.rules.proofs.BoundLaws.{guard-go}
-use Rattle.letter.specs.Place.{mailAt, letterAt}
+use Rattle.values.proofs.CountLaws.{first-says}
+use Rattle.letter.specs.Place.{mailAt, letterAt, pnAt as letterPn, lastAt as letterLast}
+use Rattle.letter.specs.Place.{firstAt as letterFirst}
 use Rattle.letter.proofs.FormLaws as places
-use Rattle.row.specs.Row.{headOf, boxOf}
+use Rattle.row.specs.Row.{headOf, boxOf, pnAt, lastAt, firstAt}
 use Rattle.row.specs.Lent.{RowByForm, PlaceByForm, recordsOf}
 use Rattle.row.proofs.FormLaws.{RowFormed, formed}
 
@@ -42,19 +45,24 @@ module _ (s : Setting) (r : List ℕ) (ok : RowByForm s r) where
   pub row-formed : RowFormed (s .n) (s .j) (s .me) r
   row-formed = formed (s .n) (s .j) (s .me) r (ok .size) (ok .form)
 
+  pub first-within : getD r firstAt 0 ≤ getD r lastAt 0 + 1
+  first-within = first-says (getD r firstAt 0) (getD r lastAt 0) (row-formed .says .first) .1
+
   bounded : boundedBox (headOf (s .n) r) s ≡ true
   unfolding boundedBox
   bounded =
       let f = row-formed in
       rw (
-        le-leb (getD r 3 0) mostPn (f .says .pn),
-        le-leb (getD r 4 0) mostLoads (omega (arith, f .says .last, ok .size .loads)),
+        le-leb (getD r pnAt 0) mostPn (f .says .pn),
+        le-leb (getD r lastAt 0) mostNumber (f .says .last),
+        le-leb (getD r firstAt 0) (getD r lastAt 0 + 1) first-within,
         le-leb (s .me) mostBoxes (ok .me),
+        le-leb (s .j) mostLoads (ok .size .loads),
       )
 
   -- What the code of `act_turn` has computed is the box's own step.
   pub act-law : (a : Act) (head : BoxState) (rs : List ℕ) (mine : Held) (t : Turn)
-      → head ≡ headOf (s .n) r → rs ≡ recordsOf r → mine ≡ heldAt rs (head .kept .last)
+      → head ≡ headOf (s .n) r → rs ≡ recordsOf r → mine ≡ heldAt rs (span (head .kept .first) (head .kept .last))
       → t ≡ anyAct head s a mine → t ≡ turnOf s (boxOf (s .n) r) (own a)
   act-law a head rs mine t eh er em et =
       et ∙ rw (em, eh, er) (any-act-in (headOf (s .n) r) s bounded a _)
@@ -69,16 +77,17 @@ module _ (s : Setting) (r : List ℕ) (ok : RowByForm s r) where
     bounded-mail =
         let g = place-formed .says .kind in
         rw (
-          le-leb (getD p 1 0) mostPn (g .pn),
-          le-leb (getD p 2 0) mostLoads (omega (arith, g .last, ok .size .loads)),
+          le-leb (getD p letterPn 0) mostPn (g .pn),
+          le-leb (getD p letterLast 0) mostNumber (g .last),
+          le-leb (getD p letterFirst 0) (getD p letterLast 0 + 1) (g .first),
         )
 
     -- What the code of `mail_turn` has computed is what the mail makes of the box.
     pub mail-law : (sender : ℕ) (head : BoxState) (rs : List ℕ) (mine : Held)
         (m : Mail) (one : ℕ) (next : Held) (t : Turn)
-        → head ≡ headOf (s .n) r → rs ≡ recordsOf r → mine ≡ heldAt rs (head .kept .last)
+        → head ≡ headOf (s .n) r → rs ≡ recordsOf r → mine ≡ heldAt rs (span (head .kept .first) (head .kept .last))
         → m ≡ mailAt p → one ≡ getD (letterAt p .records) 0 0
-        → next ≡ heldAt (letterAt p .records) (mailAt p .last)
+        → next ≡ nextOf (letterAt p)
         → t ≡ anyMail head s sender m one next mine
         → t ≡ turnOf s (boxOf (s .n) r) (mail sender (letterAt p))
     mail-law sender head rs mine m one next t eh er em el eo en et =

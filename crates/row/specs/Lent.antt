@@ -4,7 +4,7 @@ use Prim.Native.Nat.{ℕ, _+_, _-_, _≤_, _<_, _^_}
 use mathlib.Core.Bool.{true}
 use mathlib.Core.List.{List}
 use lib.ListN.{length, take, drop, getD}
-use Rattle.words.specs.Rows.{part}
+use Rattle.words.specs.Rows.{part, splice}
 use Rattle.rules.specs.Sizes.{mostBoxes, mostLoads, unknown}
 use Rattle.rules.specs.Box.{BookFits, written, turned}
 use Rattle.rules.specs.declared.model.Book.{Book}
@@ -12,9 +12,9 @@ use Rattle.rules.specs.declared.model.Setting.{Setting}
 use Rattle.rules.specs.declared.model.Turn.{Turn}
 use Rattle.letter.specs.Place.{letterAt, placeForm}
 use Rattle.letter.specs.Place.{headWords as letterHead}
-use Rattle.row.specs.Row.{boxOf, rowFits, rowForm, headWords, pnAt, lastAt, storedPnAt}
-use Rattle.row.specs.Row.{storedNumberAt, bestPnAt, bestNumberAt, answeredAt, acceptsAt}
-use Rattle.row.specs.Row.{beforePeers, countAt}
+use Rattle.row.specs.Row.{boxOf, rowFits, rowForm, headWords, pnAt, lastAt, firstAt}
+use Rattle.row.specs.Row.{storedPnAt, storedNumberAt, bestPnAt, bestNumberAt, answeredAt}
+use Rattle.row.specs.Row.{acceptsAt, beforePeers, countAt}
 
 -- the row of a box of n, with room for J records
 pub record RowSized (n J : ℕ) (r : List ℕ) : Type 0 where
@@ -27,6 +27,7 @@ pub record RowReadable (n : ℕ) (r : List ℕ) : Type 0 where
   pub room : headWords + getD r countAt 0 ≤ length r
   pub pn : getD r pnAt 0 < 2 ^ 32
   pub last : getD r lastAt 0 < 2 ^ 32
+  pub first : getD r firstAt 0 < 2 ^ 32
   pub stored-pn : getD r storedPnAt 0 < 2 ^ 32
   pub stored-number : getD r storedNumberAt 0 < 2 ^ 32
   pub best-pn : getD r bestPnAt 0 < 2 ^ 32
@@ -53,8 +54,20 @@ recordsOf r = part r headWords (getD r countAt 0)
 -- how many records are held after a turn
 abbrev pub countAfter : Book → ℕ → ℕ
 countAfter Book.Keep count = count
-countAfter (Book.Put l r) count = l + 1
-countAfter (Book.Take a l) count = l
+countAfter (Book.Drop d) count = count - d
+countAfter (Book.Put d a r) count = a - d + 1
+countAfter (Book.Take d a b e) count = a - d + (e - b)
+
+-- .. which can be counted in 32 bits
+abbrev pub CountFits : Book → ℕ → Type 0
+CountFits Book.Keep count = Unit {0}
+CountFits (Book.Drop d) count = d ≤ count
+CountFits (Book.Put d a r) count = (d ≤ a) × (a - d + 1 ≤ mostLoads)
+CountFits (Book.Take d a b e) count = (d ≤ a) × (b ≤ e) × (a - d + (e - b) ≤ mostLoads)
+
+-- the row where of its first a records the first d have left
+abbrev pub moved : ℕ → ℕ → List ℕ → List ℕ
+moved d a r = splice r headWords (a - d) (part r (headWords + d) (a - d))
 
 -- the row r has room for what the book b makes of its records and those of the mail's place p
 pub record Writes (r p : List ℕ) (b : Book) : Type 0 where

@@ -14,9 +14,9 @@ use Rattle.rules.specs.declared.model.BoxState.{BoxState}
 use Rattle.rules.specs.declared.model.Phase.{Phase}
 use Rattle.rules.specs.declared.model.State.{State}
 
--- ---- where each field stands: "flag, state, phase, pn, last, stored pn, stored number, best pn,
--- best number, the set of boxes that answered, accept set; then three records (best, waiting, being
--- agreed); .. peers' lasts ..; count of records held"
+-- ---- where each field stands: "flag, state, phase, pn, last, [first, Q-4], stored pn, stored
+-- number, best pn, best number, the set of boxes that answered, accept set; then three records
+-- (best, waiting, being agreed); .. peers' lasts ..; count of records held"
 
 abbrev pub flagAt : ℕ
 flagAt = 0
@@ -33,50 +33,49 @@ pnAt = 3
 abbrev pub lastAt : ℕ
 lastAt = 4
 
+abbrev pub firstAt : ℕ
+firstAt = 5
+
 abbrev pub storedPnAt : ℕ
-storedPnAt = 5
+storedPnAt = 6
 
 abbrev pub storedNumberAt : ℕ
-storedNumberAt = 6
+storedNumberAt = 7
 
 abbrev pub bestPnAt : ℕ
-bestPnAt = 7
+bestPnAt = 8
 
 abbrev pub bestNumberAt : ℕ
-bestNumberAt = 8
+bestNumberAt = 9
 
 abbrev pub answeredAt : ℕ
-answeredAt = 9
+answeredAt = 10
 
 abbrev pub acceptsAt : ℕ
-acceptsAt = 10
+acceptsAt = 11
 
 abbrev pub bestAt : ℕ
-bestAt = 11
+bestAt = 12
 
 abbrev pub waitingAt : ℕ
-waitingAt = 12
+waitingAt = 13
 
 abbrev pub agreeingAt : ℕ
-agreeingAt = 13
+agreeingAt = 14
 
 -- peer k stands k places behind this
 abbrev pub beforePeers : ℕ
-beforePeers = 13
+beforePeers = 14
 
 abbrev pub peersAt : ℕ
-peersAt = 14
+peersAt = 15
 
 abbrev pub countAt : ℕ
-countAt = 19
+countAt = 20
 
 -- the records stand behind these
 abbrev pub headWords : ℕ
-headWords = 20
-
--- the record of number k stands k places behind this
-abbrev pub beforeRecords : ℕ
-beforeRecords = 19
+headWords = 21
 
 -- ---- what they say
 
@@ -120,6 +119,7 @@ headOf n r = record {
   kept = record {
     pn = getD r pnAt 0;
     last = getD r lastAt 0;
+    first = getD r firstAt 0;
     stored = record { pn = getD r storedPnAt 0; number = getD r storedNumberAt 0 };
   };
   best = record { pn = getD r bestPnAt 0; number = getD r bestNumberAt 0; value = getD r bestAt 0 };
@@ -155,7 +155,7 @@ rowForm n J b r =
 abbrev pub wordsOf : BoxState → ℕ → List ℕ
 wordsOf h count =
     flagNumber (h .leads) ∷ stateNumber (h .state) ∷ phaseNumber (h .phase)
-    ∷ h .kept .pn ∷ h .kept .last ∷ h .kept .stored .pn ∷ h .kept .stored .number
+    ∷ h .kept .pn ∷ h .kept .last ∷ h .kept .first ∷ h .kept .stored .pn ∷ h .kept .stored .number
     ∷ h .best .pn ∷ h .best .number ∷ h .answered ∷ h .accepts
     ∷ h .best .value ∷ h .waiting ∷ h .agreeing
     ∷ getD (h .peers) 0 0 ∷ getD (h .peers) 1 0 ∷ getD (h .peers) 2 0 ∷ getD (h .peers) 3 0

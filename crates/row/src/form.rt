@@ -16,6 +16,7 @@ use crate::BEST;
 use crate::BEST_NUMBER;
 use crate::BEST_PN;
 use crate::COUNT;
+use crate::FIRST;
 use crate::FLAG;
 use crate::LAST;
 use crate::PHASE;
@@ -28,20 +29,22 @@ use crate::WAITING;
 use crate::records;
 use values::Fault;
 use values::Field;
+use values::MOST_NUMBER;
 use values::MOST_PN;
 use values::unless;
 
 // Numbers, and what is said of the fields behind them.
-fn number_fault(w: &[u64], j: u32, rest: Fault) -> Fault
+fn number_fault(w: &[u64], rest: Fault) -> Fault
     requires { ⌜ headWords ≤ length (now w) ⌝ }
-    ensures { λ r. ⌜ r ≡ faultThen (numberTests j (now (w .entry))) rest ⌝ }
+    ensures { λ r. ⌜ r ≡ faultThen (numberTests (now (w .entry))) rest ⌝ }
 {
-    let most = j as u64;
-    let f = unless(w[BEST_NUMBER] <= most, Field::BestNumber, rest);
+    let first = values::is_first(w[FIRST], w[LAST]);
+    let f = unless(w[BEST_NUMBER] <= MOST_NUMBER, Field::BestNumber, rest);
     let f = unless(w[BEST_PN] <= MOST_PN, Field::BestPn, f);
-    let f = unless(w[STORED_NUMBER] <= most, Field::StoredNumber, f);
+    let f = unless(w[STORED_NUMBER] <= MOST_NUMBER, Field::StoredNumber, f);
     let f = unless(w[STORED_PN] <= MOST_PN, Field::StoredPn, f);
-    let f = unless(w[LAST] <= most, Field::Last, f);
+    let f = unless(first, Field::First, f);
+    let f = unless(w[LAST] <= MOST_NUMBER, Field::Last, f);
     let f = unless(w[PN] <= MOST_PN, Field::Pn, f);
     let f = unless(w[PHASE] <= 5, Field::Phase, f);
     let f = unless(w[STATE] <= 4, Field::State, f);
@@ -61,29 +64,28 @@ fn value_fault(w: &[u64], n: u32, rest: Fault) -> Fault
 }
 
 // The last of peer k is by form in the row of box b; above n it is not read.
-fn is_peer(w: &[u64], n: u32, j: u32, b: u32, k: u32) -> bool
+fn is_peer(w: &[u64], n: u32, b: u32, k: u32) -> bool
     requires { ⌜ headWords ≤ length (now w) ⌝ }
     requires { ⌜ (1 ≤ k) × (k ≤ mostBoxes) ⌝ }
-    ensures { λ r. ⌜ r ≡ peerForm n j b (headOf n (now (w .entry)) .peers) k ⌝ }
+    ensures { λ r. ⌜ r ≡ peerForm n b (headOf n (now (w .entry)) .peers) k ⌝ }
 {
     if n < k {
         return true;
     }
     let at = BEFORE_PEERS + k as usize;
     let last = w[at];
-    let most = j as u64;
-    (last == UNKNOWN) | ((k != b) & (last <= most))
+    (last == UNKNOWN) | ((k != b) & (last <= MOST_NUMBER))
 }
 
-fn peer_fault(w: &[u64], n: u32, j: u32, b: u32, rest: Fault) -> Fault
+fn peer_fault(w: &[u64], n: u32, b: u32, rest: Fault) -> Fault
     requires { ⌜ headWords ≤ length (now w) ⌝ }
-    ensures { λ r. ⌜ r ≡ faultThen (peerTests n j b (now (w .entry))) rest ⌝ }
+    ensures { λ r. ⌜ r ≡ faultThen (peerTests n b (now (w .entry))) rest ⌝ }
 {
-    let f = unless(is_peer(w, n, j, b, 5), Field::Peer(5), rest);
-    let f = unless(is_peer(w, n, j, b, 4), Field::Peer(4), f);
-    let f = unless(is_peer(w, n, j, b, 3), Field::Peer(3), f);
-    let f = unless(is_peer(w, n, j, b, 2), Field::Peer(2), f);
-    unless(is_peer(w, n, j, b, 1), Field::Peer(1), f)
+    let f = unless(is_peer(w, n, b, 5), Field::Peer(5), rest);
+    let f = unless(is_peer(w, n, b, 4), Field::Peer(4), f);
+    let f = unless(is_peer(w, n, b, 3), Field::Peer(3), f);
+    let f = unless(is_peer(w, n, b, 2), Field::Peer(2), f);
+    unless(is_peer(w, n, b, 1), Field::Peer(1), f)
 }
 
 // The first of a box's words that is not by form.
@@ -92,13 +94,13 @@ pub fn head_fault(w: &[u64], n: u32, j: u32, b: u32) -> Fault
     ensures { λ r. ⌜ r ≡ headFault n j b (now (w .entry)) ⌝ }
 {
     let f = unless(
-        values::is_count(j, w[LAST], w[COUNT]),
+        values::is_count(j, w[FIRST], w[LAST], w[COUNT]),
         Field::Count,
         Fault::None,
     );
-    let f = peer_fault(w, n, j, b, f);
+    let f = peer_fault(w, n, b, f);
     let f = value_fault(w, n, f);
-    number_fault(w, j, f)
+    number_fault(w, f)
 }
 
 // The row holds box b of n by form. What stands after its records is not read.

@@ -4,7 +4,7 @@ ghost use mathlib.Core.List.{_++_};
 ghost use Prim.Native.Nat.{_+_, _-_, _≤_, _<_};
 ghost use lib.ListN.{length, getD, drop, set};
 ghost use Rattle.words.specs.Rows.{part, splice};
-ghost use Rattle.rules.specs.Sizes.{mostBoxes, mostLoads};
+ghost use Rattle.rules.specs.Sizes.{mostBoxes};
 ghost use Rattle.rules.specs.Numbers.{flagNumber};
 ghost use Rattle.rules.specs.Box.{own, mail, turnOf};
 ghost use Rattle.letter.specs.Place.{letterAt, headWords as letterHead};
@@ -24,6 +24,8 @@ ghost use Rattle.row.specs.Lent.{
   PlaceByForm,
   recordsOf,
   countAfter,
+  CountFits,
+  moved,
   Writes,
   Wrote,
   Plays,
@@ -40,6 +42,7 @@ use rules::model::State;
 use rules::model::Stored;
 use rules::model::Turn;
 use rules::numbers;
+use rules::parts;
 
 mod form;
 
@@ -57,35 +60,34 @@ pub const PN: usize = 3;
 
 pub const LAST: usize = 4;
 
-pub const STORED_PN: usize = 5;
+pub const FIRST: usize = 5;
 
-pub const STORED_NUMBER: usize = 6;
+pub const STORED_PN: usize = 6;
 
-pub const BEST_PN: usize = 7;
+pub const STORED_NUMBER: usize = 7;
 
-pub const BEST_NUMBER: usize = 8;
+pub const BEST_PN: usize = 8;
 
-pub const ANSWERED: usize = 9;
+pub const BEST_NUMBER: usize = 9;
 
-pub const ACCEPTS: usize = 10;
+pub const ANSWERED: usize = 10;
 
-pub const BEST: usize = 11;
+pub const ACCEPTS: usize = 11;
 
-pub const WAITING: usize = 12;
+pub const BEST: usize = 12;
 
-pub const AGREEING: usize = 13;
+pub const WAITING: usize = 13;
+
+pub const AGREEING: usize = 14;
 
 // Peer k stands k places behind this.
-pub const BEFORE_PEERS: usize = 13;
+pub const BEFORE_PEERS: usize = 14;
 
-pub const PEERS: usize = 14;
+pub const PEERS: usize = 15;
 
-pub const COUNT: usize = 19;
+pub const COUNT: usize = 20;
 
-pub const HEAD: usize = 20;
-
-// The record of number k stands k places behind this.
-pub const BEFORE_RECORDS: usize = 19;
+pub const HEAD: usize = 21;
 
 // The last of a peer that is not known.
 pub const UNKNOWN: u64 = 4294967295;
@@ -157,6 +159,7 @@ pub fn load(row: &[u64], n: u32) -> BoxState
     let kept = Kept {
         pn: values::number(row[PN]),
         last: values::number(row[LAST]),
+        first: values::number(row[FIRST]),
         stored: stored,
     };
     let best = Best {
@@ -199,6 +202,7 @@ pub fn store(row: &mut [u64], h: BoxState, held: u32)
         values::wide(numbers::phase_number(phase)),
         values::wide(h.kept.pn),
         values::wide(h.kept.last),
+        values::wide(h.kept.first),
         values::wide(h.kept.stored.pn),
         values::wide(h.kept.stored.number),
         values::wide(h.best.pn),
@@ -224,7 +228,8 @@ pub fn act_turn(row: &[u64], s: Setting, a: Act) -> Turn
     ensures { λ t. ⌜ t ≡ turnOf s (boxOf (s .n) (now (row .entry))) (own a) ⌝ }
 {
     let head = load(row, s.n);
-    let mine = values::held_at(records(row), head.kept.last);
+    let agreed = parts::span(head.kept.first, head.kept.last);
+    let mine = values::held_at(records(row), agreed);
     head.any_act(s, a, mine)
 }
 
@@ -237,7 +242,8 @@ pub fn mail_turn(row: &[u64], place: &[u64], s: Setting, sender: u32) -> Turn
         (mail sender (letterAt (now (place .entry)))) ⌝ }
 {
     let head = load(row, s.n);
-    let mine = values::held_at(records(row), head.kept.last);
+    let agreed = parts::span(head.kept.first, head.kept.last);
+    let mine = values::held_at(records(row), agreed);
     let m = letter::load(place);
     let one = letter::first_record(place);
     let next = letter::after_last(place);
@@ -246,48 +252,69 @@ pub fn mail_turn(row: &[u64], place: &[u64], s: Setting, sender: u32) -> Turn
 
 // How many records are held after a turn.
 fn count_after(b: Book, count: u32) -> u32
-    requires { ⌜ countAfter b count ≤ mostLoads ⌝ }
+    requires { ⌜ CountFits b count ⌝ }
     ensures { λ r. ⌜ r ≡ countAfter b count ⌝ }
 {
     match b {
         Book::Keep => count,
-        Book::Put(l, _) => l + 1,
-        Book::Take(_, l) => l,
+        Book::Drop(d) => count - d,
+        Book::Put(d, a, _) => a - d + 1,
+        Book::Take(d, a, b, e) => a - d + (e - b),
     }
 }
 
-// The record r stands after the first l.
-fn put(row: &mut [u64], l: u32, r: u64)
-    requires { ⌜ headWords + l < length (now row) ⌝ }
-    ensures { λ _. ⌜ now (row .exit) ≡ set (now (row .entry)) (headWords + l) r ⌝ }
+// Of the first a records the first d leave, and the others move down, once.
+fn move_down(row: &mut [u64], d: u32, a: u32)
+    requires { ⌜ (d ≤ a) × (headWords + a ≤ length (now row)) ⌝ }
+    ensures { λ _. ⌜ now (row .exit) ≡ moved d a (now (row .entry)) ⌝ }
 {
-    let at = HEAD + l as usize;
+    if d == 0 {
+        return;
+    }
+    let from = HEAD + d as usize;
+    let n = (a - d) as usize;
+    words::copy_within(row, from, HEAD, n);
+}
+
+// The record r stands behind those of the first a that stay, all but d.
+fn put(row: &mut [u64], d: u32, a: u32, r: u64)
+    requires { ⌜ (d ≤ a) × (headWords + a ≤ length (now row))
+        × (headWords + (a - d) < length (now row)) ⌝ }
+    ensures { λ _.
+        ⌜ now (row .exit) ≡ set (moved d a (now (row .entry))) (headWords + (a - d)) r ⌝ }
+{
+    let at = HEAD + (a - d) as usize;
+    move_down(row, d, a);
     row[at] = r;
 }
 
-// The mail's records a+1 to l stand after the first a.
-fn take(row: &mut [u64], place: &[u64], a: u32, l: u32)
-    requires { ⌜ (a ≤ l) × (headWords + l ≤ length (now row))
-        × (letterHead + l ≤ length (now place)) ⌝ }
+// The mail's records but b of its first e stand behind those of the first a that stay, all but d.
+fn take(row: &mut [u64], place: &[u64], d: u32, a: u32, b: u32, e: u32)
+    requires { ⌜ (d ≤ a) × (headWords + a ≤ length (now row)) × (b ≤ e) ⌝ }
+    requires { ⌜ headWords + (a - d) + (e - b) ≤ length (now row) ⌝ }
+    requires { ⌜ letterHead + e ≤ length (now place) ⌝ }
     ensures { λ _.
-        ⌜ now (row .exit) ≡ splice (now (row .entry)) (headWords + a) (l - a)
-        (part (now (place .entry)) (letterHead + a) (l - a)) ⌝ }
+        ⌜ now (row .exit) ≡ splice (moved d a (now (row .entry))) (headWords + (a - d)) (e - b)
+        (part (now (place .entry)) (letterHead + b) (e - b)) ⌝ }
 {
-    let from = letter::HEAD + a as usize;
-    let to = HEAD + a as usize;
-    let n = (l - a) as usize;
+    let from = letter::HEAD + b as usize;
+    let to = HEAD + (a - d) as usize;
+    let n = (e - b) as usize;
+    move_down(row, d, a);
     words::copy_part(place, from, row, to, n);
 }
 
-// What becomes of the records.
-fn write(row: &mut [u64], place: &[u64], b: Book)
+// What becomes of the records, of which there are so many.
+fn write(row: &mut [u64], place: &[u64], count: u32, b: Book)
     requires { ⌜ Writes (now row) (now place) b ⌝ }
+    requires { ⌜ count ≡ getD (now row) countAt 0 ⌝ }
     ensures { λ _. ⌜ Wrote (now (row .entry)) (now (place .entry)) b (now (row .exit)) ⌝ }
 {
     match b {
         Book::Keep => {}
-        Book::Put(l, r) => put(row, l, r),
-        Book::Take(a, l) => take(row, place, a, l),
+        Book::Drop(d) => move_down(row, d, count),
+        Book::Put(d, a, r) => put(row, d, a, r),
+        Book::Take(d, a, b, e) => take(row, place, d, a, b, e),
     }
 }
 
@@ -298,7 +325,8 @@ pub fn play(row: &mut [u64], place: &[u64], n: u32, t: Turn)
 {
     let book = t.book;
     let next = t.next;
-    let held = count_after(book, values::number(row[COUNT]));
-    write(row, place, book);
+    let count = values::number(row[COUNT]);
+    let held = count_after(book, count);
+    write(row, place, count, book);
     store(row, next, held);
 }

@@ -146,12 +146,21 @@ withPeers v b = record {
 
 -- the promised pn
 abbrev pub promised : ℕ → Kept → Kept
-promised q k = record { pn = q; last = k .last; stored = k .stored }
+promised q k = record { pn = q; last = k .last; first = k .first; stored = k .stored }
 
 -- the last agreed number
 abbrev pub lasting : ℕ → Kept → Kept
-lasting l k = record { pn = k .pn; last = l; stored = k .stored }
+lasting l k = record { pn = k .pn; last = l; first = k .first; stored = k .stored }
+
+-- the first kept number
+abbrev pub keeping : ℕ → Kept → Kept
+keeping f k = record { pn = k .pn; last = k .last; first = f; stored = k .stored }
 
 -- the stored pn and the stored number
 abbrev pub storing : ℕ → ℕ → Kept → Kept
-storing q l k = record { pn = k .pn; last = k .last; stored = record { pn = q; number = l } }
+storing q l k = record {
+  pn = k .pn;
+  last = k .last;
+  first = k .first;
+  stored = record { pn = q; number = l };
+}

@@ -13,7 +13,7 @@ use Rattle.rules.specs.NewPn.{newPn}
 use Rattle.rules.specs.Fields.{withPhase, withKept, withBest, withAnswered, withPeers}
 use Rattle.rules.specs.Fields.{promised}
 use Rattle.rules.specs.Parts.{others, tookKept, tookBook, cleared}
-use Rattle.rules.specs.Turns.{firstCause, unless, settled, taken, mailOf}
+use Rattle.rules.specs.Turns.{firstCause, unless, settled, taken, mailFrom}
 use Rattle.rules.specs.Types.{Best, BoxState, Held, Kind, Mail, Out, Phase, Refusal, Setting}
 use Rattle.rules.specs.Types.{Turn, Verdict}
 
@@ -25,7 +25,7 @@ noted peers sender l = pick (ltb 0 sender && leb sender mostBoxes) (set peers (s
 unfoldable pub heard : BoxState → ℕ → Mail → BoxState
 heard b sender m =
     withPeers (noted (b .peers) sender (m .last))
-    (withKept (tookKept (m .last) (b .kept)) b)
+    (withKept (tookKept (m .first) (m .last) (b .kept)) b)
 
 -- the value v of a peer "whose last is known and below own last", and else 0
 unfoldable pub behind : ℕ → ℕ → ℕ → ℕ
@@ -90,12 +90,14 @@ lastVerdict b s m =
     (unless (leb (m .pn) (b .kept .pn) || leb (newPn (m .pn) (s .me)) mostPn) Refusal.NewPn
     Verdict.Go)
 
--- the Commits to lagging boxes carry own last as it is now, and the promised pn as it was before
--- the raise
+-- the Commits to lagging boxes carry own last and first as they are now, and the promised pn as it
+-- was before the raise
 unfoldable pub onLast : BoxState → Setting → ℕ → Mail → Held → Turn
 onLast b s sender m next =
     settled b (lastVerdict b s m)
     (taken (replied (heard b sender m) (s .me) sender m next)
-    (tookBook (m .last) (b .kept .last))
-    (Out.To (lagging (noted (b .peers) sender (m .last)) (tookKept (m .last) (b .kept) .last) s)
-    (mailOf Kind.Commit (b .kept .pn) (tookKept (m .last) (b .kept) .last) 0)))
+    (tookBook (m .first) (m .last) (b .kept))
+    (Out.To
+    (lagging (noted (b .peers) sender (m .last)) (tookKept (m .first) (m .last) (b .kept) .last) s)
+    (mailFrom (tookKept (m .first) (m .last) (b .kept) .first) Kind.Commit (b .kept .pn)
+    (tookKept (m .first) (m .last) (b .kept) .last) 0)))

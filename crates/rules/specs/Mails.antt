@@ -5,9 +5,11 @@ use lib.Dec.{eqb}
 use Rattle.rules.specs.Sizes.{even}
 use Rattle.rules.specs.Sets.{bit, joined}
 use Rattle.rules.specs.Numbers.{inPhase}
-use Rattle.rules.specs.Fields.{withState, withKept, withBest, withAccepts, promised, storing}
-use Rattle.rules.specs.Parts.{underOf, tookKept, tookBook, cleared}
-use Rattle.rules.specs.Turns.{firstCause, unless, settled, taken, mailOf}
+use Rattle.rules.specs.Fields.{withState, withKept, withBest, withAccepts, promised, keeping}
+use Rattle.rules.specs.Fields.{storing}
+use Rattle.rules.specs.Parts.{underOf, span, higher, dropped, tookKept, tookBook, roomNext}
+use Rattle.rules.specs.Parts.{cleared}
+use Rattle.rules.specs.Turns.{firstCause, unless, settled, taken, mailOf, mailFrom}
 use Rattle.rules.specs.Last.{onLast}
 use Rattle.rules.specs.Types.{Book, BoxState, Held, Kept, Kind, Mail, Out, Phase, Refusal}
 use Rattle.rules.specs.Types.{Setting, State, Turn, Verdict}
@@ -18,7 +20,7 @@ unagreedOf k (Held.Record r) = underOf k
 unagreedOf k Held.Nothing = 0
 
 -- "Collect (role: receiver leads). Recovering; promised pn becomes the larger; replies
--- Last(promised pn, last, records held, [unagreed pn])."
+-- Last(promised pn, last, records held, [unagreed pn])." It carries "the sender's first" (Q-4).
 unfoldable pub onCollect : BoxState → ℕ → Mail → Held → Turn
 onCollect b sender m mine =
     settled b (firstCause (b .leads) false false false Verdict.Go)
@@ -27,25 +29,31 @@ onCollect b sender m mine =
     (withKept (promised (max (b .kept .pn) (m .pn)) (b .kept)) b))
     Book.Keep
     (Out.To (bit sender)
-    (mailOf Kind.Last (max (b .kept .pn) (m .pn)) (b .kept .last) (unagreedOf (b .kept) mine))))
+    (mailFrom (b .kept .first) Kind.Last (max (b .kept .pn) (m .pn)) (b .kept .last)
+    (unagreedOf (b .kept) mine))))
 
 -- "Begin (role: receiver leads; number: pn below promised; place: lasts differ)"; "such mail in a
--- foreign image", above it, "is discarded for the cause 'number'" too (Q-10)
-unfoldable pub beginVerdict : BoxState → Mail → Verdict
-beginVerdict b m =
+-- foreign image", above it, "is discarded for the cause 'number'" too (Q-10); refusal 7 of a Begin
+-- that would be taken, "first raised" (Q-4)
+unfoldable pub beginVerdict : BoxState → Setting → Mail → Verdict
+beginVerdict b s m =
     firstCause (b .leads) false
     (not (eqb (b .kept .pn) (m .pn)))
     (not (eqb (b .kept .last) (m .last)))
-    Verdict.Go
+    (unless (roomNext (s .j) (higher (b .kept .first) (m .first)) (b .kept .last)) Refusal.Book
+    Verdict.Go)
 
--- "last+1 holds the record; stored pn and number set; Updating; replies Accept(pn, last)."
-unfoldable pub onBegin : BoxState → ℕ → Mail → ℕ → Turn
-onBegin b sender m r =
-    settled b (beginVerdict b m)
+-- "last+1 holds the record; stored pn and number set; Updating; replies Accept(pn, last)." It
+-- "raises its own first" (Q-4).
+unfoldable pub onBegin : BoxState → Setting → ℕ → Mail → ℕ → Turn
+onBegin b s sender m r =
+    settled b (beginVerdict b s m)
     (taken
     (withState State.Updating
-    (withKept (storing (m .pn) (b .kept .last + 1) (b .kept)) b))
-    (Book.Put (b .kept .last) r)
+    (withKept
+    (keeping (higher (b .kept .first) (m .first))
+    (storing (m .pn) (b .kept .last + 1) (b .kept))) b))
+    (Book.Put (dropped (m .first) (b .kept)) (span (b .kept .first) (b .kept .last)) r)
     (Out.To (bit sender) (mailOf Kind.Accept (m .pn) (b .kept .last) 0)))
 
 -- "Accept (role: not leader; phase: not Begin; number: pn differs; place: lasts differ)."
@@ -69,9 +77,9 @@ unfoldable pub onCommit : BoxState → Mail → Turn
 onCommit b m =
     settled b (firstCause (b .leads) false false false Verdict.Go)
     (taken
-    (withBest (cleared (tookKept (m .last) (b .kept) .last) (b .best))
-    (withKept (tookKept (m .last) (b .kept)) b))
-    (tookBook (m .last) (b .kept .last))
+    (withBest (cleared (tookKept (m .first) (m .last) (b .kept) .last) (b .best))
+    (withKept (tookKept (m .first) (m .last) (b .kept)) b))
+    (tookBook (m .first) (m .last) (b .kept))
     Out.Nothing)
 
 -- "Lease (role: receiver leads; place: lasts differ). Active."
@@ -86,7 +94,7 @@ onLease b m =
 unfoldable pub ofKind : Kind → BoxState → Setting → ℕ → Mail → ℕ → Held → Held → Turn
 ofKind Kind.Collect b s sender m one next mine = onCollect b sender m mine
 ofKind Kind.Last b s sender m one next mine = onLast b s sender m next
-ofKind Kind.Begin b s sender m one next mine = onBegin b sender m one
+ofKind Kind.Begin b s sender m one next mine = onBegin b s sender m one
 ofKind Kind.Accept b s sender m one next mine = onAccept b sender m
 ofKind Kind.Commit b s sender m one next mine = onCommit b m
 ofKind Kind.Lease b s sender m one next mine = onLease b m

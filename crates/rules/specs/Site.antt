@@ -26,13 +26,14 @@ pub record Outcome : Type 0 where
   pub answer : Answer
   pub next : Site
 
--- "Fresh site: .. flags off, Recovering, Election, numbers 0, sets empty, peers unknown."
+-- "Fresh site: .. flags off, Recovering, Election, numbers 0, sets empty, peers unknown"; the first
+-- kept number is "1 at the start" (Q-4)
 unfoldable pub freshHead : BoxState
 freshHead = record {
   leads = false;
   state = State.Recovering;
   phase = Phase.Election;
-  kept = record { pn = 0; last = 0; stored = record { pn = 0; number = 0 } };
+  kept = record { pn = 0; last = 0; first = 1; stored = record { pn = 0; number = 0 } };
   best = none;
   answered = 0;
   accepts = 0;

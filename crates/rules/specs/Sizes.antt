@@ -9,9 +9,13 @@ use Rattle.rules.specs.Every.{all}
 abbrev pub mostBoxes : ℕ
 mostBoxes = 5
 
--- "load numbers 1 to J, J from 1 to 4,096"
+-- "J from 1 to 4,096": "at most J records in all" (Q-4)
 abbrev pub mostLoads : ℕ
 mostLoads = 4096
+
+-- "Load numbers, and by form every number field and last, may now run to 1,000,000,000" (Q-4)
+abbrev pub mostNumber : ℕ
+mostNumber = 1000000000
 
 -- "at most L mails, L from 1 to 16"
 abbrev pub mostMails : ℕ

@@ -1,15 +1,15 @@
 -- A call on a site: its answer and the site after it. A box takes its turn by its own rules; the
 -- site adds form, the box numbers, the links, and refusals 4, 5 and 8.
-use Prim.Native.Nat.{ℕ, _+_, _-_}
+use Prim.Native.Nat.{ℕ, _+_}
 use mathlib.Core.Bool.{Bool, not, _&&_, cond}
 use mathlib.Core.List.{List, [], _∷_}
 use lib.Count.{ones}
 use lib.Dec.{leb, ltb, eqb}
-use lib.ListN.{length, getD}
+use lib.ListN.{length}
 use Rattle.rules.specs.Sizes.{majorityOf, mostEpoch, even, leftOf, rightOf}
 use Rattle.rules.specs.Sets.{has, joined, without}
 use Rattle.rules.specs.Steps.{elected}
-use Rattle.rules.specs.Box.{Box, Letter, own, mail, turnOf}
+use Rattle.rules.specs.Box.{Box, Letter, own, mail, turnOf, recordAt}
 use Rattle.rules.specs.Site.{Site, Outcome, isBox, isLink, setting, room, played, popped}
 use Rattle.rules.specs.Site.{doubled}
 use Rattle.rules.specs.Form.{form}
@@ -46,7 +46,7 @@ atBox s c more = need Refusal.Form (form s) ∷ need Refusal.Box (isBox (s .n) c
 abbrev pub atLink : Site → ℕ → ℕ → List Need → List Need
 atLink s a b more = need Refusal.Form (form s) ∷ need Refusal.Box (isLink (s .n) a b) ∷ more
 
--- a leader's step of box c
+-- a step of box c by itself
 abbrev pub acting : Site → ℕ → Act → Outcome
 acting s c a =
     ruled (refused s) (atBox s c [])
@@ -125,7 +125,7 @@ repeatNeeds L link =
     ∷ need Refusal.Link (ltb (length link) L)
     ∷ []
 
--- the fourteen calls
+-- the fifteen calls
 unfoldable pub step : Site → Call → Outcome
 step s (Call.Elect c) =
     ruled (refused s) (atBox s c (electNeeds (setting s c))) (did (elect s c))
@@ -136,6 +136,7 @@ step s (Call.Offer c left right) = acting s c (Act.Offer left right)
 step s (Call.Propose c) = acting s c Act.Propose
 step s (Call.Agree c) = acting s c Act.Agree
 step s (Call.Finish c) = acting s c Act.Finish
+step s (Call.Trim c k) = acting s c (Act.Trim k)
 step s (Call.Stop c) =
     ruled (refused s) (atBox s c (stopNeeds (setting s c)))
     (did (presented s (without (s .present) c)))
@@ -158,12 +159,13 @@ unfoldable pub run : Site → List Call → Site
 run s [] = s
 run s (c ∷ cs) = step (run s cs) c .next
 
--- "true when k is agreed at c with that record, so untrue for k 0 or above last, or a frame 0"
+-- "true when k is agreed at c with that record, so untrue for k 0 or above last, or a frame 0"; and
+-- "below first" (Q-4)
 unfoldable pub agreedAs : Box → ℕ → ℕ → ℕ → Bool
 agreedAs x k left right =
-    leb 1 k && leb k (x .head .kept .last)
-    && eqb (leftOf (getD (x .records) (k - 1) 0)) left
-    && eqb (rightOf (getD (x .records) (k - 1) 0)) right
+    leb (x .head .kept .first) k && leb k (x .head .kept .last)
+    && eqb (leftOf (recordAt (x .head .kept .first) (x .records) k)) left
+    && eqb (rightOf (recordAt (x .head .kept .first) (x .records) k)) right
 
 -- a holds line: 1, 2, then 14 where it is untrue
 unfoldable pub holds : Site → ℕ → ℕ → ℕ → ℕ → Answer

@@ -1,19 +1,20 @@
--- "Steps": what a leader does by itself, for its own part, and what an election makes of a box.
--- Each has its condition (refusal 3) and its turn. All of them need an even epoch.
+-- "Steps": what a box does by itself, for its own part, and what an election makes of a box. Each
+-- has its condition (refusal 3) and its turn. All of them need an even epoch.
 use Prim.Native.Nat.{ℕ, _+_}
 use mathlib.Core.Bool.{Bool, not, _&&_, _||_}
 use lib.Count.{ones}
 use lib.Dec.{leb, ltb, eqb}
 use Rattle.rules.specs.Pick.{pick}
 use Rattle.rules.specs.Sizes.{even, mostPn, recordOf}
-use Rattle.rules.specs.Sets.{bit, includes}
+use Rattle.rules.specs.Sets.{bit, includes, has}
 use Rattle.rules.specs.Numbers.{inPhase, inState}
 use Rattle.rules.specs.NewPn.{newPn}
 use Rattle.rules.specs.Fields.{withLeads, withState, withPhase, withKept, withBest}
 use Rattle.rules.specs.Fields.{withAnswered, withAccepts, withWaiting, withAgreeing}
-use Rattle.rules.specs.Fields.{withPeers, promised, lasting, storing}
-use Rattle.rules.specs.Parts.{others, allUnknown, isHeld, underOf, none}
-use Rattle.rules.specs.Turns.{unless, settled, done, mailOf}
+use Rattle.rules.specs.Fields.{withPeers, promised, lasting, keeping, storing}
+use Rattle.rules.specs.Parts.{others, allUnknown, isHeld, underOf, none, span, dropped}
+use Rattle.rules.specs.Parts.{roomNext}
+use Rattle.rules.specs.Turns.{unless, settled, done, mailOf, mailFrom}
 use Rattle.rules.specs.Types.{Act, Best, Book, BoxState, Held, Kept, Kind, Out, Phase}
 use Rattle.rules.specs.Types.{Refusal, Setting, State, Turn, Verdict}
 
@@ -71,7 +72,8 @@ collect b s mine =
     (Out.To (others s) (mailOf Kind.Collect (b .kept .pn) (b .kept .last) 0)))
 
 -- "Start r: last+1 holds r; stored number last+1, stored pn = promised pn; record being agreed r;
--- accept set only c; phase Begin; Begin(pn, last, r) to others."
+-- accept set only c; phase Begin; Begin(pn, last, r) to others." It carries "the sender's first"
+-- (Q-4).
 unfoldable pub started : BoxState → Setting → ℕ → Turn
 started b s r =
     done
@@ -79,8 +81,8 @@ started b s r =
     (withAgreeing r
     (withAccepts (bit (s .me))
     (withPhase Phase.Begin b))))
-    (Book.Put (b .kept .last) r)
-    (Out.To (others s) (mailOf Kind.Begin (b .kept .pn) (b .kept .last) 0))
+    (Book.Put 0 (span (b .kept .first) (b .kept .last)) r)
+    (Out.To (others s) (mailFrom (b .kept .first) Kind.Begin (b .kept .pn) (b .kept .last) 0))
 
 -- "Active, Lease(last) to others, phase Lease"
 unfoldable pub leased : BoxState → Setting → Turn
@@ -102,10 +104,13 @@ unfoldable pub hasPrevious : BoxState → Bool
 hasPrevious b = eqb (b .best .number) (b .kept .last + 1) && not (eqb (b .best .value) 0)
 
 -- "Peers unknown. If [so]: UpdatingPrevious and start that record. Else Active, Lease(last) to
--- others, phase Lease."
+-- others, phase Lease." Refusal 7 only where it starts a record (Q-4).
 unfoldable pub ready : BoxState → Setting → Turn
 ready b s =
-    settled b (unless (canReady b s) Refusal.Condition Verdict.Go)
+    settled b
+    (unless (canReady b s) Refusal.Condition
+    (unless (not (hasPrevious b) || roomNext (s .j) (b .kept .first) (b .kept .last)) Refusal.Book
+    Verdict.Go))
     (pick (hasPrevious b)
     (started (withState State.UpdatingPrevious (withPeers allUnknown b)) s (b .best .value))
     (leased (withPeers allUnknown b) s))
@@ -130,12 +135,12 @@ canPropose b s =
     && (inPhase (b .phase) Phase.Lease || inPhase (b .phase) Phase.Election)
     && not (eqb (b .waiting) 0)
 
--- "The offer is taken out; Updating; start it." Refusal 7 with last = J.
+-- "The offer is taken out; Updating; start it." Refusal 7, as Q-4 has it.
 unfoldable pub propose : BoxState → Setting → Turn
 propose b s =
     settled b
     (unless (canPropose b s) Refusal.Condition
-    (unless (ltb (b .kept .last) (s .j)) Refusal.Book
+    (unless (roomNext (s .j) (b .kept .first) (b .kept .last)) Refusal.Book
     Verdict.Go))
     (started (withState State.Updating (withWaiting 0 b)) s (b .waiting))
 
@@ -148,7 +153,7 @@ canAgree b s mine =
     && includes (b .accepts) (s .present) && isHeld mine
 
 -- "last + 1; record being agreed 0; Commit(pn, last, records 1..last) to others; Refresh, phase
--- Commit."
+-- Commit." Its records are those "from [first] on" (Q-4).
 unfoldable pub agree : BoxState → Setting → Held → Turn
 agree b s mine =
     settled b (unless (canAgree b s mine) Refusal.Condition Verdict.Go)
@@ -158,7 +163,8 @@ agree b s mine =
     (withState State.Refresh
     (withPhase Phase.Commit b))))
     Book.Keep
-    (Out.To (others s) (mailOf Kind.Commit (b .kept .pn) (b .kept .last + 1) 0)))
+    (Out.To (others s)
+    (mailFrom (b .kept .first) Kind.Commit (b .kept .pn) (b .kept .last + 1) 0)))
 
 -- "Finish c: leader, Refresh, Commit."
 unfoldable pub canFinish : BoxState → Setting → Bool
@@ -170,7 +176,18 @@ canFinish b s =
 unfoldable pub finish : BoxState → Setting → Turn
 finish b s = settled b (unless (canFinish b s) Refusal.Condition Verdict.Go) (leased b s)
 
--- each step of a leader has its rule; `mine` is what the box holds at its last+1
+-- "The step `trim c k` at a present box in an even epoch, with first < k and k ≤ last" (Q-4) ..
+unfoldable pub canTrim : BoxState → Setting → ℕ → Bool
+canTrim b s k =
+    even (s .epoch) && has (s .present) (s .me) && ltb (b .kept .first) k && leb k (b .kept .last)
+
+-- .. "sets first to k"
+unfoldable pub trim : BoxState → Setting → ℕ → Turn
+trim b s k =
+    settled b (unless (canTrim b s k) Refusal.Condition Verdict.Go)
+    (done (withKept (keeping k (b .kept)) b) (Book.Drop (dropped k (b .kept))) Out.Nothing)
+
+-- each step of a box has its rule; `mine` is what the box holds at its last+1
 unfoldable pub acted : Act → BoxState → Setting → Held → Turn
 acted Act.Recover b s mine = recover b s
 acted Act.Collect b s mine = collect b s mine
@@ -179,3 +196,4 @@ acted (Act.Offer left right) b s mine = offer b s left right
 acted Act.Propose b s mine = propose b s
 acted Act.Agree b s mine = agree b s mine
 acted Act.Finish b s mine = finish b s
+acted (Act.Trim k) b s mine = trim b s k

@@ -35,5 +35,16 @@ taken b k o = record { answer = Answer.Taken; next = b; book = k; out = o }
 abbrev pub done : BoxState → Book → Out → Turn
 done b k o = record { answer = Answer.Done; next = b; book = k; out = o }
 
+-- a mail of the kinds that carry the sender's first: "Last, Commit and Begin" (Q-4)
+abbrev pub mailFrom : ℕ → Kind → ℕ → ℕ → ℕ → Mail
+mailFrom first k pn last unagreed = record {
+  kind = k;
+  pn = pn;
+  last = last;
+  first = first;
+  unagreed = unagreed;
+}
+
+-- .. and of the others
 abbrev pub mailOf : Kind → ℕ → ℕ → ℕ → Mail
-mailOf k pn last unagreed = record { kind = k; pn = pn; last = last; unagreed = unagreed }
+mailOf = mailFrom 0

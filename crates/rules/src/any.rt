@@ -15,7 +15,11 @@ impl Mail {
     pub(crate) fn bounded(self) -> bool
         ensures { λ r. ⌜ r ≡ boundedMail self ⌝ }
     {
-        (self.pn <= 999999999) & (self.last <= 4096)
+        let last = self.last;
+        if 1000000000 < last {
+            return false;
+        }
+        (self.pn <= 999999999) & (self.first <= last + 1)
     }
 }
 
@@ -23,7 +27,11 @@ impl BoxState {
     pub(crate) fn bounded(self, s: Setting) -> bool
         ensures { λ r. ⌜ r ≡ boundedBox self s ⌝ }
     {
-        (self.kept.pn <= 999999999) & (self.kept.last <= 4096) & (s.me <= 5)
+        let last = self.kept.last;
+        if 1000000000 < last {
+            return false;
+        }
+        (self.kept.pn <= 999999999) & (self.kept.first <= last + 1) & (s.me <= 5) & (s.j <= 4096)
     }
 
     // Any mail from a sender: `one` is its first record (0: none), `next` what it holds at its
@@ -48,7 +56,7 @@ impl BoxState {
         self.stay(Answer::Refused(Refusal::Form))
     }
 
-    // Any step of a leader; `mine` is what this box holds at its last+1.
+    // Any step of the box itself; `mine` is what this box holds at its last+1.
     pub fn any_act(self, s: Setting, a: Act, mine: Held) -> Turn
         ensures { λ t. ⌜ t ≡ anyAct self s a mine ⌝ }
     {

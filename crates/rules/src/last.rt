@@ -1,7 +1,7 @@
 // What a leader that collects does with a Last.
 ghost use mathlib.Core.Path.{_≡_};
-ghost use Prim.Native.Nat.{_≤_};
-ghost use Rattle.rules.specs.Sizes.{mostBoxes, mostLoads, mostPn};
+ghost use Prim.Native.Nat.{_+_, _≤_};
+ghost use Rattle.rules.specs.Sizes.{mostBoxes, mostNumber, mostPn};
 ghost use Rattle.rules.specs.Last.{
   noted,
   heard,
@@ -28,7 +28,6 @@ use crate::model::Setting;
 use crate::model::Turn;
 use crate::model::Verdict;
 use crate::numbers;
-use crate::parts;
 use crate::sets;
 use crate::turns;
 
@@ -69,7 +68,7 @@ pub(crate) fn laggards(peers: [u32; 5], last: u32, s: Setting) -> u32
 
 impl Best {
     pub(crate) fn improved_by(self, last: u32, m: Mail) -> bool
-        requires { ⌜ m .last ≤ mostLoads ⌝ }
+        requires { ⌜ m .last ≤ mostNumber ⌝ }
         ensures { λ r. ⌜ r ≡ improves last self m ⌝ }
     {
         (last <= m.last) & (self.number <= m.last + 1) & (self.pn <= m.unagreed)
@@ -77,7 +76,7 @@ impl Best {
 
     // The record that the mail holds at last+1 is taken apart, or it goes on to clearing.
     pub(crate) fn better(self, last: u32, m: Mail, next: Held) -> Best
-        requires { ⌜ m .last ≤ mostLoads ⌝ }
+        requires { ⌜ m .last ≤ mostNumber ⌝ }
         ensures { λ r. ⌜ r ≡ bettered last self m next ⌝ }
     {
         let Held::Record(r) = next else {
@@ -99,7 +98,7 @@ impl BoxState {
         let known = self.peers;
         let k = self.kept;
         let peers = note(known, sender, m.last);
-        let kept = k.take(m.last);
+        let kept = k.take(m.first, m.last);
         BoxState {
             peers: peers,
             kept: kept,
@@ -125,7 +124,7 @@ impl BoxState {
     }
 
     pub(crate) fn count(self, sender: u32, m: Mail, next: Held) -> BoxState
-        requires { ⌜ m .last ≤ mostLoads ⌝ }
+        requires { ⌜ m .last ≤ mostNumber ⌝ }
         ensures { λ r. ⌜ r ≡ counted self sender m next ⌝ }
     {
         let answered = sets::with_box(self.answered, sender);
@@ -149,7 +148,7 @@ impl BoxState {
     }
 
     pub(crate) fn answer(self, me: u32, sender: u32, m: Mail, next: Held) -> BoxState
-        requires { ⌜ m .last ≤ mostLoads ⌝ }
+        requires { ⌜ m .last ≤ mostNumber ⌝ }
         requires { ⌜ m .pn ≤ mostPn ⌝ }
         requires { ⌜ me ≤ mostBoxes ⌝ }
         ensures { λ r. ⌜ r ≡ replied self me sender m next ⌝ }
@@ -174,20 +173,24 @@ impl BoxState {
     }
 
     pub(crate) fn on_last(self, s: Setting, sender: u32, m: Mail, next: Held) -> Turn
-        requires { ⌜ m .last ≤ mostLoads ⌝ }
+        requires { ⌜ self .kept .last ≤ mostNumber ⌝ }
+        requires { ⌜ self .kept .first ≤ self .kept .last + 1 ⌝ }
+        requires { ⌜ m .last ≤ mostNumber ⌝ }
+        requires { ⌜ m .first ≤ m .last + 1 ⌝ }
         requires { ⌜ m .pn ≤ mostPn ⌝ }
         requires { ⌜ s .me ≤ mostBoxes ⌝ }
         ensures { λ t. ⌜ t ≡ onLast self s sender m next ⌝ }
     {
+        let k = self.kept;
+        let book = k.take_book(m.first, m.last);
         let v = self.judge_last(s, m);
         let told = self.hear(sender, m);
         let b = told.answer(s.me, sender, m, next);
-        let k = self.kept;
         let known = self.peers;
-        let last = k.take(m.last).last;
-        let to = laggards(note(known, sender, m.last), last, s);
-        let commit = turns::mail_of(Kind::Commit, k.pn, last, 0);
-        let t = b.takes(parts::take_book(m.last, k.last), Out::To(to, commit));
+        let took = k.take(m.first, m.last);
+        let to = laggards(note(known, sender, m.last), took.last, s);
+        let commit = turns::mail_from(took.first, Kind::Commit, k.pn, took.last, 0);
+        let t = b.takes(book, Out::To(to, commit));
         self.settle(v, t)
     }
 }

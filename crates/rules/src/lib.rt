@@ -5,7 +5,7 @@ mod last;
 mod mails;
 pub mod model;
 pub mod numbers;
-mod parts;
+pub mod parts;
 pub mod ranges;
 pub mod sets;
 mod steps;

@@ -1,7 +1,7 @@
 // What a box does with each kind of mail but Last, and with any mail.
 ghost use mathlib.Core.Path.{_≡_};
-ghost use Prim.Native.Nat.{_≤_};
-ghost use Rattle.rules.specs.Sizes.{mostBoxes, mostLoads, mostPn};
+ghost use Prim.Native.Nat.{_+_, _≤_};
+ghost use Rattle.rules.specs.Sizes.{mostBoxes, mostLoads, mostNumber, mostPn};
 ghost use Rattle.rules.specs.Mails.{
   unagreedOf,
   onCollect,
@@ -34,7 +34,7 @@ use crate::turns;
 
 impl Kept {
     pub(crate) fn unagreed(self, mine: Held) -> u32
-        requires { ⌜ self .last ≤ mostLoads ⌝ }
+        requires { ⌜ self .last ≤ mostNumber ⌝ }
         ensures { λ r. ⌜ r ≡ unagreedOf self mine ⌝ }
     {
         match mine {
@@ -46,7 +46,7 @@ impl Kept {
 
 impl BoxState {
     pub(crate) fn on_collect(self, sender: u32, m: Mail, mine: Held) -> Turn
-        requires { ⌜ self .kept .last ≤ mostLoads ⌝ }
+        requires { ⌜ self .kept .last ≤ mostNumber ⌝ }
         ensures { λ t. ⌜ t ≡ onCollect self sender m mine ⌝ }
     {
         let k = self.kept;
@@ -59,39 +59,52 @@ impl BoxState {
             kept: kept,
             ..self
         };
-        let last = turns::mail_of(Kind::Last, pn, k.last, unagreed);
+        let last = turns::mail_from(k.first, Kind::Last, pn, k.last, unagreed);
         let t = b.takes(Book::Keep, Out::To(sets::bit_of(sender), last));
         self.settle(v, t)
     }
 
-    pub(crate) fn judge_begin(self, m: Mail) -> Verdict
-        ensures { λ r. ⌜ r ≡ beginVerdict self m ⌝ }
+    pub(crate) fn judge_begin(self, s: Setting, m: Mail) -> Verdict
+        requires { ⌜ self .kept .last ≤ mostNumber ⌝ }
+        requires { ⌜ self .kept .first ≤ self .kept .last + 1 ⌝ }
+        requires { ⌜ m .last ≤ mostNumber ⌝ }
+        requires { ⌜ m .first ≤ m .last + 1 ⌝ }
+        requires { ⌜ s .j ≤ mostLoads ⌝ }
+        ensures { λ r. ⌜ r ≡ beginVerdict self s m ⌝ }
     {
         let k = self.kept;
+        let room = parts::room_next(s.j, parts::higher(k.first, m.first), k.last);
         turns::first_cause(
             self.leads,
             false,
             k.pn != m.pn,
             k.last != m.last,
-            Verdict::Go,
+            turns::unless(room, Refusal::Book, Verdict::Go),
         )
     }
 
-    pub(crate) fn on_begin(self, sender: u32, m: Mail, r: u64) -> Turn
-        requires { ⌜ self .kept .last ≤ mostLoads ⌝ }
-        ensures { λ t. ⌜ t ≡ onBegin self sender m r ⌝ }
+    pub(crate) fn on_begin(self, s: Setting, sender: u32, m: Mail, r: u64) -> Turn
+        requires { ⌜ self .kept .last ≤ mostNumber ⌝ }
+        requires { ⌜ self .kept .first ≤ self .kept .last + 1 ⌝ }
+        requires { ⌜ m .last ≤ mostNumber ⌝ }
+        requires { ⌜ m .first ≤ m .last + 1 ⌝ }
+        requires { ⌜ s .j ≤ mostLoads ⌝ }
+        ensures { λ t. ⌜ t ≡ onBegin self s sender m r ⌝ }
     {
         let k = self.kept;
         let last = k.last;
-        let kept = k.store(m.pn, last + 1);
-        let v = self.judge_begin(m);
+        let agreed = parts::span(k.first, last);
+        let kept = k.store(m.pn, last + 1)
+            .keep(parts::higher(k.first, m.first));
+        let v = self.judge_begin(s, m);
         let b = BoxState {
             state: State::Updating,
             kept: kept,
             ..self
         };
         let accept = turns::mail_of(Kind::Accept, m.pn, last, 0);
-        let t = b.takes(Book::Put(last, r), Out::To(sets::bit_of(sender), accept));
+        let book = Book::Put(k.dropped(m.first), agreed, r);
+        let t = b.takes(book, Out::To(sets::bit_of(sender), accept));
         self.settle(v, t)
     }
 
@@ -120,18 +133,22 @@ impl BoxState {
     }
 
     pub(crate) fn on_commit(self, m: Mail) -> Turn
+        requires { ⌜ self .kept .last ≤ mostNumber ⌝ }
+        requires { ⌜ self .kept .first ≤ self .kept .last + 1 ⌝ }
+        requires { ⌜ m .last ≤ mostNumber ⌝ }
+        requires { ⌜ m .first ≤ m .last + 1 ⌝ }
         ensures { λ t. ⌜ t ≡ onCommit self m ⌝ }
     {
         let k = self.kept;
         let best = self.best;
         let v = turns::first_cause(self.leads, false, false, false, Verdict::Go);
-        let kept = k.take(m.last);
+        let kept = k.take(m.first, m.last);
         let b = BoxState {
             best: best.clear(kept.last),
             kept: kept,
             ..self
         };
-        let t = b.takes(parts::take_book(m.last, k.last), Out::Nothing);
+        let t = b.takes(k.take_book(m.first, m.last), Out::Nothing);
         self.settle(v, t)
     }
 
@@ -162,16 +179,19 @@ impl BoxState {
         next: Held,
         mine: Held,
     ) -> Turn
-        requires { ⌜ self .kept .last ≤ mostLoads ⌝ }
-        requires { ⌜ m .last ≤ mostLoads ⌝ }
+        requires { ⌜ self .kept .last ≤ mostNumber ⌝ }
+        requires { ⌜ self .kept .first ≤ self .kept .last + 1 ⌝ }
+        requires { ⌜ m .last ≤ mostNumber ⌝ }
+        requires { ⌜ m .first ≤ m .last + 1 ⌝ }
         requires { ⌜ m .pn ≤ mostPn ⌝ }
         requires { ⌜ s .me ≤ mostBoxes ⌝ }
+        requires { ⌜ s .j ≤ mostLoads ⌝ }
         ensures { λ t. ⌜ t ≡ ofKind kind self s sender m one next mine ⌝ }
     {
         match kind {
             Kind::Collect => self.on_collect(sender, m, mine),
             Kind::Last => self.on_last(s, sender, m, next),
-            Kind::Begin => self.on_begin(sender, m, one),
+            Kind::Begin => self.on_begin(s, sender, m, one),
             Kind::Accept => self.on_accept(sender, m),
             Kind::Commit => self.on_commit(m),
             Kind::Lease => self.on_lease(m),
@@ -187,10 +207,13 @@ impl BoxState {
         next: Held,
         mine: Held,
     ) -> Turn
-        requires { ⌜ self .kept .last ≤ mostLoads ⌝ }
-        requires { ⌜ m .last ≤ mostLoads ⌝ }
+        requires { ⌜ self .kept .last ≤ mostNumber ⌝ }
+        requires { ⌜ self .kept .first ≤ self .kept .last + 1 ⌝ }
+        requires { ⌜ m .last ≤ mostNumber ⌝ }
+        requires { ⌜ m .first ≤ m .last + 1 ⌝ }
         requires { ⌜ m .pn ≤ mostPn ⌝ }
         requires { ⌜ s .me ≤ mostBoxes ⌝ }
+        requires { ⌜ s .j ≤ mostLoads ⌝ }
         ensures { λ t. ⌜ t ≡ onMail self s sender m one next mine ⌝ }
     {
         let k = m.kind;

@@ -80,10 +80,12 @@ pub struct Stored {
     pub number: u32,
 }
 
-// What outlives a stop, but for the records: promised pn, last agreed number, stored pn and number.
+// What outlives a stop, but for the records: promised pn, last agreed number, first kept number,
+// stored pn and number.
 pub struct Kept {
     pub pn: u32,
     pub last: u32,
+    pub first: u32,
     pub stored: Stored,
 }
 
@@ -108,11 +110,12 @@ pub struct BoxState {
     pub peers: [u32; 5],
 }
 
-// A mail, but for its records.
+// A mail, but for its records; `first` is 0 in the kinds that carry none.
 pub struct Mail {
     pub kind: Kind,
     pub pn: u32,
     pub last: u32,
+    pub first: u32,
     pub unagreed: u32,
 }
 
@@ -126,7 +129,7 @@ pub struct Setting {
     pub me: u32,
 }
 
-// A step that a leader takes by itself.
+// A step that a box takes by itself: those of a leader, and Trim.
 pub enum Act {
     Recover,
     Collect,
@@ -135,14 +138,17 @@ pub enum Act {
     Propose,
     Agree,
     Finish,
+    Trim(u32),
 }
 
-// What becomes of a box's records. Put(l, r): the first l stay, then r.
-// Take(a, l): the first a stay, then the mail's a+1 to l.
+// What becomes of a box's records. Drop(d): the first d leave. Put(d, a, r): of the first a all but
+// d stay, then r. Take(d, a, b, e): of the first a all but d stay, then the mail's but b of its
+// first e.
 pub enum Book {
     Keep,
-    Put(u32, u64),
-    Take(u32, u32),
+    Drop(u32),
+    Put(u32, u32, u64),
+    Take(u32, u32, u32, u32),
 }
 
 // What is sent: nothing, or one mail to each box of a set, which may be empty.
@@ -159,7 +165,7 @@ pub struct Turn {
     pub out: Out,
 }
 
-// The fourteen calls, with box numbers and frame numbers.
+// The fifteen calls, with box numbers, frame numbers and load numbers.
 pub enum Call {
     Elect(u32),
     Recover(u32),
@@ -169,6 +175,7 @@ pub enum Call {
     Propose(u32),
     Agree(u32),
     Finish(u32),
+    Trim(u32, u32),
     Stop(u32),
     Return(u32),
     Timeout(u32),

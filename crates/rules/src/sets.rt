@@ -3,7 +3,7 @@ ghost use mathlib.Core.Path.{_≡_};
 ghost use Prim.Native.Nat.{_≤_};
 ghost use lib.Count.{ones};
 ghost use Rattle.rules.specs.Sizes.{even, mostBoxes, mostPn};
-ghost use Rattle.rules.specs.Sets.{bit, joined, without, includes};
+ghost use Rattle.rules.specs.Sets.{bit, joined, without, includes, has};
 ghost use Rattle.rules.specs.NewPn.{newPn};
 use crate::turns;
 
@@ -46,6 +46,29 @@ pub fn includes_all(w: u32, v: u32) -> bool
     ensures { λ r. ⌜ r ≡ includes w v ⌝ }
 {
     w & v == v
+}
+
+// Box k is in the set w.
+pub fn has(w: u32, k: u32) -> bool
+    requires { ⌜ k ≤ mostBoxes ⌝ }
+    ensures { λ r. ⌜ r ≡ has w k ⌝ }
+{
+    if k == 1 {
+        return w % 2 == 1;
+    }
+    if k == 2 {
+        return w / 2 % 2 == 1;
+    }
+    if k == 3 {
+        return w / 2 / 2 % 2 == 1;
+    }
+    if k == 4 {
+        return w / 2 / 2 / 2 % 2 == 1;
+    }
+    if k == 5 {
+        return w / 2 / 2 / 2 / 2 % 2 == 1;
+    }
+    false
 }
 
 // How many boxes a set has.

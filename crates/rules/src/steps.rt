@@ -1,7 +1,7 @@
-// The leader's steps, for the box's own part, and what an election makes of a box.
+// The steps that a box takes by itself, for its own part, and what an election makes of a box.
 ghost use mathlib.Core.Path.{_≡_};
-ghost use Prim.Native.Nat.{_≤_};
-ghost use Rattle.rules.specs.Sizes.{mostBoxes, mostLoads, mostPn};
+ghost use Prim.Native.Nat.{_+_, _≤_};
+ghost use Rattle.rules.specs.Sizes.{mostBoxes, mostLoads, mostNumber, mostPn};
 ghost use Rattle.rules.specs.Steps.{
   elected,
   canRecover,
@@ -22,6 +22,8 @@ ghost use Rattle.rules.specs.Steps.{
   agree,
   canFinish,
   finish,
+  canTrim,
+  trim,
   acted,
 };
 use crate::model::Act;
@@ -45,7 +47,7 @@ use crate::turns;
 
 impl Kept {
     pub(crate) fn best_held(self, mine: Held) -> Best
-        requires { ⌜ self .last ≤ mostLoads ⌝ }
+        requires { ⌜ self .last ≤ mostNumber ⌝ }
         ensures { λ r. ⌜ r ≡ bestHeld self mine ⌝ }
     {
         let Held::Record(r) = mine else {
@@ -117,7 +119,7 @@ impl BoxState {
     }
 
     pub(crate) fn collect(self, s: Setting, mine: Held) -> Turn
-        requires { ⌜ self .kept .last ≤ mostLoads ⌝ }
+        requires { ⌜ self .kept .last ≤ mostNumber ⌝ }
         ensures { λ t. ⌜ t ≡ collect self s mine ⌝ }
     {
         let k = self.kept;
@@ -136,11 +138,13 @@ impl BoxState {
     }
 
     pub(crate) fn start(self, s: Setting, r: u64) -> Turn
-        requires { ⌜ self .kept .last ≤ mostLoads ⌝ }
+        requires { ⌜ self .kept .last ≤ mostNumber ⌝ }
+        requires { ⌜ self .kept .first ≤ self .kept .last + 1 ⌝ }
         ensures { λ t. ⌜ t ≡ started self s r ⌝ }
     {
         let k = self.kept;
         let last = k.last;
+        let agreed = parts::span(k.first, last);
         let kept = k.store(k.pn, last + 1);
         let b = BoxState {
             kept: kept,
@@ -149,8 +153,8 @@ impl BoxState {
             phase: Phase::Begin,
             ..self
         };
-        let m = turns::mail_of(Kind::Begin, k.pn, last, 0);
-        b.does(Book::Put(last, r), Out::To(s.others(), m))
+        let m = turns::mail_from(k.first, Kind::Begin, k.pn, last, 0);
+        b.does(Book::Put(0, agreed, r), Out::To(s.others(), m))
     }
 
     pub(crate) fn lease(self, s: Setting) -> Turn
@@ -176,17 +180,20 @@ impl BoxState {
     }
 
     pub(crate) fn has_previous(self) -> bool
-        requires { ⌜ self .kept .last ≤ mostLoads ⌝ }
+        requires { ⌜ self .kept .last ≤ mostNumber ⌝ }
         ensures { λ r. ⌜ r ≡ hasPrevious self ⌝ }
     {
         (self.best.number == self.kept.last + 1) & (self.best.value != 0)
     }
 
     pub(crate) fn ready(self, s: Setting) -> Turn
-        requires { ⌜ self .kept .last ≤ mostLoads ⌝ }
+        requires { ⌜ self .kept .last ≤ mostNumber ⌝ }
+        requires { ⌜ self .kept .first ≤ self .kept .last + 1 ⌝ }
+        requires { ⌜ s .j ≤ mostLoads ⌝ }
         ensures { λ t. ⌜ t ≡ ready self s ⌝ }
     {
         let previous = self.has_previous();
+        let room = parts::room_next(s.j, self.kept.first, self.kept.last);
         let peers = [4294967295; 5];
         let b = BoxState {
             peers: peers,
@@ -197,7 +204,8 @@ impl BoxState {
             ..b
         };
         let t = turns::pick_turn(previous, u.start(s, self.best.value), b.lease(s));
-        let v = turns::unless(self.can_ready(s), Refusal::Condition, Verdict::Go);
+        let w = turns::unless(!previous | room, Refusal::Book, Verdict::Go);
+        let v = turns::unless(self.can_ready(s), Refusal::Condition, w);
         self.settle(v, t)
     }
 
@@ -235,7 +243,9 @@ impl BoxState {
     }
 
     pub(crate) fn propose(self, s: Setting) -> Turn
-        requires { ⌜ self .kept .last ≤ mostLoads ⌝ }
+        requires { ⌜ self .kept .last ≤ mostNumber ⌝ }
+        requires { ⌜ self .kept .first ≤ self .kept .last + 1 ⌝ }
+        requires { ⌜ s .j ≤ mostLoads ⌝ }
         ensures { λ t. ⌜ t ≡ propose self s ⌝ }
     {
         let b = BoxState {
@@ -244,7 +254,8 @@ impl BoxState {
             ..self
         };
         let t = b.start(s, self.waiting);
-        let w = turns::unless(self.kept.last < s.j, Refusal::Book, Verdict::Go);
+        let room = parts::room_next(s.j, self.kept.first, self.kept.last);
+        let w = turns::unless(room, Refusal::Book, Verdict::Go);
         let v = turns::unless(self.can_propose(s), Refusal::Condition, w);
         self.settle(v, t)
     }
@@ -265,7 +276,7 @@ impl BoxState {
     }
 
     pub(crate) fn agree(self, s: Setting, mine: Held) -> Turn
-        requires { ⌜ self .kept .last ≤ mostLoads ⌝ }
+        requires { ⌜ self .kept .last ≤ mostNumber ⌝ }
         ensures { λ t. ⌜ t ≡ agree self s mine ⌝ }
     {
         let k = self.kept;
@@ -278,7 +289,7 @@ impl BoxState {
             phase: Phase::Commit,
             ..self
         };
-        let m = turns::mail_of(Kind::Commit, k.pn, last, 0);
+        let m = turns::mail_from(k.first, Kind::Commit, k.pn, last, 0);
         let t = b.does(Book::Keep, Out::To(s.others(), m));
         let v = turns::unless(self.can_agree(s, mine), Refusal::Condition, Verdict::Go);
         self.settle(v, t)
@@ -302,10 +313,34 @@ impl BoxState {
         self.settle(v, self.lease(s))
     }
 
+    pub(crate) fn can_trim(self, s: Setting, k: u32) -> bool
+        requires { ⌜ s .me ≤ mostBoxes ⌝ }
+        ensures { λ r. ⌜ r ≡ canTrim self s k ⌝ }
+    {
+        sets::is_even(s.epoch)
+            & sets::has(s.present, s.me)
+            & (self.kept.first < k)
+            & (k <= self.kept.last)
+    }
+
+    pub(crate) fn trim(self, s: Setting, k: u32) -> Turn
+        requires { ⌜ s .me ≤ mostBoxes ⌝ }
+        ensures { λ t. ⌜ t ≡ trim self s k ⌝ }
+    {
+        let own = self.kept;
+        let can = self.can_trim(s, k);
+        let v = turns::unless(can, Refusal::Condition, Verdict::Go);
+        let kept = own.keep(k);
+        let b = BoxState { kept: kept, ..self };
+        self.settle(v, b.does(Book::Drop(own.dropped(k)), Out::Nothing))
+    }
+
     pub(crate) fn act(self, a: Act, s: Setting, mine: Held) -> Turn
         requires { ⌜ self .kept .pn ≤ mostPn ⌝ }
-        requires { ⌜ self .kept .last ≤ mostLoads ⌝ }
+        requires { ⌜ self .kept .last ≤ mostNumber ⌝ }
+        requires { ⌜ self .kept .first ≤ self .kept .last + 1 ⌝ }
         requires { ⌜ s .me ≤ mostBoxes ⌝ }
+        requires { ⌜ s .j ≤ mostLoads ⌝ }
         ensures { λ t. ⌜ t ≡ acted a self s mine ⌝ }
     {
         match a {
@@ -316,6 +351,7 @@ impl BoxState {
             Act::Propose => self.propose(s),
             Act::Agree => self.agree(s, mine),
             Act::Finish => self.finish(s),
+            Act::Trim(k) => self.trim(s, k),
         }
     }
 }

@@ -2,7 +2,8 @@
 // itself is straight.
 ghost use mathlib.Core.Path.{_≡_};
 ghost use Rattle.rules.specs.Pick.{pick};
-ghost use Rattle.rules.specs.Turns.{firstCause, unless, still, settled, taken, done, mailOf};
+ghost use Rattle.rules.specs.Turns.{firstCause, unless, still, settled, taken, done};
+ghost use Rattle.rules.specs.Turns.{mailOf, mailFrom};
 use crate::model::Answer;
 use crate::model::Best;
 use crate::model::Book;
@@ -88,15 +89,24 @@ impl BoxState {
     }
 }
 
-pub(crate) fn mail_of(kind: Kind, pn: u32, last: u32, unagreed: u32) -> Mail
-    ensures { λ r. ⌜ r ≡ mailOf kind pn last unagreed ⌝ }
+// A mail of the kinds that carry the sender's first ..
+pub(crate) fn mail_from(first: u32, kind: Kind, pn: u32, last: u32, unagreed: u32) -> Mail
+    ensures { λ r. ⌜ r ≡ mailFrom first kind pn last unagreed ⌝ }
 {
     Mail {
         kind: kind,
         pn: pn,
         last: last,
+        first: first,
         unagreed: unagreed,
     }
+}
+
+// .. and of the others.
+pub(crate) fn mail_of(kind: Kind, pn: u32, last: u32, unagreed: u32) -> Mail
+    ensures { λ r. ⌜ r ≡ mailOf kind pn last unagreed ⌝ }
+{
+    mail_from(0, kind, pn, last, unagreed)
 }
 
 pub(crate) fn pick_number(t: bool, a: u32, b: u32) -> u32

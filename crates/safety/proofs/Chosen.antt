@@ -7,9 +7,9 @@ use native.Mathlib.Omega.{arith}
 use lib.Dec.{leb}
 use lib.ListN.{length, getD}
 use borrow.Author.Tests.{leb-true, leb-false, le-leb}
-use Rattle.rules.specs.Parts.{cleared}
+use Rattle.rules.specs.Parts.{span, cleared}
 use Rattle.rules.specs.Last.{improves, bettered}
-use Rattle.rules.specs.Box.{heldAt}
+use Rattle.rules.specs.Box.{heldAt, recordAt}
 use Rattle.laws.proofs.Types.{Best, Held, Mail}
 use Rattle.laws.proofs.Logic.{Or, left, right, decide, both-no, and-yes, pick-elim}
 use Rattle.laws.proofs.View.{held-elim}
@@ -53,6 +53,10 @@ module _ (g : Agreement) where
 
   module _ (last last′ : ℕ) (t : Best) (k : BestOk last t) (le : last ≤ last′)
       (m : Mail) (rs : List ℕ) (ll : m .last ≤ last′) where
+    -- the place of the answer's last+1
+    abbrev next : ℕ
+    next = span (m .first) (m .last)
+
     improved : improves last′ t m ≡ true
         → (last′ ≤ m .last) × (t .number ≤ m .last + 1) × (t .pn ≤ m .unagreed)
     unfolding improves
@@ -64,13 +68,13 @@ module _ (g : Agreement) where
         (leb-true _ _ (h .0), leb-true _ _ (h .1), leb-true _ _ (f .1))
 
     pub best-chosen :
-        (suc (m .last) ≡ length (g .records) → m .last < length rs → g .pn ≤ m .unagreed
-        → getD rs (m .last) 0 ≡ getD (g .records) (m .last) 0)
-        → (suc (m .last) < length (g .records) → m .last < length rs → m .unagreed ≤ g .pn)
-        → BestOk last′ (bettered last′ t m (heldAt rs (m .last)))
+        (suc (m .last) ≡ length (g .records) → next < length rs → g .pn ≤ m .unagreed
+        → recordAt (m .first) rs (m .last + 1) ≡ getD (g .records) (m .last) 0)
+        → (suc (m .last) < length (g .records) → next < length rs → m .unagreed ≤ g .pn)
+        → BestOk last′ (bettered last′ t m (heldAt rs next))
     unfolding bettered
     best-chosen is-same is-old =
-        held-elim (λ (h : Held). BestOk last′ (bettered last′ t m h)) rs (m .last)
+        held-elim (λ (h : Held). BestOk last′ (bettered last′ t m h)) rs next
         (λ n. pick-elim (BestOk last′) (improves last′ t m)
         (λ e. record {
           same = λ j f h i. let jl : j ≡ m .last = omega arith in
@@ -84,11 +88,11 @@ module _ (g : Agreement) where
     -- the best so far is the agreed record, or the answer holds it
     pub found-chosen : last′ < length (g .records)
         → Or (Found t)
-        ((suc (m .last) ≡ length (g .records)) × (m .last < length rs) × (g .pn ≤ m .unagreed))
-        → Found (bettered last′ t m (heldAt rs (m .last)))
+        ((suc (m .last) ≡ length (g .records)) × (next < length rs) × (g .pn ≤ m .unagreed))
+        → Found (bettered last′ t m (heldAt rs next))
     unfolding bettered improves
     found-chosen lt (left f) =
-        held-elim (λ (h : Held). Found (bettered last′ t m h)) rs (m .last)
+        held-elim (λ (h : Held). Found (bettered last′ t m h)) rs next
         (λ n. pick-elim Found (improves last′ t m)
         (λ e. let h = improved e in record {
           number = omega (arith, h .1, f .number, ll, lt);
@@ -97,7 +101,7 @@ module _ (g : Agreement) where
         (λ e. found-cleared last′ t lt f))
         (λ n. found-cleared last′ t lt f)
     found-chosen lt (right v) =
-        held-elim (λ (h : Held). Found (bettered last′ t m h)) rs (m .last)
+        held-elim (λ (h : Held). Found (bettered last′ t m h)) rs next
         (λ n. pick-elim Found (improves last′ t m)
         (λ e. record { number = omega (arith, v .0); pn = v .2 })
         (λ e. found-cleared last′ t lt (higher e (decide (leb (t .pn) (m .unagreed))))))

@@ -11,7 +11,7 @@ use Rattle.rules.specs.Pick.{pick-true}
 use Rattle.rules.specs.Sizes.{mostBoxes}
 use Rattle.rules.specs.Sets.{has, bit, without}
 use Rattle.rules.specs.Fields.{withPhase, withBest, withAnswered, withPeers}
-use Rattle.rules.specs.Parts.{others, allUnknown, underOf}
+use Rattle.rules.specs.Parts.{others, allUnknown, underOf, span}
 use Rattle.rules.specs.Turns.{mailOf}
 use Rattle.rules.specs.Steps.{bestHeld, collect, acted}
 use Rattle.rules.specs.Box.{Box, Letter, mine, written, enclosed}
@@ -22,10 +22,11 @@ use Rattle.laws.proofs.Logic.{In, eqb-same}
 use Rattle.laws.proofs.SetLaws.{bit-is, without-in}
 use Rattle.laws.proofs.Conditions.{Leading, Is, go-unless, can-collect}
 use Rattle.laws.proofs.FrameLaws.{upd-all, all-post}
-use Rattle.laws.proofs.View.{Links, Store, store, held-elim, Reading, Collect, Last, Begin, Accept}
-use Rattle.laws.proofs.View.{Commit, Lease}
+use Rattle.laws.proofs.View.{Links, Store, store, HeldNext, held-elim, Reading, Collect, Last}
+use Rattle.laws.proofs.View.{Begin, Accept, Commit, Lease}
 use Rattle.laws.proofs.StepLaws.{changed, by-acting}
 use Rattle.safety.proofs.Inv.{BoxOk, MailOk, Asking, Hearing, Inv}
+use Rattle.safety.proofs.After.{After, after, after-same}
 use Rattle.safety.proofs.Base.{core-kept, ranks-kept}
 use Rattle.safety.proofs.Chosen.{BestOk, Found}
 use Rattle.safety.proofs.Leader.{Led, led, PostLed, lead-mails, lead-live}
@@ -66,23 +67,23 @@ module _ (s : Site) (i : Inv s) (c : ℕ) (c-in : In c (s .n))
     le = h .le;
     fresh = λ e. absurd (omega arith);
   }
-  mail-collect a sa b sb (Last q l u rs) h = record {
+  mail-collect a sa b sb (Last q l F u rs) h = record {
     to = h .to;
     from = h .from;
     told = λ e. let t = h .told e in record {
       rank = t .rank;
       fresh = λ f. absurd (omega arith);
       low = t .low;
-      prefix = t .prefix;
+      agreed = t .agreed;
       same = t .same;
       old = t .old;
       answers = λ f j. absurd (t .fresh (o .phase) j);
     };
   }
-  mail-collect a sa b sb (Begin q l r) h = absurd (h .recovered (o .state))
+  mail-collect a sa b sb (Begin q l F r) h = absurd (h .recovered (o .state))
   mail-collect a sa b sb (Accept q l) h = absurd (h .recovered (o .state))
-  mail-collect a sa b sb (Commit q l rs) h =
-      record { from = h .from; to = h .to; le = h .le; prefix = h .prefix }
+  mail-collect a sa b sb (Commit q l F rs) h =
+      record { from = h .from; to = h .to; le = h .le; agreed = h .agreed }
   mail-collect a sa b sb (Lease l) h = record { from = h .from; to = h .to }
 
   -- ---- the first best
@@ -90,7 +91,7 @@ module _ (s : Site) (i : Inv s) (c : ℕ) (c-in : In c (s .n))
   own : BoxOk (i .agreed) (i .agreed .by c) st
   own = i .core .boxes c c-in
 
-  under-is : st .last < length (s .box c .records) → underOf (s .box c .head .kept) ≡ st .storedPn
+  under-is : HeldNext st → underOf (s .box c .head .kept) ≡ st .storedPn
   unfolding underOf
   under-is h =
       let k = s .box c .head .kept in
@@ -101,7 +102,7 @@ module _ (s : Site) (i : Inv s) (c : ℕ) (c-in : In c (s .n))
   unfolding bestHeld
   best-ok =
       held-elim (λ (q : Held). BestOk (i .agreed) (st .last) (bestHeld (s .box c .head .kept) q))
-      (s .box c .records) (s .box c .head .kept .last)
+      (s .box c .records) (span (st .first) (st .last))
       (λ k. record {
         same = λ j f h u. let jl : j ≡ st .last = omega arith in
             rw jl (own .same (omega (arith, f, h)) k (omega (arith, u, under-is k)));
@@ -119,7 +120,7 @@ module _ (s : Site) (i : Inv s) (c : ℕ) (c-in : In c (s .n))
   unfolding bestHeld
   found m l = let v = own .vote m l in
       held-elim (λ (q : Held). Found (i .agreed) (bestHeld (s .box c .head .kept) q))
-      (s .box c .records) (s .box c .head .kept .last)
+      (s .box c .records) (span (st .first) (st .last))
       (λ e. record { number = omega (arith, v .0); pn = omega (arith, v .2, under-is e) })
       (λ e. absurd (omega (arith, v .1, e)))
 
@@ -153,10 +154,9 @@ module _ (s : Site) (i : Inv s) (c : ℕ) (c-in : In c (s .n))
     limit = best-ok .limit;
   }
 
-  inv-collected : Inv (changed s (upd (s .box) c x) link′)
+  inv-collected : After s i (changed s (upd (s .box) c x) link′)
   unfolding others posted enclosed
-  inv-collected = record {
-    agreed = i .agreed;
+  inv-collected = after (record {
     core = core-kept (i .core) c x c-in own (omega arith) (omega arith) refl;
     ranks = ranks-kept (i .ranks) c x c-in refl refl;
     live = λ e.
@@ -173,10 +173,10 @@ module _ (s : Site) (i : Inv s) (c : ℕ) (c-in : In c (s .n))
           le = omega arith;
           fresh = λ f. absurd (omega arith);
         }));
-  }
+  })
 
-pub inv-collect : (s : Site) (i : Inv s) (c : ℕ) → Inv (step s (Call.Collect c) .next)
+pub inv-collect : (s : Site) (i : Inv s) (c : ℕ) → After s i (step s (Call.Collect c) .next)
 unfolding step acted collect written
 inv-collect s i c =
-    by-acting Inv s c _ _ _ i
+    by-acting (After s i) s c _ _ _ (after-same i)
     (λ f c-in go. inv-collected s i c c-in (can-collect (go-unless _ _ _ go .0)))

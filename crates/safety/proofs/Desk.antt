@@ -5,15 +5,15 @@ use lib.Dec.{eqb, ltb}
 use lib.ListN.{getD}
 use Rattle.rules.specs.Last.{heard, raised, counted, uncounted, replied, onLast}
 use Rattle.rules.specs.Mails.{onCollect, onBegin, onAccept, onCommit, onLease, ofKind, onMail}
-use Rattle.rules.specs.Steps.{recover, collect, started, leased, ready, agree, finish, acted}
-use Rattle.rules.specs.Box.{Box, Letter, Event, own, mail, heldAt, mine, turnOf}
+use Rattle.rules.specs.Steps.{recover, collect, started, leased, ready, agree, finish, trim, acted}
+use Rattle.rules.specs.Box.{Box, Letter, Event, own, mail, nextOf, mine, turnOf}
 use Rattle.rules.specs.Site.{Site}
 use Rattle.rules.specs.Turns.{settled}
 use Rattle.laws.proofs.Types.{Act, BoxState, Call, Held, Kind, Setting, Turn, Verdict}
 use Rattle.laws.proofs.Logic.{pick-elim}
 use Rattle.laws.proofs.View.{Links}
 use Rattle.laws.proofs.StepLaws.{by-verdict, Plays, recovers, collects, readies, offers, proposes}
-use Rattle.laws.proofs.StepLaws.{agrees, finishes, delivers}
+use Rattle.laws.proofs.StepLaws.{agrees, finishes, trims, delivers}
 
 -- ---- the calls and events that neither make an offer nor take one out
 
@@ -26,6 +26,7 @@ Plain (Call.Collect c) = Unit {0}
 Plain (Call.Ready c) = Unit {0}
 Plain (Call.Agree c) = Unit {0}
 Plain (Call.Finish c) = Unit {0}
+Plain (Call.Trim c k) = Unit {0}
 Plain (Call.Stop c) = Unit {0}
 Plain (Call.Return c) = Unit {0}
 Plain (Call.Timeout c) = Unit {0}
@@ -41,6 +42,7 @@ PlainEvent (own Act.Collect) = Unit {0}
 PlainEvent (own Act.Ready) = Unit {0}
 PlainEvent (own Act.Agree) = Unit {0}
 PlainEvent (own Act.Finish) = Unit {0}
+PlainEvent (own (Act.Trim k)) = Unit {0}
 PlainEvent (mail a y) = Unit {0}
 
 pub plain-event : {s : Site} {c : ℕ} {d : Call} {e : Event} {link : Links}
@@ -52,6 +54,7 @@ plain-event (offers l r) p = absurd p
 plain-event proposes p = absurd p
 plain-event agrees p = tt
 plain-event finishes p = tt
+plain-event (trims k) p = tt
 plain-event (delivers ha ab e) p = tt
 
 -- ---- a plain event leaves the leader flag and the waiting offer
@@ -82,7 +85,7 @@ module _ (s : Setting) (x : Box) where
       (λ go. record { leads = l; waiting = w })
 
   desk-act : (a : Act) → PlainEvent (own a) → Same (acted a (x .head) s (mine x))
-  unfolding acted recover collect ready agree finish leased started
+  unfolding acted recover collect ready agree finish trim leased started
   desk-act Act.Recover p = quiet _ _ refl refl
   desk-act Act.Collect p = quiet _ _ refl refl
   desk-act Act.Ready p =
@@ -94,10 +97,11 @@ module _ (s : Setting) (x : Box) where
   desk-act Act.Propose p = absurd p
   desk-act Act.Agree p = quiet _ _ refl refl
   desk-act Act.Finish p = quiet _ _ refl refl
+  desk-act (Act.Trim k) p = quiet _ _ refl refl
 
   desk-kind : (a : ℕ) (y : Letter) (k : Kind)
       → Same (ofKind k (x .head) s a (y .head) (getD (y .records) 0 0)
-      (heldAt (y .records) (y .head .last)) (mine x))
+      (nextOf y) (mine x))
   unfolding ofKind onCollect onLast onBegin onAccept onCommit onLease heard
   desk-kind a y Kind.Collect = quiet _ _ refl refl
   desk-kind a y Kind.Last =

@@ -21,6 +21,7 @@ use Rattle.laws.proofs.FormLaws.{Formed, box-is}
 use Rattle.laws.proofs.StepLaws.{Elects}
 use Rattle.laws.proofs.View.{store, stateOf}
 use Rattle.safety.proofs.Inv.{Core, Ripe, Settled, Inv}
+use Rattle.safety.proofs.After.{After, after}
 use Rattle.safety.proofs.Base.{core-same, ripe-same, ranks-same}
 
 module _ (s : Site) (c : ℕ) (i : Inv s) (f : Formed s) (e : Elects s c) where
@@ -34,10 +35,10 @@ module _ (s : Site) (c : ℕ) (i : Inv s) (f : Formed s) (e : Elects s c) where
       Same : BoxState → Type 0
       Same h = store (record { head = h; records = s .box b .records }) ≡ store (s .box b)
 
-  abbrev after : ℕ → Box
-  after b = record { head = elected (s .box b .head) (setting s b) c; records = s .box b .records }
+  abbrev elects : ℕ → Box
+  elects b = record { head = elected (s .box b .head) (setting s b) c; records = s .box b .records }
 
-  is-after : (b : ℕ) → In b (s .n) → elect s c .box b ≡ after b
+  is-after : (b : ℕ) → In b (s .n) → elect s c .box b ≡ elects b
   unfolding elect
   is-after b h = rw (box-is h) refl
 
@@ -45,7 +46,7 @@ module _ (s : Site) (c : ℕ) (i : Inv s) (f : Formed s) (e : Elects s c) where
   k = i .core
 
   -- who is Active at once is alone
-  single : (stateOf (after c) ≡ 0 → ⊥)
+  single : (stateOf (elects c) ≡ 0 → ⊥)
       → Or (eqb (ones (s .present)) 1 ≡ true) (eqb (ones (s .present)) 1 ≡ false) → s .n ≤ 1
   unfolding elected
   single y (left h) = let m = ones-tally (s .n) (s .present) (f .present) in
@@ -85,7 +86,7 @@ module _ (s : Site) (c : ℕ) (i : Inv s) (f : Formed s) (e : Elects s c) where
       lasts = λ b h t. omega (arith, ap (λ (j : ℕ). store (s .box j) .last) (is-c b h));
     }
 
-    alone : Settled (s .n) (s .present) (elect s c .box) (i .agreed) c (after c)
+    alone : Settled (s .n) (s .present) (elect s c .box) (i .agreed) c (elects c)
     unfolding elected
     alone = record {
       ripe = ripe-same (s .box) (elect s c .box) same-store ripe;
@@ -94,10 +95,9 @@ module _ (s : Site) (c : ℕ) (i : Inv s) (f : Formed s) (e : Elects s c) where
       accepted = λ y. absurd (omega arith);
     }
 
-  pub inv-elect : Inv (elect s c)
+  pub inv-elect : After s i (elect s c)
   unfolding elect elected
-  inv-elect = record {
-    agreed = i .agreed;
+  inv-elect = after (record {
     core = core-same (s .box) (elect s c .box) same-store k;
     ranks = ranks-same (s .box) (elect s c .box) same-store (i .ranks);
     live = λ z. record {
@@ -107,7 +107,7 @@ module _ (s : Site) (c : ℕ) (i : Inv s) (f : Formed s) (e : Elects s c) where
       only = λ b h t. eqb-yes b c (sym (ap (λ (y : Box). y .head .leads) (is-after b h)) ∙ t);
       here = e .here;
       major = major;
-      x = after c;
+      x = elects c;
       at = is-after c (e .box);
       quiet = λ y a b. refl;
       asking = λ y. absurd (omega arith);
@@ -115,4 +115,4 @@ module _ (s : Site) (c : ℕ) (i : Inv s) (f : Formed s) (e : Elects s c) where
       settled = λ y. alone (single y (decide (eqb (ones (s .present)) 1)));
       mails = λ a b. nil;
     };
-  }
+  })

@@ -12,17 +12,19 @@ use Rattle.rules.specs.Sets.{bit, joined, without, digit, has, setForm, fullSet
 use Rattle.rules.specs.Numbers.{answerNumber, inState, inPhase}
 use Rattle.rules.specs.NewPn.{newPn}
 use Rattle.rules.specs.Turns.{firstCause, unless, settled}
-use Rattle.rules.specs.Parts.{others, isHeld, underOf, tookKept, tookBook, cleared}
+use Rattle.rules.specs.Parts.{others, isHeld, underOf, higher, tookKept, tookBook, roomNext}
+use Rattle.rules.specs.Parts.{cleared}
 use Rattle.rules.specs.Last.{noted, heard, behind, lagging, improves, bettered, raised, counted}
 use Rattle.rules.specs.Last.{uncounted, replied, lastVerdict, onLast}
 use Rattle.rules.specs.Mails.{unagreedOf, onCollect, beginVerdict, onBegin, acceptVerdict, onAccept}
 use Rattle.rules.specs.Mails.{onCommit, onLease, ofKind, onMail}
 use Rattle.rules.specs.Steps.{elected, canRecover, recover, canCollect, bestHeld, collect, started}
 use Rattle.rules.specs.Steps.{leased, canReady, hasPrevious, ready, canOffer, offer, canPropose}
-use Rattle.rules.specs.Steps.{propose, canAgree, agree, canFinish, finish, acted}
+use Rattle.rules.specs.Steps.{propose, canAgree, agree, canFinish, finish, canTrim, trim, acted}
 use Rattle.rules.specs.Box.{heldAt, written, enclosed}
 use Rattle.rules.specs.Site.{Site, freshHead, fresh, posted, room}
-use Rattle.rules.specs.Form.{countForm, peerForm, formBox, formKind, formLetter, formLink, form}
+use Rattle.rules.specs.Form.{firstForm, countForm, peerForm, formBox, formKind, formLetter}
+use Rattle.rules.specs.Form.{formLink, form}
 use Rattle.rules.specs.Needs.{ruled}
 use Rattle.rules.specs.Step.{byAnswer, delivered, elect, presented, step, run, agreedAs, holds}
 use Rattle.laws.proofs.Types.{Call}
@@ -50,14 +52,55 @@ replayed =
     ∷ Call.Deliver 1 2
     ∷ []
 
--- the lasts after line 14, and what lines 15 (holds) and 16 answer
-abbrev pub replay-reads : Site → List ℕ
-replay-reads s =
+-- the lasts and the firsts of both boxes
+abbrev pub ranges : Site → List ℕ
+ranges s =
     s .box 1 .head .kept .last
     ∷ s .box 2 .head .kept .last
-    ∷ answerNumber (holds s 2 1 71 72)
+    ∷ s .box 1 .head .kept .first
+    ∷ s .box 2 .head .kept .first
+    ∷ []
+
+-- after line 14, what lines 15 (holds) and 16 answer
+abbrev pub replay-answers : Site → List ℕ
+replay-answers s =
+    answerNumber (holds s 2 1 71 72)
     ∷ answerNumber (step s (Call.Deliver 1 2) .answer)
     ∷ []
+
+-- ---- room that is used again (Q-4): two boxes with room for two records
+
+-- box 1 has recovered
+pub recovered : List Call
+recovered =
+    Call.Elect 1
+    ∷ Call.Recover 1
+    ∷ Call.Collect 1
+    ∷ Call.Deliver 1 2
+    ∷ Call.Deliver 2 1
+    ∷ Call.Ready 1
+    ∷ []
+
+-- one load of the frames f and f, agreed at both; the Lease before it is handed over as well
+pub load : ℕ → List Call
+load f =
+    Call.Offer 1 f f
+    ∷ Call.Propose 1
+    ∷ Call.Deliver 1 2
+    ∷ Call.Deliver 1 2
+    ∷ Call.Deliver 2 1
+    ∷ Call.Agree 1
+    ∷ Call.Deliver 1 2
+    ∷ Call.Finish 1
+    ∷ []
+
+-- two loads fill the book
+pub two-loads : List Call
+two-loads = recovered ++ load 1 ++ load 2
+
+-- .. number 1 is dropped at box 1 (at box 2 by the Begin of number 3), and a third is agreed
+pub third-load : List Call
+third-load = two-loads ++ Call.Trim 1 2 ∷ load 3
 
 -- ---- the trace of the early Ceph bug (document 000, 4.1)
 
@@ -158,7 +201,13 @@ trace-reads s =
     ∷ []
 
 pub record Computed : Type 0 where
-  pub replay : replay-reads (ran 2 16 8 replayed) ≡ 1 ∷ 1 ∷ 0 ∷ 3 ∷ []
+  pub replay : ranges (ran 2 16 8 replayed) ≡ 1 ∷ 1 ∷ 1 ∷ 1 ∷ []
+  pub replay-says : replay-answers (ran 2 16 8 replayed) ≡ 0 ∷ 3 ∷ []
+  -- a third load is refused (7), ..
+  pub full : answerNumber (step (ran 2 2 8 (two-loads ++ Call.Offer 1 3 3 ∷ [])) (Call.Propose 1)
+      .answer) ≡ 7
+  -- .. until a number is dropped
+  pub again : ranges (ran 2 2 8 third-load) ≡ 3 ∷ 3 ∷ 2 ∷ 2 ∷ []
   -- before box 3 is elected, boxes 1 and 3 hold different records of number 1, and neither counts
   -- it as agreed
   pub choice : trace-reads (ran 3 4 8 (epoch2 ++ epoch4 ++ epoch6))
@@ -171,14 +220,22 @@ pub record Computed : Type 0 where
       ≡ (1 ∷ 1 ∷ 0 ∷ []) ∷ (0 ∷ 2 ∷ 2 ∷ []) ∷ (1 ∷ 2 ∷ 2 ∷ []) ∷ []
 
 pub computed : Computed
-unfolding replayed epoch2 epoch4 epoch6 epoch8 parted
-    pick all each every tally sizesForm proper recordForm bit joined without digit has setForm
+unfolding replayed recovered load two-loads third-load epoch2 epoch4 epoch6 epoch8 parted pick
+    all each every tally sizesForm proper recordForm bit joined without digit has setForm
     fullSet inState inPhase newPn firstCause unless settled others isHeld underOf tookKept
     tookBook cleared noted heard behind lagging improves bettered raised counted uncounted
     replied lastVerdict onLast unagreedOf onCollect beginVerdict onBegin acceptVerdict onAccept
     onCommit onLease ofKind onMail elected canRecover recover canCollect bestHeld collect
     started leased canReady hasPrevious ready canOffer offer canPropose propose canAgree agree
-    canFinish finish acted heldAt written enclosed freshHead fresh posted room countForm
-    peerForm formBox formKind formLetter formLink form ruled byAnswer delivered elect presented
-    step run agreedAs holds ones onesIn
-computed = record { replay = refl; choice = refl; kept-v2 = refl; split = refl }
+    canFinish finish canTrim trim acted heldAt written enclosed freshHead fresh posted room
+    countForm peerForm formBox formKind formLetter formLink form ruled byAnswer delivered elect
+    presented step run agreedAs holds ones onesIn firstForm higher roomNext
+computed = record {
+  replay = refl;
+  replay-says = refl;
+  full = refl;
+  again = refl;
+  choice = refl;
+  kept-v2 = refl;
+  split = refl;
+}

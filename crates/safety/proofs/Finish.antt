@@ -10,13 +10,14 @@ use Rattle.laws.proofs.Conditions.{go-unless, can-finish}
 use Rattle.laws.proofs.View.{phaseOf}
 use Rattle.laws.proofs.StepLaws.{by-acting}
 use Rattle.safety.proofs.Inv.{Inv}
+use Rattle.safety.proofs.After.{After, after-same}
 use Rattle.safety.proofs.Leader.{led}
 use Rattle.safety.proofs.Start.{inv-leased}
 
-pub inv-finish : (s : Site) (i : Inv s) (c : ℕ) → Inv (step s (Call.Finish c) .next)
+pub inv-finish : (s : Site) (i : Inv s) (c : ℕ) → After s i (step s (Call.Finish c) .next)
 unfolding step acted finish
 inv-finish s i c =
-    by-acting Inv s c _ _ _ i
+    by-acting (After s i) s c _ _ _ (after-same i)
     (λ f c-in go.
     let o = can-finish (go-unless _ _ _ go .0) in
     let k = led (i .live (o .even)) c c-in (o .leads) .settled (λ e. omega (arith, o .state, e)) in

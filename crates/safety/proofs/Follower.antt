@@ -5,8 +5,7 @@ use mathlib.Core.Bool.{true, false, _&&_, cond}
 use mathlib.Core.List.{List, [], _∷_, _++_, tail}
 use native.Mathlib.Omega.{arith}
 use lib.Dec.{eqb, ltb}
-use lib.ListN.{length, take}
-use lib.Seq.{take-take}
+use lib.ListN.{length}
 use borrow.Author.Tests.{ltb-true, ltb-false}
 use Rattle.rules.specs.Sets.{has}
 use Rattle.rules.specs.Box.{Box, Letter}
@@ -26,16 +25,6 @@ module _ {n w : ℕ} {box : ℕ → Box} {link : Links} {g : Agreement} (k : Cor
   pub lead-ok : BoxOk g (g .by (L .c)) (store (L .x))
   lead-ok =
       subst (λ (y : Box). BoxOk g (g .by (L .c)) (store y)) (L .at) (k .boxes (L .c) (L .c-in))
-
-  -- a beginning of the leader's agreed records is agreed
-  pub lead-prefix : (l : ℕ) (rs : List ℕ) → l ≤ store (L .x) .last
-      → take l rs ≡ take l (L .x .records)
-      → take l rs ≡ take l (g .records)
-  lead-prefix l rs le e =
-      e
-      ∙ sym (take-take l (store (L .x) .last) (L .x .records) le)
-      ∙ ap (take l) (lead-ok .prefix)
-      ∙ take-take l (store (L .x) .last) (g .records) le
 
 -- a mail anywhere on a link
 pub mail-on : {n w : ℕ} {box : ℕ → Box} {link : Links} {g : Agreement} (L : Live n w box link g)
@@ -91,15 +80,15 @@ module _ (w : ℕ) (g : Agreement) (c : ℕ) (x : Box) (a : ℕ) (sa sa′ : Sto
     (f : Moved x sa sa′) (h : Moved x sb sb′) where
   mail-moved : (m : Reading) → MailOk w g c x a sa b sb m → MailOk w g c x a sa′ b sb′ m
   mail-moved (Collect q l) k = k
-  mail-moved (Last q l u rs) k =
+  mail-moved (Last q l F u rs) k =
       record { to = k .to; from = k .from; told = λ z. again (k .told z) }
     where
-      again : Told w g c x a sa q l u rs → Told w g c x a sa′ q l u rs
+      again : Told w g c x a sa q l F u rs → Told w g c x a sa′ q l F u rs
       again t = record {
         rank = t .rank;
         fresh = t .fresh;
         low = t .low;
-        prefix = t .prefix;
+        agreed = t .agreed;
         same = t .same;
         old = t .old;
         answers = λ i j. let k = t .answers i j in record {
@@ -108,14 +97,14 @@ module _ (w : ℕ) (g : Agreement) (c : ℕ) (x : Box) (a : ℕ) (sa sa′ : Sto
           vote = k .vote;
         };
       }
-  mail-moved (Begin q l r) k = record {
+  mail-moved (Begin q l F r) k = record {
     from = k .from;
     to = k .to;
     recovered = k .recovered;
     pn = k .pn;
     le = k .le;
-    held = k .held;
     value = k .value;
+    done = k .done;
     top = λ z. k .top (omega (arith, h .up, z));
     now = k .now;
   }
@@ -127,7 +116,7 @@ module _ (w : ℕ) (g : Agreement) (c : ℕ) (x : Box) (a : ℕ) (sa sa′ : Sto
     now = k .now;
     voted = λ z. f .voted (k .voted z);
   }
-  mail-moved (Commit q l rs) k = k
+  mail-moved (Commit q l F rs) k = k
   mail-moved (Lease l) k = k
 
 -- ---- the box d, present and not leading, becomes v
@@ -155,7 +144,8 @@ module _ {n w : ℕ} {box : ℕ → Box} {link : Links} {g : Agreement} (L : Liv
       (L .mails a b)
 
   module _ (link′ : Links) (d-here : has w d ≡ true) (ne : d ≡ L .c → ⊥)
-      (led : v .head .leads ≡ box d .head .leads) (ph : phaseOf (L .x) ≡ 0 → ⊥)
+      (led : v .head .leads ≡ box d .head .leads)
+      (quiet : phaseOf (L .x) ≡ 0 → (a b : ℕ) → link′ a b ≡ [])
       (stored-kept : stateOf (L .x) ≡ 0 → store v .storedPn ≡ store (box d) .storedPn)
       (stored-le : store (box d) .storedPn ≤ P → store v .storedPn ≤ P)
       (pn-new : phaseOf (L .x) ≡ 1 → (store (box d) .pn ≡ P → ⊥) → store v .pn ≡ P → ⊥)
@@ -193,7 +183,7 @@ module _ {n w : ℕ} {box : ℕ → Box} {link : Links} {g : Agreement} (L : Liv
       major = L .major;
       x = L .x;
       at = apart-c ∙ L .at;
-      quiet = λ z. absurd (ph z);
+      quiet = quiet;
       asking = λ z. let k = L .asking z in record {
         recovering = k .recovering;
         rank = k .rank;
@@ -229,6 +219,6 @@ pub live-read : {n w : ℕ} {box : ℕ → Box} {link : Links} {g : Agreement} (
     → store v .pn ≡ store (box d) .pn → store v .storedPn ≡ store (box d) .storedPn
     → Live n w (upd box d v) (λ i j. cond (eqb i a && eqb j d) (tail (link i j)) (link i j)) g
 live-read {link = link} L a d y ys e v mv here ne led pn stored =
-    live-moved L d v mv _ here ne led (no-election L a d y ys e)
+    live-moved L d v mv _ here ne led (λ z. absurd (no-election L a d y ys e z))
     (λ h. stored) (λ h. rw stored h) (λ h f j. f (sym pn ∙ j))
     (all-pop (PostAfter L d v mv) link (mails-moved L d v mv) a d)

@@ -1,48 +1,55 @@
 -- The invariant, in definitions alone; each clause says why it is there. `Core` and `Ranks` speak
 -- of what boxes keep, at every epoch. `Live` speaks of an even epoch: its leader c with the box x,
 -- and the mail on its way.
-use Prim.Native.Nat.{ℕ, suc, _%_, _≤_, _<_}
+use Prim.Native.Nat.{ℕ, suc, _+_, _%_, _≤_, _<_, max}
 use mathlib.Core.Path.{_≡_}
 use mathlib.Core.Bool.{Bool, true}
 use mathlib.Core.List.{List, []}
-use lib.ListN.{length, getD, take}
+use lib.ListN.{length, getD}
 use Rattle.rules.specs.Sizes.{mostBoxes, even}
 use Rattle.rules.specs.Sets.{has}
-use Rattle.rules.specs.Box.{Box, Letter}
+use Rattle.rules.specs.Parts.{span}
+use Rattle.rules.specs.Box.{Box, Letter, recordAt}
 use Rattle.rules.specs.Site.{Site}
 use Rattle.laws.proofs.Logic.{In, All}
 use Rattle.laws.proofs.Counts.{Major}
-use Rattle.laws.proofs.View.{Links, Store, store, phaseOf, stateOf, Reading, Collect, Last, Begin}
-use Rattle.laws.proofs.View.{Accept, Commit, Lease, read}
+use Rattle.laws.proofs.View.{Links, Store, store, phaseOf, stateOf, at, HeldNext, Shaped, Reading}
+use Rattle.laws.proofs.View.{Collect, Last, Begin, Accept, Commit, Lease, read}
 
--- What has been agreed at some box, and how the last of it was: under which pn, by which boxes.
+-- What has been agreed at some box, from number 1 on, dropped or not, and how the last of it was:
+-- under which pn, by which boxes.
 pub record Agreement : Type 0 where
   pub records : List ℕ
   pub pn : ℕ
   pub by : ℕ → Bool
 
+-- of the records rs, which stand from number F on, those of F to L are agreed
+abbrev pub Agrees : Agreement → ℕ → ℕ → List ℕ → Type 0
+Agrees g F L rs =
+    (k : ℕ) → F ≤ suc k → suc k ≤ L → recordAt F rs (suc k) ≡ getD (g .records) k 0
+
 -- ---- what boxes keep
 
 -- one box, which took part in the last agreement or not
 pub record BoxOk (g : Agreement) (part : Bool) (a : Store) : Type 0 where
-  -- what it counts as agreed is agreed: this is demand 3
+  -- what it keeps as agreed is agreed: this is demand 3
   pub low : a .last ≤ length (g .records)
-  pub prefix : take (a .last) (a .records) ≡ take (a .last) (g .records)
+  pub agreed : Agrees g (a .first) (a .last) (a .records)
+  -- there is no hole from first to last, and it keeps its last agreed number
+  pub shaped : Shaped a
+  pub kept : a .first ≤ max 1 (a .last)
   -- a record held at last+1 was taken under the stored pn: so its Last tells the truth
-  pub number : a .last < length (a .records) → a .storedNumber ≡ suc (a .last)
+  pub number : HeldNext a → a .storedNumber ≡ suc (a .last)
   -- a part of the last agreement has promised its pn: so no lower pn is agreed later
   pub promise : part ≡ true → g .pn ≤ a .pn
   -- .. and holds its record until it counts it: so a majority that is asked later hears of it
   pub vote : part ≡ true → a .last < length (g .records)
-      → (suc (a .last) ≡ length (g .records))
-      × (a .last < length (a .records))
-      × (g .pn ≤ a .storedPn)
+      → (suc (a .last) ≡ length (g .records)) × HeldNext a × (g .pn ≤ a .storedPn)
   -- what is held at the last agreed number, under that pn or a higher one, is the agreed record
-  pub same : suc (a .last) ≡ length (g .records) → a .last < length (a .records)
-      → g .pn ≤ a .storedPn → getD (a .records) (a .last) 0 ≡ getD (g .records) (a .last) 0
+  pub same : suc (a .last) ≡ length (g .records) → HeldNext a → g .pn ≤ a .storedPn
+      → at a (a .last + 1) ≡ getD (g .records) (a .last) 0
   -- what is held at an earlier number was not taken later: so it never beats the agreed record
-  pub old : suc (a .last) < length (g .records) → a .last < length (a .records)
-      → a .storedPn ≤ g .pn
+  pub old : suc (a .last) < length (g .records) → HeldNext a → a .storedPn ≤ g .pn
 
 pub record Core (n : ℕ) (box : ℕ → Box) (g : Agreement) : Type 0 where
   -- every box is so, ..
@@ -74,14 +81,14 @@ pub record Ranks (n : ℕ) (box : ℕ → Box) : Type 0 where
 
 -- the box with the store a has taken the record r of number l+1, under pn P
 pub record Voted (P l r : ℕ) (a : Store) : Type 0 where
-  pub at : a .last ≡ l
-  pub held : length (a .records) ≡ suc l
-  pub value : getD (a .records) l 0 ≡ r
+  pub place : a .last ≡ l
+  pub held : HeldNext a
+  pub value : at a (l + 1) ≡ r
   pub under : a .storedPn ≡ P
 
 -- .. which the leader's box x has at its last+1
 abbrev pub VotedFor : Box → Store → Type 0
-VotedFor x a = Voted (store x .pn) (store x .last) (getD (x .records) (store x .last) 0) a
+VotedFor x a = Voted (store x .pn) (store x .last) (at (store x) (store x .last + 1)) a
 
 module _ (w : ℕ) (g : Agreement) (c : ℕ) (x : Box) where
   pub record CollectOk (a b q : ℕ) : Type 0 where
@@ -95,37 +102,37 @@ module _ (w : ℕ) (g : Agreement) (c : ℕ) (x : Box) where
     pub fresh : phaseOf x ≡ 1 → q ≡ store x .pn → ⊥
 
   -- a Last of the pn that is being collected
-  pub record Answers (a : ℕ) (sa : Store) (l u : ℕ) (rs : List ℕ) : Type 0 where
+  pub record Answers (a : ℕ) (sa : Store) (l F u : ℕ) (rs : List ℕ) : Type 0 where
     -- its sender has promised that pn
     pub promise : sa .pn ≡ store x .pn
     -- its sender goes beyond the last it told only by the leader's Commits
     pub reach : l < sa .last → sa .last ≤ store x .last
     -- a part of the last agreement tells of it
     pub vote : g .by a ≡ true → l < length (g .records)
-        → (suc l ≡ length (g .records)) × (l < length rs) × (g .pn ≤ u)
+        → (suc l ≡ length (g .records)) × (span F l < length rs) × (g .pn ≤ u)
 
   -- what a Last says of its sender's store, as it was (see `BoxOk`)
-  pub record Told (a : ℕ) (sa : Store) (q l u : ℕ) (rs : List ℕ) : Type 0 where
+  pub record Told (a : ℕ) (sa : Store) (q l F u : ℕ) (rs : List ℕ) : Type 0 where
     -- a pn of the leader's rank is not above the leader's: a new pn that it shows is new
     pub rank : q % 100 ≡ c → q ≤ store x .pn
     -- a pn that is not yet sent is answered by no mail
     pub fresh : phaseOf x ≡ 1 → q ≡ store x .pn → ⊥
     -- the leader may take its agreed records
     pub low : l ≤ length (g .records)
-    pub prefix : take l rs ≡ take l (g .records)
+    pub agreed : Agrees g F l rs
     -- its unagreed record is as in `BoxOk`: so the best stays what `Hearing` says
-    pub same : suc l ≡ length (g .records) → l < length rs → g .pn ≤ u
-        → getD rs l 0 ≡ getD (g .records) l 0
-    pub old : suc l < length (g .records) → l < length rs → u ≤ g .pn
+    pub same : suc l ≡ length (g .records) → span F l < length rs → g .pn ≤ u
+        → recordAt F rs (l + 1) ≡ getD (g .records) l 0
+    pub old : suc l < length (g .records) → span F l < length rs → u ≤ g .pn
     -- it counts only where it answers the pn that is being collected
-    pub answers : phaseOf x ≡ 2 → q ≡ store x .pn → Answers a sa l u rs
+    pub answers : phaseOf x ≡ 2 → q ≡ store x .pn → Answers a sa l F u rs
 
-  pub record LastOk (a : ℕ) (sa : Store) (b q l u : ℕ) (rs : List ℕ) : Type 0 where
+  pub record LastOk (a : ℕ) (sa : Store) (b q l F u : ℕ) (rs : List ℕ) : Type 0 where
     -- only present boxes answer, and only the leader
     pub to : b ≡ c
     pub from : has w a ≡ true
     -- a leader that has recovered discards it
-    pub told : stateOf x ≡ 0 → Told a sa q l u rs
+    pub told : stateOf x ≡ 0 → Told a sa q l F u rs
 
   pub record BeginOk (a b : ℕ) (sb : Store) (q l r : ℕ) : Type 0 where
     pub from : a ≡ c
@@ -133,10 +140,10 @@ module _ (w : ℕ) (g : Agreement) (c : ℕ) (x : Box) where
     -- the leader has recovered, and this is its pn: so it is the receiver's too
     pub recovered : stateOf x ≡ 0 → ⊥
     pub pn : q ≡ store x .pn
-    -- the record is the leader's
+    -- the record is the one that the leader holds at last+1, or has agreed since
     pub le : l ≤ store x .last
-    pub held : l < length (x .records)
-    pub value : getD (x .records) l 0 ≡ r
+    pub value : l ≡ store x .last → HeldNext (store x) × (at (store x) (store x .last + 1) ≡ r)
+    pub done : l < store x .last → r ≡ getD (g .records) l 0
     -- nothing beyond it is agreed, while its receiver would take it
     pub top : sb .last ≤ l → length (g .records) ≤ suc l
     -- one of the leader's last+1 is on its way only while the leader waits for it
@@ -151,12 +158,12 @@ module _ (w : ℕ) (g : Agreement) (c : ℕ) (x : Box) where
     -- its sender has the record that the leader waits for
     pub voted : l ≡ store x .last → VotedFor x sa
 
-  pub record CommitOk (a b l : ℕ) (rs : List ℕ) : Type 0 where
+  pub record CommitOk (a b l F : ℕ) (rs : List ℕ) : Type 0 where
     pub from : a ≡ c
     pub to : has w b ≡ true
-    -- its records are the leader's agreed ones
+    -- its records are agreed, and the leader counts them
     pub le : l ≤ store x .last
-    pub prefix : take l rs ≡ take l (x .records)
+    pub agreed : Agrees g F l rs
 
   pub record LeaseOk (a b : ℕ) : Type 0 where
     -- its receiver is no leader and is present: so its store may stay as it is
@@ -165,10 +172,10 @@ module _ (w : ℕ) (g : Agreement) (c : ℕ) (x : Box) where
 
   abbrev pub MailOk : (a : ℕ) → Store → (b : ℕ) → Store → Reading → Type 0
   MailOk a sa b sb (Collect q l) = CollectOk a b q
-  MailOk a sa b sb (Last q l u rs) = LastOk a sa b q l u rs
-  MailOk a sa b sb (Begin q l r) = BeginOk a b sb q l r
+  MailOk a sa b sb (Last q l F u rs) = LastOk a sa b q l F u rs
+  MailOk a sa b sb (Begin q l F r) = BeginOk a b sb q l r
   MailOk a sa b sb (Accept q l) = AcceptOk a sa b q l
-  MailOk a sa b sb (Commit q l rs) = CommitOk a b l rs
+  MailOk a sa b sb (Commit q l F rs) = CommitOk a b l F rs
   MailOk a sa b sb (Lease l) = LeaseOk a b
 
   -- no box has a link to itself

@@ -1,19 +1,20 @@
 -- An even epoch seen from its leader, and one in which the leader's box changes.
-use Prim.Native.Nat.{ℕ, _≤_}
+use Prim.Native.Nat.{ℕ, _+_, _≤_, _<_}
 use mathlib.Core.Path.{_≡_, refl, sym, ap, _∙_, subst}
 use mathlib.Core.Bool.{true}
 use mathlib.Core.List.{List, [], _∷_}
 use native.Mathlib.Omega.{arith}
 use lib.ListN.{length}
 use Rattle.rules.specs.Sets.{has}
-use Rattle.rules.specs.Box.{Box, Letter}
+use Rattle.rules.specs.Parts.{span}
+use Rattle.rules.specs.Box.{Box, Letter, recordAt}
 use Rattle.rules.specs.Site.{upd}
 use Rattle.laws.proofs.Types.{Kind}
 use Rattle.laws.proofs.Logic.{In, eqb-same, All, All-head, All-map}
 use Rattle.laws.proofs.Counts.{Major}
 use Rattle.laws.proofs.FrameLaws.{upd-all, upd-same, upd-other}
-use Rattle.laws.proofs.View.{Links, Store, store, phaseOf, stateOf, Reading, Collect, Last, Begin}
-use Rattle.laws.proofs.View.{Accept, Commit, Lease, read, readAs, keeping}
+use Rattle.laws.proofs.View.{Links, Store, store, keeping, phaseOf, stateOf, at, HeldNext, Reading}
+use Rattle.laws.proofs.View.{Collect, Last, Begin, Accept, Commit, Lease, read, readAs}
 use Rattle.safety.proofs.Inv.{Agreement, VotedFor, MailOk, PostOk, LastOk, Told, BeginOk}
 use Rattle.safety.proofs.Inv.{AcceptOk, Ripe, Asking, Hearing, Settled, Live}
 
@@ -74,13 +75,14 @@ module _ {n w : ℕ} {box : ℕ → Box} {link : Links} {g : Agreement} where
         → MailOk w g′ c x a (store (box a)) b (store (box b)) m
         → MailOk w g′ c x a (store (upd box c x a)) b (store (upd box c x b)) m
     relocate g′ a b ab (Collect q l) h = h
-    relocate g′ a b ab (Last q l u rs) h =
-        subst (λ (t : Store). LastOk w g′ c x a t b q l u rs) (stay a (λ k. ab (k ∙ sym (h .to)))) h
-    relocate g′ a b ab (Begin q l r) h =
+    relocate g′ a b ab (Last q l F u rs) h =
+        subst (λ (t : Store). LastOk w g′ c x a t b q l F u rs) (stay a (λ k. ab (k ∙ sym (h .to))))
+        h
+    relocate g′ a b ab (Begin q l F r) h =
         subst (λ (t : Store). BeginOk w g′ c x a b t q l r) (stay b (λ k. ab (h .from ∙ sym k))) h
     relocate g′ a b ab (Accept q l) h =
         subst (λ (t : Store). AcceptOk w g′ c x a t b q l) (stay a (λ k. ab (k ∙ sym (h .to)))) h
-    relocate g′ a b ab (Commit q l rs) h = h
+    relocate g′ a b ab (Commit q l F rs) h = h
     relocate g′ a b ab (Lease l) h = h
 
     pub lead-mails : (g′ : Agreement)
@@ -113,7 +115,25 @@ module _ {n w : ℕ} {box : ℕ → Box} {link : Links} {g : Agreement} where
       mails = m;
     }
 
--- ---- a leader that keeps its store
+-- ---- a leader that keeps its store, but for what it has dropped
+
+-- a book from number f on, with the record of the store's last+1
+pub record SameNext (a : Store) (f : ℕ) (rs : List ℕ) : Type 0 where
+  pub held : HeldNext a → span f (a .last) < length rs
+  pub value : recordAt f rs (a .last + 1) ≡ at a (a .last + 1)
+
+pub same-next : (a : Store) → SameNext a (a .first) (a .records)
+same-next a = record { held = λ h. h; value = refl }
+
+abbrev pub booked : ℕ → List ℕ → Store → Store
+booked f rs a = record {
+  pn = a .pn;
+  last = a .last;
+  first = f;
+  records = rs;
+  storedPn = a .storedPn;
+  storedNumber = a .storedNumber;
+}
 
 -- how its phase and state may go on
 pub record Onward (y z : Box) : Type 0 where
@@ -130,9 +150,21 @@ onward-same p s = record {
   recovering = λ e. sym s ∙ e;
 }
 
-module _ (w : ℕ) (g : Agreement) (c : ℕ) (y z : Box) (on : Onward y z) where
+module _ (w : ℕ) (g : Agreement) (c : ℕ) (y z : Box) (on : Onward y z) (f : ℕ) (book : List ℕ)
+    (next : SameNext (store y) f book) where
+  abbrev x : Box
+  x = keeping (booked f book (store y)) z
+
+  pub voted-kept : {a : Store} → VotedFor y a → VotedFor x a
+  voted-kept v = record {
+    place = v .place;
+    held = v .held;
+    value = v .value ∙ sym (next .value);
+    under = v .under;
+  }
+
   pub mail-kept : (a : ℕ) (sa : Store) (b : ℕ) (sb : Store) (m : Reading)
-      → MailOk w g c y a sa b sb m → MailOk w g c (keeping (store y) z) a sa b sb m
+      → MailOk w g c y a sa b sb m → MailOk w g c x a sa b sb m
   mail-kept a sa b sb (Collect q l) h = record {
     from = h .from;
     to = h .to;
@@ -140,28 +172,28 @@ module _ (w : ℕ) (g : Agreement) (c : ℕ) (y z : Box) (on : Onward y z) where
     le = h .le;
     fresh = λ e. h .fresh (on .asking e);
   }
-  mail-kept a sa b sb (Last q l u rs) h =
+  mail-kept a sa b sb (Last q l F u rs) h =
       record { to = h .to; from = h .from; told = λ e. again (h .told (on .recovering e)) }
     where
-      again : Told w g c y a sa q l u rs → Told w g c (keeping (store y) z) a sa q l u rs
+      again : Told w g c y a sa q l F u rs → Told w g c x a sa q l F u rs
       again t = record {
         rank = t .rank;
         fresh = λ e. t .fresh (on .asking e);
         low = t .low;
-        prefix = t .prefix;
+        agreed = t .agreed;
         same = t .same;
         old = t .old;
         answers = λ e f. let k = t .answers (on .hearing e) f in
             record { promise = k .promise; reach = k .reach; vote = k .vote };
       }
-  mail-kept a sa b sb (Begin q l r) h = record {
+  mail-kept a sa b sb (Begin q l F r) h = record {
     from = h .from;
     to = h .to;
     recovered = λ e. h .recovered (on .recovering e);
     pn = h .pn;
     le = h .le;
-    held = h .held;
-    value = h .value;
+    value = λ e. (next .held (h .value e .0), next .value ∙ h .value e .1);
+    done = h .done;
     top = h .top;
     now = λ e. on .beginning (h .now e);
   }
@@ -171,10 +203,10 @@ module _ (w : ℕ) (g : Agreement) (c : ℕ) (y z : Box) (on : Onward y z) where
     recovered = λ e. h .recovered (on .recovering e);
     le = h .le;
     now = λ e. on .beginning (h .now e);
-    voted = h .voted;
+    voted = λ e. voted-kept (h .voted e);
   }
-  mail-kept a sa b sb (Commit q l rs) h =
-      record { from = h .from; to = h .to; le = h .le; prefix = h .prefix }
+  mail-kept a sa b sb (Commit q l F rs) h =
+      record { from = h .from; to = h .to; le = h .le; agreed = h .agreed }
   mail-kept a sa b sb (Lease l) h = record { from = h .from; to = h .to }
 
 -- the leader's box becomes v, and keeps its pn and its last

@@ -1,5 +1,6 @@
 -- Demand 3, proved: the invariant, a module a step, every run, where records come from.
 pub mod Inv
+pub mod After
 pub mod Stores
 pub mod Base
 pub mod Chosen
@@ -16,6 +17,7 @@ pub mod Offer
 pub mod Propose
 pub mod Agree
 pub mod Finish
+pub mod Trim
 pub mod MailCollect
 pub mod MailLast
 pub mod MailBegin
@@ -24,9 +26,12 @@ pub mod MailCommit
 pub mod MailLease
 pub mod Safe
 pub mod Begins
+pub mod Played
 pub mod Moves
 pub mod Desk
 pub mod Origin
 pub mod Proper
 pub mod Example
 pub mod Demand
+pub mod Room
+pub mod Rooms

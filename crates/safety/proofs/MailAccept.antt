@@ -19,9 +19,10 @@ use Rattle.laws.proofs.FrameLaws.{all-pop}
 use Rattle.laws.proofs.View.{Store, store, Reading}
 use Rattle.laws.proofs.StepLaws.{changed, by-settled}
 use Rattle.safety.proofs.Inv.{VotedFor, MailOk, AcceptOk, Settled, Inv}
+use Rattle.safety.proofs.After.{After, after, after-same}
 use Rattle.safety.proofs.Base.{core-kept, ranks-kept}
 use Rattle.safety.proofs.Leader.{Led, led, led-mail, PostLed, lead-mails, lead-live}
-use Rattle.safety.proofs.Leader.{onward-same, mail-kept, settled-kept}
+use Rattle.safety.proofs.Leader.{onward-same, same-next, mail-kept, settled-kept}
 use Rattle.safety.proofs.Quiet.{inv-popped}
 use Rattle.safety.proofs.Arrival.{Arrives}
 
@@ -60,11 +61,12 @@ module _ (s : Site) (i : Inv s) (a c : ℕ) (y : Letter) (ys : List Letter)
   stays : (j : ℕ) (sj : Store) (b : ℕ) (sb : Store) (m : Reading)
       → MailOk (s .present) (i .agreed) c (s .box c) j sj b sb m
       → MailOk (s .present) (i .agreed) c x j sj b sb m
-  stays = mail-kept (s .present) (i .agreed) c (s .box c) x (onward-same refl refl)
+  stays =
+      mail-kept (s .present) (i .agreed) c (s .box c) x (onward-same refl refl) _ _
+      (same-next (store (s .box c)))
 
-  joins : Inv (changed s (upd (s .box) c x) (popped s a c .link))
-  joins = record {
-    agreed = i .agreed;
+  joins : After s i (changed s (upd (s .box) c x) (popped s a c .link))
+  joins = after (record {
     core = core-kept (i .core) c x (r .to) (i .core .boxes c (r .to))
         (omega arith) (omega arith) refl;
     ranks = ranks-kept (i .ranks) c x (r .to) refl refl;
@@ -76,12 +78,13 @@ module _ (s : Site) (i : Inv s) (a c : ℕ) (y : Letter) (ys : List Letter)
         (λ f. settled-kept c x k (k .done) (k .own) (λ g. accepted))
         (all-pop (PostLed c L x (t .leads) (i .agreed)) (s .link)
         (lead-mails c L x (t .leads) (i .agreed) (λ a b m. stays a _ b _ m)) a c);
-  }
+  })
 
 pub inv-accept : (s : Site) (i : Inv s) (a c : ℕ) (y : Letter) (ys : List Letter)
     → Arrives s a c y ys Kind.Accept
-    → Inv (byTurn s (popped s a c) c (onAccept (s .box c .head) a (y .head)) (y .records) .next)
+    → After s i (byTurn s (popped s a c) c (onAccept (s .box c .head) a (y .head)) (y .records)
+    .next)
 unfolding onAccept posted written
 inv-accept s i a c y ys r =
-    by-settled Inv s (popped s a c) c _ _ _ _ i (inv-popped s a c i)
+    by-settled (After s i) s (popped s a c) c _ _ _ _ (after-same i) (inv-popped s a c i)
     (λ go. joins s i a c y ys r (go-accept go))

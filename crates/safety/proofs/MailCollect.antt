@@ -12,8 +12,8 @@ use Rattle.rules.specs.Pick.{pick-true}
 use Rattle.rules.specs.Sizes.{mostBoxes}
 use Rattle.rules.specs.Sets.{has, bit}
 use Rattle.rules.specs.Fields.{withState, withKept, promised as promising}
-use Rattle.rules.specs.Parts.{underOf}
-use Rattle.rules.specs.Turns.{mailOf}
+use Rattle.rules.specs.Parts.{underOf, span}
+use Rattle.rules.specs.Turns.{mailFrom}
 use Rattle.rules.specs.Mails.{unagreedOf, onCollect}
 use Rattle.rules.specs.Box.{Box, Letter, heldAt, mine, written, enclosed}
 use Rattle.rules.specs.Site.{Site, popped, posted, upd}
@@ -22,9 +22,10 @@ use Rattle.laws.proofs.Types.{Kind, State}
 use Rattle.laws.proofs.Logic.{Or, left, right, In, decide, eqb-same}
 use Rattle.laws.proofs.SetLaws.{bit-is}
 use Rattle.laws.proofs.FrameLaws.{all-pop, all-post}
-use Rattle.laws.proofs.View.{Links, Store, store, stateOf, promised}
+use Rattle.laws.proofs.View.{Links, Store, store, stateOf, HeldNext, promised}
 use Rattle.laws.proofs.StepLaws.{changed, by-settled}
 use Rattle.safety.proofs.Inv.{Agreement, BoxOk, CollectOk, LastOk, Told, Live, Inv}
+use Rattle.safety.proofs.After.{After, after, after-same}
 use Rattle.safety.proofs.Stores.{box-promised}
 use Rattle.safety.proofs.Base.{core-kept, ranks-put}
 use Rattle.safety.proofs.Follower.{head-mail, no-election, Moved, PostAfter, mails-moved}
@@ -41,12 +42,13 @@ max-is u v = go (decide (leb v u))
 
 -- a record held at last+1 is told with the pn under which it was stored
 unagreed-is : {g : Agreement} {part : Bool} (x : Box) → BoxOk g part (store x)
-    → store x .last < length (x .records) → unagreedOf (x .head .kept) (mine x) ≡ store x .storedPn
+    → HeldNext (store x) → unagreedOf (x .head .kept) (mine x) ≡ store x .storedPn
 unfolding unagreedOf underOf heldAt
 unagreed-is x k h =
     let k′ = x .head .kept in
-    let held = lt-ltb (k′ .last) (length (x .records)) h in
-    rw (pick-true (ltb (k′ .last) (length (x .records))) _ _ held)
+    let next = span (k′ .first) (k′ .last) in
+    let held = lt-ltb next (length (x .records)) h in
+    rw (pick-true (ltb next (length (x .records))) _ _ held)
     (pick-true (eqb (k′ .stored .number) (k′ .last + 1)) _ _
     (eq-eqb (k′ .stored .number) (k′ .last + 1) (omega (arith, k .number h))))
 
@@ -105,7 +107,7 @@ module _ (s : Site) (i : Inv s) (a b : ℕ) (y : Letter) (ys : List Letter)
     promise = λ f. omega (arith, ok .le, f);
     up = omega arith;
     reach = λ f. absurd (omega arith);
-    voted = λ f. record { at = f .at; held = f .held; value = f .value; under = f .under };
+    voted = λ f. record { place = f .place; held = f .held; value = f .value; under = f .under };
   }
 
   -- ---- the answer
@@ -122,8 +124,8 @@ module _ (s : Site) (i : Inv s) (a b : ℕ) (y : Letter) (ys : List Letter)
   abbrev answer : Letter
   answer = record {
     head =
-        mailOf Kind.Last (max (s .box b .head .kept .pn) (y .head .pn))
-        (s .box b .head .kept .last) u;
+        mailFrom (s .box b .head .kept .first) Kind.Last
+        (max (s .box b .head .kept .pn) (y .head .pn)) (s .box b .head .kept .last) u;
     records = s .box b .records;
   }
 
@@ -134,12 +136,12 @@ module _ (s : Site) (i : Inv s) (a b : ℕ) (y : Letter) (ys : List Letter)
 
   told : stateOf (L .x) ≡ 0
       → Told (s .present) (i .agreed) (L .c) (L .x) b (store (upd (s .box) b v b)) (max (st .pn) q)
-      (st .last) u (st .records)
+      (st .last) (st .first) u (st .records)
   told h = record {
     rank = λ t. omega (arith, lead-pn, ranked (L .c) (L .c-in) (max-is (st .pn) q) t);
     fresh = λ f. still-new (ok .fresh f) (L .asking f .new b (r .to) ne);
     low = box-ok .low;
-    prefix = box-ok .prefix;
+    agreed = box-ok .agreed;
     same = λ m k u. box-ok .same m k (omega (arith, u, unagreed-is (s .box b) box-ok k));
     old = λ m k. omega (arith, box-ok .old m k, unagreed-is (s .box b) box-ok k);
     answers = λ f g. rw (eqb-same b) (record {
@@ -152,30 +154,30 @@ module _ (s : Site) (i : Inv s) (a b : ℕ) (y : Letter) (ys : List Letter)
 
   answer-ok : (d : ℕ) → d ≡ a
       → LastOk (s .present) (i .agreed) (L .c) (L .x) b (store (upd (s .box) b v b)) d
-      (max (st .pn) q) (st .last) u (st .records)
+      (max (st .pn) q) (st .last) (st .first) u (st .records)
   answer-ok d da = record { to = da ∙ ok .from; from = ok .to; told = told }
 
-  inv-asked : Inv (changed s (upd (s .box) b v) link′)
-  inv-asked = record {
-    agreed = i .agreed;
+  inv-asked : After s i (changed s (upd (s .box) b v) link′)
+  inv-asked = after (record {
     core = core-kept (i .core) b v (r .to) (box-promised st box-ok (max (st .pn) q) (omega arith))
         (omega arith) (omega arith) refl;
     ranks = ranks-put (i .ranks) b v (omega arith)
         (λ x hx nx. ranked x hx (max-is (st .pn) q))
         (λ x hx. i .ranks .storedPns x b hx (r .to));
     live = λ z.
-        live-moved L b v moved link′ (ok .to) ne refl (no-election L a b y ys (r .head))
+        live-moved L b v moved link′ (ok .to) ne refl
+        (λ h. absurd (no-election L a b y ys (r .head) h))
         (λ h. refl) (λ h. h) (λ h. still-new (ok .fresh h))
         (all-post (PostAfter L b v moved) (popped s a b .link)
         (all-pop (PostAfter L b v moved) (s .link) (mails-moved L b v moved) a b)
         (bit a) b answer (λ d hd h. answer-ok d (bit-is a d five hd)));
-  }
+  })
 
 pub inv-collect-mail : (s : Site) (i : Inv s) (a b : ℕ) (y : Letter) (ys : List Letter)
     → Arrives s a b y ys Kind.Collect
-    → Inv (byTurn s (popped s a b) b (onCollect (s .box b .head) a (y .head) (mine (s .box b)))
-    (y .records) .next)
+    → After s i (byTurn s (popped s a b) b
+    (onCollect (s .box b .head) a (y .head) (mine (s .box b))) (y .records) .next)
 unfolding onCollect posted written enclosed
 inv-collect-mail s i a b y ys r =
-    by-settled Inv s (popped s a b) b _ _ _ _ i (inv-popped s a b i)
+    by-settled (After s i) s (popped s a b) b _ _ _ _ (after-same i) (inv-popped s a b i)
     (λ go. inv-asked s i a b y ys r)

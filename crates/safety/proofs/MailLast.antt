@@ -1,24 +1,23 @@
 -- A Last is taken: its records are taken and shared; then the answer counts, does not count, or
 -- shows a higher pn.
-use Prim.Native.Nat.{ℕ, suc, _%_, _≤_, _<_}
-use mathlib.Core.Path.{_≡_, refl, sym, ap, _∙_, subst}
+use Prim.Native.Nat.{ℕ, suc, _%_, _≤_, _<_, max}
+use mathlib.Core.Path.{_≡_, refl, sym, _∙_, subst}
 use mathlib.Core.Bool.{true, false, _&&_, cond}
 use mathlib.Core.List.{List, [], _∷_, _++_}
 use native.Mathlib.Omega.{arith}
 use lib.Dec.{eqb, ltb}
 use lib.ListN.{length, take}
-use lib.Seq.{take-take}
 use borrow.Author.Tests.{ltb-true, ltb-false}
 use Rattle.rules.specs.Sizes.{mostBoxes}
 use Rattle.rules.specs.Sets.{has, joined, without}
 use Rattle.rules.specs.NewPn.{newPn}
 use Rattle.rules.specs.Fields.{withPhase, withKept, withBest, withAnswered, withPeers, lasting}
-use Rattle.rules.specs.Fields.{promised as promising}
-use Rattle.rules.specs.Parts.{others, tookKept, cleared}
-use Rattle.rules.specs.Turns.{mailOf}
+use Rattle.rules.specs.Fields.{keeping, promised as promising}
+use Rattle.rules.specs.Parts.{others, span, tookKept, cleared}
+use Rattle.rules.specs.Turns.{mailFrom}
 use Rattle.rules.specs.Last.{noted, heard, lagging, bettered, raised, counted, uncounted, replied}
 use Rattle.rules.specs.Last.{onLast}
-use Rattle.rules.specs.Box.{Box, Letter, heldAt, enclosed}
+use Rattle.rules.specs.Box.{Box, Letter, nextOf, enclosed}
 use Rattle.rules.specs.Site.{Site, setting, popped, posted, upd}
 use Rattle.rules.specs.Step.{byTurn}
 use Rattle.laws.proofs.Types.{Best, BoxState, Kind, Phase}
@@ -26,26 +25,26 @@ use Rattle.laws.proofs.Logic.{Or, left, right, In, decide, eqb-yes, and-yes}
 use Rattle.laws.proofs.Logic.{pick-elim, All}
 use Rattle.laws.proofs.SetLaws.{has-and, joined-in, without-in}
 use Rattle.laws.proofs.NewPnLaws.{newPn-above, newPn-rank, newPn-nowhere}
+use Rattle.laws.proofs.FormLaws.{FormedLast}
 use Rattle.laws.proofs.Conditions.{LastTaken, go-last}
 use Rattle.laws.proofs.FrameLaws.{upd-all, all-pop, all-post}
 use Rattle.laws.proofs.View.{Links, Store, store, phaseOf, stateOf, Reading, Collect, Last, Begin}
-use Rattle.laws.proofs.View.{Accept, Commit, Lease, took, took-elim}
-use Rattle.laws.proofs.Growth.{Grows, grows-took}
+use Rattle.laws.proofs.View.{Accept, Commit, Lease, last-spans, took, took-last}
 use Rattle.laws.proofs.StepLaws.{changed, by-settled}
 use Rattle.safety.proofs.Inv.{Agreement, BoxOk, MailOk, LastOk, Told, Hearing, Inv}
-use Rattle.safety.proofs.Stores.{box-took, box-promised}
+use Rattle.safety.proofs.After.{After, after, after-same}
+use Rattle.safety.proofs.Stores.{agrees-take, box-took, box-promised}
 use Rattle.safety.proofs.Base.{core-kept, ranks-put, ranks-kept}
 use Rattle.safety.proofs.Chosen.{BestOk, Found, best-cleared, found-cleared, best-chosen}
 use Rattle.safety.proofs.Chosen.{found-chosen}
 use Rattle.safety.proofs.Leader.{Led, led, led-mail, PostLed, lead-mails, lead-live}
 use Rattle.safety.proofs.Quiet.{inv-popped}
-use Rattle.safety.proofs.Arrival.{Arrives}
+use Rattle.safety.proofs.Arrival.{Arrives, arrived}
 
 -- ---- the mail on its way, while the leader's box y becomes x
 
 module _ (w : ℕ) (g : Agreement) (c : ℕ) (y x : Box) (recovering : stateOf y ≡ 0)
     (pn-up : store y .pn ≤ store x .pn) (last-up : store y .last ≤ store x .last)
-    (takes : (k : ℕ) → k ≤ store y .last → take k (x .records) ≡ take k (y .records))
     (fresh : phaseOf x ≡ 1 → (v : ℕ) → (v % 100 ≡ c → v ≤ store y .pn) → v ≡ store x .pn → ⊥)
     (still : phaseOf x ≡ 2 → (phaseOf y ≡ 2) × (store x .pn ≡ store y .pn)) where
   mail-gathered : (a : ℕ) (sa : Store) (b : ℕ) (sb : Store) (m : Reading)
@@ -57,15 +56,15 @@ module _ (w : ℕ) (g : Agreement) (c : ℕ) (y x : Box) (recovering : stateOf y
     le = omega (arith, h .le, pn-up);
     fresh = λ e. fresh e q (λ f. h .le);
   }
-  mail-gathered a sa b sb (Last q l u rs) h =
+  mail-gathered a sa b sb (Last q l F u rs) h =
       record { to = h .to; from = h .from; told = λ e. again (h .told recovering) }
     where
-      again : Told w g c y a sa q l u rs → Told w g c x a sa q l u rs
+      again : Told w g c y a sa q l F u rs → Told w g c x a sa q l F u rs
       again t = record {
         rank = λ e. omega (arith, t .rank e, pn-up);
         fresh = λ e. fresh e q (t .rank);
         low = t .low;
-        prefix = t .prefix;
+        agreed = t .agreed;
         same = t .same;
         old = t .old;
         answers = λ e f. let k = t .answers (still e .0) (f ∙ still e .1) in record {
@@ -74,14 +73,10 @@ module _ (w : ℕ) (g : Agreement) (c : ℕ) (y x : Box) (recovering : stateOf y
           vote = k .vote;
         };
       }
-  mail-gathered a sa b sb (Begin q l r) h = absurd (h .recovered recovering)
+  mail-gathered a sa b sb (Begin q l F r) h = absurd (h .recovered recovering)
   mail-gathered a sa b sb (Accept q l) h = absurd (h .recovered recovering)
-  mail-gathered a sa b sb (Commit q l rs) h = record {
-    from = h .from;
-    to = h .to;
-    le = omega (arith, h .le, last-up);
-    prefix = h .prefix ∙ sym (takes l (h .le));
-  }
+  mail-gathered a sa b sb (Commit q l F rs) h =
+      record { from = h .from; to = h .to; le = omega (arith, h .le, last-up); agreed = h .agreed }
   mail-gathered a sa b sb (Lease l) h = record { from = h .from; to = h .to }
 
 -- ---- the answer
@@ -94,6 +89,9 @@ module _ (s : Site) (i : Inv s) (a c : ℕ) (y : Letter) (ys : List Letter)
 
   abbrev l : ℕ
   l = y .head .last
+
+  abbrev F : ℕ
+  F = y .head .first
 
   abbrev u : ℕ
   u = y .head .unagreed
@@ -113,37 +111,40 @@ module _ (s : Site) (i : Inv s) (a c : ℕ) (y : Letter) (ys : List Letter)
   H : Hearing (s .n) (s .present) (s .box) (i .agreed) c (s .box c)
   H = L .hearing (o .phase)
 
-  ok : LastOk (s .present) (i .agreed) c (s .box c) a (store (s .box a)) c q l u rs
+  ok : LastOk (s .present) (i .agreed) c (s .box c) a (store (s .box a)) c q l F u rs
   ok = led-mail L a c y ys (r .head) (r .apart) Kind.Last (r .kind)
 
-  T : Told (s .present) (i .agreed) c (s .box c) a (store (s .box a)) q l u rs
+  T : Told (s .present) (i .agreed) c (s .box c) a (store (s .box a)) q l F u rs
   T = ok .told (H .recovering)
 
   -- ---- the records are taken
 
   abbrev t : Store
-  t = took l rs (store (s .box c))
+  t = took F l rs (store (s .box c))
+
+  own : BoxOk (i .agreed) (i .agreed .by c) st
+  own = i .core .boxes c (r .to)
+
+  form : FormedLast (s .J) l F u (length rs)
+  form = arrived r
 
   taken-ok : BoxOk (i .agreed) (i .agreed .by c) t
-  taken-ok = box-took st (i .core .boxes c (r .to)) l rs (T .low) (T .prefix)
+  taken-ok = box-took st own F l rs (last-spans form) (form .first .top) (T .low) (T .agreed)
 
-  grown : Grows st t
-  grown = grows-took l rs st (r .form .boxes c (r .to) .held .all)
+  last : t .last ≡ max (st .last) l
+  last = took-last F l rs st (own .shaped)
+
+  grown : st .last ≤ t .last
+  grown = omega (arith, last)
 
   reached : l ≤ t .last
-  reached = took-elim (λ (a : Store). l ≤ a .last) l rs st (λ f. omega arith) (λ f. f)
-
-  takes : (k : ℕ) → k ≤ st .last → take k (t .records) ≡ take k (st .records)
-  takes k f =
-      sym (take-take k (st .last) (t .records) f)
-      ∙ ap (take k) (grown .same)
-      ∙ take-take k (st .last) (st .records) f
+  reached = omega (arith, last)
 
   -- the box with the records taken and the peer noted
   abbrev noted-box : BoxState
   noted-box =
       withPeers (noted (s .box c .head .peers) a l)
-      (withKept (lasting (t .last) (s .box c .head .kept)) (s .box c .head))
+      (withKept (keeping (t .first) (lasting (t .last) (s .box c .head .kept))) (s .box c .head))
 
   -- ---- Commits to the boxes known to lag
 
@@ -152,8 +153,8 @@ module _ (s : Site) (i : Inv s) (a c : ℕ) (y : Letter) (ys : List Letter)
 
   abbrev commit : Letter
   commit = record {
-    head = mailOf Kind.Commit (s .box c .head .kept .pn) (t .last) 0;
-    records = take (t .last) (t .records);
+    head = mailFrom (t .first) Kind.Commit (s .box c .head .kept .pn) (t .last) 0;
+    records = take (span (t .first) (t .last)) (t .records);
   }
 
   -- shut, so that `rw` does not look into it
@@ -169,13 +170,12 @@ module _ (s : Site) (i : Inv s) (a c : ℕ) (y : Letter) (ys : List Letter)
       without-in (s .present) c d five (and-yes (has w d) _ (sym (has-and w _ d) ∙ hd) .0) .0
 
   mails-to : (x : Box) (xl : x .head .leads ≡ true) → store x .last ≡ t .last
-      → x .records ≡ t .records
       → ((b : ℕ) (sb : Store) (d : ℕ) (sd : Store) (m : Reading)
       → MailOk (s .present) (i .agreed) c (s .box c) b sb d sd m
       → MailOk (s .present) (i .agreed) c x b sb d sd m)
       → (b d : ℕ) → All (PostLed c L x xl (i .agreed) b d) (link′ b d)
   unfolding link′
-  mails-to x xl el er f =
+  mails-to x xl el f =
       all-post Post (popped s a c .link)
       (all-pop Post (s .link) (lead-mails c L x xl (i .agreed) (λ b d m. f b _ d _ m)) a c)
       lag c commit
@@ -183,9 +183,7 @@ module _ (s : Site) (i : Inv s) (a c : ℕ) (y : Letter) (ys : List Letter)
         from = refl;
         to = lag-here d hd;
         le = omega (arith, el);
-        prefix =
-            take-take (t .last) (t .last) (t .records) (omega arith)
-            ∙ ap (take (t .last)) (sym er);
+        agreed = agrees-take (i .agreed) (t .first) (t .last) (t .records) (taken-ok .agreed);
       })
     where
       Post : ℕ → ℕ → Letter → Type 0
@@ -193,7 +191,7 @@ module _ (s : Site) (i : Inv s) (a c : ℕ) (y : Letter) (ys : List Letter)
 
   -- the invariant, after the leader's box has become b
   abbrev Next : BoxState → Type 0
-  Next b = Inv (changed s (upd (s .box) c (record { head = b; records = t .records })) link′)
+  Next b = After s i (changed s (upd (s .box) c (record { head = b; records = t .records })) link′)
 
   -- ---- a higher pn: the leader starts anew, under a pn that stands nowhere yet
 
@@ -208,12 +206,11 @@ module _ (s : Site) (i : Inv s) (a c : ℕ) (y : Letter) (ys : List Letter)
     records = t .records;
   }
 
-  inv-higher : st .pn < q → Inv (changed s (upd (s .box) c higher) link′)
-  inv-higher gt = record {
-    agreed = i .agreed;
+  inv-higher : st .pn < q → After s i (changed s (upd (s .box) c higher) link′)
+  inv-higher gt = after (record {
     core = core-kept (i .core) c higher (r .to)
         (box-promised t taken-ok (newPn q c) (omega (arith, newPn-above q c)))
-        (omega (arith, newPn-above q c)) (grown .up) refl;
+        (omega (arith, newPn-above q c)) grown refl;
     ranks = ranks-put (i .ranks) c higher (omega (arith, newPn-above q c))
         (λ j jn jc f. absurd (jc (omega (arith, f, newPn-rank q c few))))
         (λ j jn. i .ranks .storedPns j c jn (r .to));
@@ -230,11 +227,11 @@ module _ (s : Site) (i : Inv s) (a c : ℕ) (y : Letter) (ys : List Letter)
               (λ b h j. nowhere (store (s .box b) .pn) (i .ranks .pns c b (r .to) h));
         })
         (λ f. absurd (omega arith)) (λ f. absurd (f (H .recovering)))
-        (mails-to higher (o .leads) refl refl
+        (mails-to higher (o .leads) refl
         (mail-gathered (s .present) (i .agreed) c (s .box c) higher (H .recovering)
-        (omega (arith, newPn-above q c)) (grown .up) takes (λ f. nowhere)
+        (omega (arith, newPn-above q c)) grown (λ f. nowhere)
         (λ f. absurd (omega arith))));
-  }
+  })
     where
       nowhere : (v : ℕ) → (v % 100 ≡ c → v ≤ st .pn) → v ≡ newPn q c → ⊥
       nowhere v f = newPn-nowhere q c v few (λ e. omega (arith, f e, gt))
@@ -268,17 +265,16 @@ module _ (s : Site) (i : Inv s) (a c : ℕ) (y : Letter) (ys : List Letter)
             → Or (ltb l (store (s .box a) .last) ≡ true) (ltb l (store (s .box a) .last) ≡ false)
             → store (s .box a) .last ≤ t .last
         told f (left e) = let h = ltb-true l (store (s .box a) .last) e in
-            omega (arith, T .answers (o .phase) f .reach h, grown .up)
+            omega (arith, T .answers (o .phase) f .reach h, grown)
         told f (right e) = omega (arith, ltb-false l (store (s .box a) .last) e, reached)
 
         go : Or (has before b ≡ true) ((b ≡ a) × (q ≡ st .pn)) → store (s .box b) .last ≤ t .last
-        go (left f) = omega (arith, H .lasts b bn f, grown .up)
+        go (left f) = omega (arith, H .lasts b bn f, grown)
         go (right f) = rw (f .0) (told (f .1) (decide (ltb l (store (s .box a) .last))))
 
-    inv-on : Inv (changed s (upd (s .box) c on) link′)
-    inv-on = record {
-      agreed = i .agreed;
-      core = core-kept (i .core) c on (r .to) taken-ok (omega arith) (grown .up) refl;
+    inv-on : After s i (changed s (upd (s .box) c on) link′)
+    inv-on = after (record {
+      core = core-kept (i .core) c on (r .to) taken-ok (omega arith) grown refl;
       ranks = ranks-kept (i .ranks) c on (r .to) refl refl;
       live = λ z.
           lead-live c L on (o .leads) link′ (i .agreed)
@@ -297,11 +293,10 @@ module _ (s : Site) (i : Inv s) (a c : ℕ) (y : Letter) (ys : List Letter)
             limit = be-ok .limit;
           })
           (λ f. absurd (f (H .recovering)))
-          (mails-to on (o .leads) refl refl
+          (mails-to on (o .leads) refl
           (mail-gathered (s .present) (i .agreed) c (s .box c) on (H .recovering) (omega arith)
-          (grown .up) takes
-          (λ f. absurd (omega (arith, f, o .phase))) (λ f. (o .phase, refl))));
-    }
+          grown (λ f. absurd (omega (arith, f, o .phase))) (λ f. (o .phase, refl))));
+    })
 
   best-ok : BestOk (i .agreed) (st .last) best
   best-ok = record { same = H .same; old = H .old; limit = H .limit }
@@ -310,9 +305,9 @@ module _ (s : Site) (i : Inv s) (a c : ℕ) (y : Letter) (ys : List Letter)
   inv-lower : Next (withBest (cleared (t .last) best) noted-box)
   inv-lower =
       inv-on (cleared (t .last) best) before
-      (best-cleared (i .agreed) (st .last) (t .last) best best-ok (grown .up))
+      (best-cleared (i .agreed) (st .last) (t .last) best best-ok grown)
       (λ b h. left h)
-      (λ b bn h m k. let f = H .found b bn h m (omega (arith, k, grown .up)) in
+      (λ b bn h m k. let f = H .found b bn h m (omega (arith, k, grown)) in
       found-cleared (i .agreed) (t .last) best k (record { number = f .0; pn = f .1 }))
 
   -- this pn: the sender has answered, perhaps not for the first time
@@ -323,9 +318,9 @@ module _ (s : Site) (i : Inv s) (a c : ℕ) (y : Letter) (ys : List Letter)
     found : (b : ℕ) → In b (s .n) → i .agreed .by b ≡ true
         → t .last < length (i .agreed .records) → Or (has before b ≡ true) (b ≡ a)
         → Or (Found (i .agreed) best)
-        ((suc l ≡ length (i .agreed .records)) × (l < length rs) × (i .agreed .pn ≤ u))
+        ((suc l ≡ length (i .agreed .records)) × (span F l < length rs) × (i .agreed .pn ≤ u))
     found b bn m k (left f) =
-        let w = H .found b bn f m (omega (arith, k, grown .up)) in
+        let w = H .found b bn f m (omega (arith, k, grown)) in
         left (record { number = w .0; pn = w .1 })
     found b bn m k (right f) =
         right (T .answers (o .phase) eq .vote (subst (λ (j : ℕ). i .agreed .by j ≡ true) f m)
@@ -337,21 +332,21 @@ module _ (s : Site) (i : Inv s) (a c : ℕ) (y : Letter) (ys : List Letter)
     cases (right f) = right (f, eq)
 
     abbrev better : Best
-    better = bettered (t .last) best (y .head) (heldAt rs l)
+    better = bettered (t .last) best (y .head) (nextOf y)
 
     inv-equal : Next (withAnswered (joined before a) (withBest better noted-box))
     inv-equal =
         inv-on better (joined before a)
-        (best-chosen (i .agreed) (st .last) (t .last) best best-ok (grown .up) (y .head) rs reached
+        (best-chosen (i .agreed) (st .last) (t .last) best best-ok grown (y .head) rs reached
         (T .same) (T .old))
         (λ b h. cases (among b h))
         (λ b bn h m k.
-        found-chosen (i .agreed) (st .last) (t .last) best best-ok (grown .up) (y .head) rs reached
+        found-chosen (i .agreed) (st .last) (t .last) best best-ok grown (y .head) rs reached
         k (found b bn m k (among b h)))
 
   -- ---- the three together
 
-  inv-replied : Next (replied (heard (s .box c .head) a (y .head)) c a (y .head) (heldAt rs l))
+  inv-replied : Next (replied (heard (s .box c .head) a (y .head)) c a (y .head) (nextOf y))
   unfolding replied heard tookKept raised counted uncounted
   inv-replied =
       pick-elim Next (ltb (st .pn) q)
@@ -361,10 +356,9 @@ module _ (s : Site) (i : Inv s) (a c : ℕ) (y : Letter) (ys : List Letter)
 
 pub inv-last : (s : Site) (i : Inv s) (a c : ℕ) (y : Letter) (ys : List Letter)
     → Arrives s a c y ys Kind.Last
-    → Inv (byTurn s (popped s a c) c
-    (onLast (s .box c .head) (setting s c) a (y .head) (heldAt (y .records) (y .head .last)))
-    (y .records) .next)
+    → After s i (byTurn s (popped s a c) c
+    (onLast (s .box c .head) (setting s c) a (y .head) (nextOf y)) (y .records) .next)
 unfolding onLast tookKept posted enclosed link′ lag
 inv-last s i a c y ys r =
-    by-settled Inv s (popped s a c) c _ _ _ _ i (inv-popped s a c i)
+    by-settled (After s i) s (popped s a c) c _ _ _ _ (after-same i) (inv-popped s a c i)
     (λ go. inv-replied s i a c y ys r (go-last go))

@@ -1,18 +1,18 @@
 -- Every record that stands anywhere is proper: an offer that is proposed is so by form.
 use Prim.Native.Nat.{ℕ}
-use mathlib.Core.Path.{_≡_}
+use mathlib.Core.Path.{_≡_, refl}
 use mathlib.Core.List.{List, [], _∷_}
 use native.Mathlib.Omega.{arith}
 use Rattle.rules.specs.Box.{own}
-use Rattle.rules.specs.Site.{Site, setting, fresh, freshHead}
+use Rattle.rules.specs.Site.{Site, fresh, freshHead}
 use Rattle.rules.specs.Step.{presented, step, run}
 use Rattle.laws.proofs.Types.{Act, Call}
 use Rattle.laws.proofs.Logic.{Or, left, right, In, nil}
 use Rattle.laws.proofs.FormLaws.{Formed, Proper}
-use Rattle.laws.proofs.StepLaws.{changed, by-step}
+use Rattle.laws.proofs.StepLaws.{by-step}
 use Rattle.safety.specs.Demand3.{start}
-use Rattle.safety.proofs.Moves.{Sound, Comes, turn-sound, sound-popped, sound-doubled}
-use Rattle.safety.proofs.Moves.{played-sound, sound-played, sound-elect}
+use Rattle.safety.proofs.Moves.{Sound, Comes, sound-popped, sound-doubled, sound-call}
+use Rattle.safety.proofs.Moves.{sound-elect}
 
 -- at any number
 abbrev P : ℕ → ℕ → Type 0
@@ -34,14 +34,12 @@ proper-step s d h =
     (λ w f g e. record { boxes = h .boxes; mails = h .mails })
     (λ a b f. sound-popped P s a b h)
     (λ a b f g. sound-doubled P s a b h) d
-    (λ c e link w f i r. let k = played-sound P s c w h (λ is. waiting-proper s c f i) in
-    sound-played P (changed s (s .box) link) c _ _ (k .0)
-    (turn-sound P (setting s c) (s .box c) (h .boxes c) (f .boxes c i .held .all) e (k .1)))
+    (λ c e link w f i r. sound-call P s c w f i h (λ is. waiting-proper s c f i))
 
 pub proper-run : (n J L : ℕ) (cs : List Call) → Sound P (run (start n J L) cs)
 unfolding run fresh freshHead
 proper-run n J L [] = record {
-  boxes = λ b. record { records = λ k h. absurd (omega arith); best = λ k e. absurd (omega arith) };
+  boxes = λ b. record { records = λ k i h. absurd (omega arith); best = λ e. absurd (e refl) };
   mails = λ a b. nil;
 }
 proper-run n J L (c ∷ cs) = proper-step (run (start n J L) cs) c (proper-run n J L cs)

@@ -14,6 +14,7 @@ use Rattle.laws.proofs.Logic.{both-no, eqb-yes, cond-elim, All, All-tail, All-t
 use Rattle.laws.proofs.FrameLaws.{all-relinked}
 use Rattle.laws.proofs.View.{Links, store}
 use Rattle.safety.proofs.Inv.{Agreement, PostOk, Live, Inv}
+use Rattle.safety.proofs.After.{After, after}
 
 -- presence changes: the epoch is odd afterwards, and nothing is asked of the mail
 
@@ -23,14 +24,13 @@ odd-risen e =
     (λ t. let h : e % 2 ≡ 0 = eqb-yes (e % 2) 0 t in ne-eqb ((e + 1) % 2) 0 (λ g. omega (arith, g)))
     (λ t. t)
 
-pub inv-presented : (s : Site) (w : ℕ) → Inv s → Inv (presented s w)
+pub inv-presented : (s : Site) (w : ℕ) (i : Inv s) → After s i (presented s w)
 unfolding presented
-inv-presented s w i = record {
-  agreed = i .agreed;
+inv-presented s w i = after (record {
   core = i .core;
   ranks = i .ranks;
   live = λ z. absurd (both-no z (odd-risen (s .epoch)));
-}
+})
 
 -- one link is changed: every clause on the links is kept where nothing new stands on it
 
@@ -60,19 +60,18 @@ live-relinked {n} {w} {box} {link} {g} L f none kept a b = record {
 
 inv-relinked : (s : Site) (f : List Letter → List Letter) → f [] ≡ []
     → ((P : Letter → Type 0) (l : List Letter) → All P l → All P (f l))
-    → (a b : ℕ) → Inv s → Inv (relinked f s a b)
-inv-relinked s f none kept a b i = record {
-  agreed = i .agreed;
+    → (a b : ℕ) (i : Inv s) → After s i (relinked f s a b)
+inv-relinked s f none kept a b i = after (record {
   core = i .core;
   ranks = i .ranks;
   live = λ z. live-relinked (i .live z) f none kept a b;
-}
+})
 
 -- a mail is gone
-pub inv-popped : (s : Site) (a b : ℕ) → Inv s → Inv (popped s a b)
+pub inv-popped : (s : Site) (a b : ℕ) (i : Inv s) → After s i (popped s a b)
 inv-popped s = inv-relinked s tail refl (λ P l. All-tail)
 
 -- a mail stands twice
-pub inv-doubled : (s : Site) (a b : ℕ) → Inv s → Inv (doubled s a b)
+pub inv-doubled : (s : Site) (a b : ℕ) (i : Inv s) → After s i (doubled s a b)
 unfolding twice
 inv-doubled s = inv-relinked s twice refl (λ P l. All-twice)

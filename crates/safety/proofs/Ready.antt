@@ -23,6 +23,7 @@ use Rattle.laws.proofs.Conditions.{Leading, Is, Any, go-unless, can-ready}
 use Rattle.laws.proofs.View.{Store, store, phaseOf}
 use Rattle.laws.proofs.StepLaws.{by-acting}
 use Rattle.safety.proofs.Inv.{BoxOk, Ripe, Hearing, Inv}
+use Rattle.safety.proofs.After.{After, after-same}
 use Rattle.safety.proofs.Leader.{Led, led}
 use Rattle.safety.proofs.Start.{inv-started, inv-leased}
 
@@ -128,25 +129,25 @@ module _ (s : Site) (i : Inv s) (c : ℕ) (c-in : In c (s .n)) (f : Formed s)
   abbrev rests : Box
   rests = record { head = withPeers allUnknown (s .box c .head); records = s .box c .records }
 
-  inv-readied : Inv (played s c
+  inv-readied : After s i (played s c
       (pick (hasPrevious (s .box c .head))
       (started (starts .head) (setting s c) (s .box c .head .best .value))
       (leased (rests .head) (setting s c)))
       [])
   inv-readied =
-      pick-elim (λ (t : Turn). Inv (played s c t [])) (hasPrevious (s .box c .head))
+      pick-elim (λ (t : Turn). After s i (played s c t [])) (hasPrevious (s .box c .head))
       (λ e. inv-started s i c c-in (o .leads) (o .even) busy ripe starts (o .leads)
-      (s .box c .head .best .value) (f .boxes c c-in .held .all) (λ h. omega (arith, h)) best-is)
+      (s .box c .head .best .value) (λ h. omega (arith, h)) best-is)
       (λ e. inv-leased s i c c-in (o .leads) (o .even) busy ripe rests (o .leads)
       (done e (same? (suc (st .last)) (length (i .agreed .records)))))
     where
       busy : phaseOf (s .box c) ≡ 4 → ⊥
       busy h = omega (arith, o .phase, h)
 
-pub inv-ready : (s : Site) (i : Inv s) (c : ℕ) → Inv (step s (Call.Ready c) .next)
+pub inv-ready : (s : Site) (i : Inv s) (c : ℕ) → After s i (step s (Call.Ready c) .next)
 unfolding step acted ready
 inv-ready s i c =
-    by-acting Inv s c _ _ _ i
+    by-acting (After s i) s c _ _ _ (after-same i)
     (λ f c-in go.
     let o = can-ready (go-unless _ _ _ go .0) in
     inv-readied s i c c-in (form-says f) (o .0) (o .1))

@@ -17,6 +17,7 @@ use Rattle.laws.proofs.FrameLaws.{upd-all}
 use Rattle.laws.proofs.View.{Store, store}
 use Rattle.laws.proofs.StepLaws.{changed, by-acting}
 use Rattle.safety.proofs.Inv.{Inv}
+use Rattle.safety.proofs.After.{After, after, after-same}
 use Rattle.safety.proofs.Stores.{box-promised}
 use Rattle.safety.proofs.Base.{core-kept, ranks-put}
 use Rattle.safety.proofs.Leader.{Led, led, lead-live}
@@ -50,9 +51,8 @@ module _ (s : Site) (i : Inv s) (c : ℕ) (c-in : In c (s .n))
   new : (b : ℕ) → In b (s .n) → store (s .box b) .pn ≡ P → ⊥
   new b h = newPn-nowhere (st .pn) c (store (s .box b) .pn) few (i .ranks .pns c b c-in h)
 
-  inv-recovered : Inv (changed s (upd (s .box) c x) (s .link))
-  inv-recovered = record {
-    agreed = i .agreed;
+  inv-recovered : After s i (changed s (upd (s .box) c x) (s .link))
+  inv-recovered = after (record {
     core = core-kept (i .core) c x c-in
         (box-promised st (i .core .boxes c c-in) P (omega (arith, newPn-above (st .pn) c)))
         (omega (arith, newPn-above (st .pn) c)) (omega arith) refl;
@@ -72,10 +72,10 @@ module _ (s : Site) (i : Inv s) (c : ℕ) (c-in : In c (s .n))
         })
         (λ f. absurd (omega arith)) (λ f. absurd (f (o .state)))
         (λ a b. subst (All _) (sym (L .quiet (o .phase) a b)) nil);
-  }
+  })
 
-pub inv-recover : (s : Site) (i : Inv s) (c : ℕ) → Inv (step s (Call.Recover c) .next)
+pub inv-recover : (s : Site) (i : Inv s) (c : ℕ) → After s i (step s (Call.Recover c) .next)
 unfolding step acted recover posted written
 inv-recover s i c =
-    by-acting Inv s c _ _ _ i
+    by-acting (After s i) s c _ _ _ (after-same i)
     (λ f c-in go. inv-recovered s i c c-in (can-recover (go-unless _ _ _ go .0) .0))

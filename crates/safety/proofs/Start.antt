@@ -1,6 +1,6 @@
 -- What a leader that may go on does next: it starts a record, or it leases.
 use Prim.Native.Nat.{ℕ, suc, _+_, _≤_}
-use mathlib.Core.Path.{_≡_, refl, sym, _∙_}
+use mathlib.Core.Path.{_≡_, refl}
 use mathlib.Core.Bool.{true}
 use mathlib.Core.List.{[], _∷_, _++_}
 use native.Mathlib.Omega.{arith}
@@ -8,21 +8,23 @@ use lib.ListN.{length, getD, take}
 use Rattle.rules.specs.Sizes.{mostBoxes, even}
 use Rattle.rules.specs.Sets.{has, bit, without}
 use Rattle.rules.specs.Fields.{withState, withPhase, withKept, withAccepts, withAgreeing, storing}
-use Rattle.rules.specs.Parts.{others}
+use Rattle.rules.specs.Parts.{others, span}
 use Rattle.rules.specs.Steps.{started, leased}
 use Rattle.rules.specs.Box.{Box, written, enclosed}
 use Rattle.rules.specs.Site.{Site, setting, posted, played, upd}
 use Rattle.laws.proofs.Types.{Phase, State}
-use Rattle.laws.proofs.Logic.{Or, left, right, In, eqb-same, same?}
+use Rattle.laws.proofs.Logic.{In, eqb-same}
 use Rattle.laws.proofs.SetLaws.{without-in, bit-is}
 use Rattle.laws.proofs.FrameLaws.{all-post}
-use Rattle.laws.proofs.View.{Store, store, phaseOf, stateOf, Shaped, Reading, Collect, Last}
-use Rattle.laws.proofs.View.{Begin, Accept, Commit, Lease, stored, keeping}
-use Rattle.safety.proofs.Inv.{Agreement, VotedFor, MailOk, BeginOk, Ripe, Settled, Inv}
-use Rattle.safety.proofs.Stores.{box-stored, stored-length, stored-below, stored-take}
+use Rattle.laws.proofs.View.{Store, store, keeping, phaseOf, stateOf, at, Reading, Collect, Last}
+use Rattle.laws.proofs.View.{Begin, Accept, Commit, Lease, Raises, raises-none, stored-held}
+use Rattle.safety.proofs.Inv.{Agreement, BoxOk, VotedFor, MailOk, BeginOk, Ripe, Settled}
+use Rattle.safety.proofs.Inv.{Inv}
+use Rattle.safety.proofs.After.{After, after}
+use Rattle.safety.proofs.Stores.{box-stored}
 use Rattle.safety.proofs.Base.{core-put, core-kept, ranks-put, ranks-kept}
 use Rattle.safety.proofs.Leader.{Led, led, PostLed, lead-mails, lead-live, Onward, mail-kept}
-use Rattle.safety.proofs.Leader.{ripe-put}
+use Rattle.safety.proofs.Leader.{same-next, ripe-put}
 
 -- ---- the mail on its way, as a record is started
 
@@ -32,10 +34,10 @@ begun c b r = record {
   head =
       withKept (storing (b .head .kept .pn) (b .head .kept .last + 1) (b .head .kept))
       (withAgreeing r (withAccepts (bit c) (withPhase Phase.Begin (b .head))));
-  records = take (b .head .kept .last) (b .records) ++ (r ∷ []);
+  records = take (span (b .head .kept .first) (b .head .kept .last)) (b .records) ++ (r ∷ []);
 }
 
-module _ (w : ℕ) (g : Agreement) (c : ℕ) (y z : Box) (r : ℕ) (shaped : Shaped (store y))
+module _ (w : ℕ) (g : Agreement) (c : ℕ) (y z : Box) (r : ℕ)
     (ph : phaseOf y ≡ 4 → ⊥) (op : stateOf z ≡ 0 → ⊥) where
   mail-started : (a : ℕ) (sa : Store) (b : ℕ) (sb : Store) (m : Reading)
       → MailOk w g c y a sa b sb m → MailOk w g c (begun c (keeping (store y) z) r) a sa b sb m
@@ -46,25 +48,19 @@ module _ (w : ℕ) (g : Agreement) (c : ℕ) (y z : Box) (r : ℕ) (shaped : Sha
     le = h .le;
     fresh = λ e. absurd (omega arith);
   }
-  mail-started a sa b sb (Last q l u rs) h =
+  mail-started a sa b sb (Last q l F u rs) h =
       record { to = h .to; from = h .from; told = λ e. absurd (op e) }
-  mail-started a sa b sb (Begin q l r′) h = record {
+  mail-started a sa b sb (Begin q l F r′) h = record {
     from = h .from;
     to = h .to;
     recovered = op;
     pn = h .pn;
     le = h .le;
-    held = omega (arith, stored-length (store y .pn) r (store y) shaped, h .le);
-    value = below (same? l (store y .last));
+    value = λ e. absurd (ph (h .now e));
+    done = h .done;
     top = h .top;
     now = λ e. refl;
   }
-    where
-      below : Or (l ≡ store y .last) (l ≡ store y .last → ⊥)
-          → getD (stored (store y .pn) r (store y) .records) l 0 ≡ r′
-      below (left e) = absurd (ph (h .now e))
-      below (right e) =
-          stored-below (store y .pn) r (store y) shaped l (omega (arith, h .le)) ∙ h .value
   mail-started a sa b sb (Accept q l) h = record {
     to = h .to;
     from = h .from;
@@ -73,12 +69,8 @@ module _ (w : ℕ) (g : Agreement) (c : ℕ) (y z : Box) (r : ℕ) (shaped : Sha
     now = λ e. refl;
     voted = λ e. absurd (ph (h .now e));
   }
-  mail-started a sa b sb (Commit q l rs) h = record {
-    from = h .from;
-    to = h .to;
-    le = h .le;
-    prefix = h .prefix ∙ sym (stored-take (store y .pn) r (store y) shaped l (h .le));
-  }
+  mail-started a sa b sb (Commit q l F rs) h =
+      record { from = h .from; to = h .to; le = h .le; agreed = h .agreed }
   mail-started a sa b sb (Lease l) h = record { from = h .from; to = h .to }
 
 -- ---- the leader c, ripe and in no phase Begin; y is its box as the rule hands it on
@@ -101,15 +93,25 @@ module _ (s : Site) (i : Inv s) (c : ℕ) (c-in : In c (s .n)) (h : s .box c .he
   sent b t = without-in (s .present) c b five t .0
 
   -- the record r is the agreed one where number last+1 is agreed
-  module _ (r : ℕ) (shaped : Shaped a) (op : stateOf y ≡ 0 → ⊥)
+  module _ (r : ℕ) (op : stateOf y ≡ 0 → ⊥)
       (is : suc (a .last) ≡ length (i .agreed .records)
       → r ≡ getD (i .agreed .records) (a .last) 0) where
     abbrev x : Box
     x = begun c (keeping (store (s .box c)) y) r
 
-    voted : VotedFor x (stored (a .pn) r a)
-    voted =
-        record { at = refl; held = stored-length (a .pn) r a shaped; value = refl; under = refl }
+    own : BoxOk (i .agreed) (i .agreed .by c) a
+    own = i .core .boxes c c-in
+
+    up : Raises a 0 (a .first)
+    up = raises-none a (own .shaped)
+
+    voted : VotedFor x (store x)
+    voted = record {
+      place = refl;
+      held = stored-held a (own .shaped) up (a .pn) r;
+      value = refl;
+      under = refl;
+    }
 
     votes : (b : ℕ) → b ≡ c → VotedFor x (store (upd (s .box) c x b))
     votes b e = rw (e, eqb-same c) voted
@@ -124,26 +126,25 @@ module _ (s : Site) (i : Inv s) (c : ℕ) (c-in : In c (s .n)) (h : s .box c .he
 
     begin-ok : (b : ℕ) → has (without (s .present) c) b ≡ true
         → BeginOk (s .present) (i .agreed) c x c b (store (upd (s .box) c x b)) (a .pn) (a .last)
-        (getD (x .records) (a .last) 0)
+        (at (store x) (a .last + 1))
     begin-ok b t = record {
       from = refl;
       to = sent b t;
       recovered = op;
       pn = refl;
       le = omega arith;
-      held = omega (arith, stored-length (a .pn) r a shaped);
-      value = refl;
+      value = λ e. (stored-held a (own .shaped) up (a .pn) r, refl);
+      done = λ l. absurd (omega (arith, l));
       top = λ f. k .top;
       now = λ f. refl;
     }
 
     pub inv-started :
-        Inv (played s c (started (keeping (store (s .box c)) y .head) (setting s c) r) [])
+        After s i (played s c (started (keeping (store (s .box c)) y .head) (setting s c) r) [])
     unfolding started others posted written enclosed
-    inv-started = record {
-      agreed = i .agreed;
+    inv-started = after (record {
       core = core-put (i .core) c x c-in
-          (box-stored a (i .core .boxes c c-in) (a .pn) r refl shaped (k .top) is)
+          (box-stored a own up (own .kept) (a .pn) r refl (k .top) is)
           (omega arith) (omega arith)
           (has (s .present)) (L .major) (λ b bn t. omega (arith, k .pns b bn t));
       ranks = ranks-put (i .ranks) c x (omega arith)
@@ -154,9 +155,9 @@ module _ (s : Site) (i : Inv s) (c : ℕ) (c-in : In c (s .n)) (h : s .box c .he
           (λ f. settled)
           (all-post (PostLed c L x y-leads (i .agreed)) (s .link)
           (lead-mails c L x y-leads (i .agreed)
-          (λ j b m. mail-started (s .present) (i .agreed) c (s .box c) y r shaped ph op j _ b _ m))
+          (λ j b m. mail-started (s .present) (i .agreed) c (s .box c) y r ph op j _ b _ m))
           (without (s .present) c) c _ (λ b t ab. begin-ok b t));
-    }
+    })
 
   -- nothing beyond last is agreed
   module _ (done : length (i .agreed .records) ≤ a .last) where
@@ -183,10 +184,9 @@ module _ (s : Site) (i : Inv s) (c : ℕ) (c-in : In c (s .n)) (h : s .box c .he
     }
 
     pub inv-leased :
-        Inv (played s c (leased (keeping (store (s .box c)) y .head) (setting s c)) [])
+        After s i (played s c (leased (keeping (store (s .box c)) y .head) (setting s c)) [])
     unfolding leased others posted written enclosed
-    inv-leased = record {
-      agreed = i .agreed;
+    inv-leased = after (record {
       core =
           core-kept (i .core) c rest c-in (i .core .boxes c c-in) (omega arith) (omega arith) refl;
       ranks = ranks-kept (i .ranks) c rest c-in refl refl;
@@ -196,6 +196,7 @@ module _ (s : Site) (i : Inv s) (c : ℕ) (c-in : In c (s .n)) (h : s .box c .he
           (λ f. leases)
           (all-post (PostLed c L rest y-leads (i .agreed)) (s .link)
           (lead-mails c L rest y-leads (i .agreed)
-          (λ j b m. mail-kept (s .present) (i .agreed) c (s .box c) rest onward j _ b _ m))
+          (λ j b m.
+          mail-kept (s .present) (i .agreed) c (s .box c) rest onward _ _ (same-next a) j _ b _ m))
           (without (s .present) c) c _ (λ b t ab. record { from = refl; to = sent b t }));
-    }
+    })

@@ -1,47 +1,31 @@
--- A box's clauses (`BoxOk`) as its store changes: a higher promise, a record stored at last+1,
--- records taken.
-use Prim.Native.Nat.{ℕ, suc, _≤_, _<_}
+-- A box's clauses (`BoxOk`) as its store changes: a higher promise, numbers dropped, a record
+-- stored at last+1, records taken.
+use Prim.Native.Nat.{ℕ, suc, _+_, _≤_, _<_, max}
 use mathlib.Core.Path.{_≡_, sym, ap, _∙_}
 use mathlib.Core.Bool.{Bool}
-use mathlib.Core.List.{List, [], _∷_, _++_}
+use mathlib.Core.List.{List}
 use native.Mathlib.Omega.{arith}
-use lib.ListN.{length, getD, take, drop, length-append, take-append-drop, List·getD-append}
-use lib.Seq.{take-take, getD-take, getD-at, length-take-le}
-use Rattle.laws.proofs.View.{Store, Shaped, promised, stored, took, taken, took-elim}
-use Rattle.laws.proofs.Growth.{front}
-use Rattle.safety.proofs.Inv.{Agreement, BoxOk}
+use lib.ListN.{length, getD, take}
+use Rattle.rules.specs.Parts.{span}
+use Rattle.laws.proofs.Logic.{Or, left, right, below?}
+use Rattle.laws.proofs.View.{Store, at, Spans, at-taken, promised, trimmed, stored, took, Raises}
+use Rattle.laws.proofs.View.{trimmed-at, trimmed-shaped, trimmed-held, trimmed-holds, stored-at}
+use Rattle.laws.proofs.View.{stored-next, stored-shaped, stored-held, took-first, took-last}
+use Rattle.laws.proofs.View.{took-old, took-new, took-shaped, took-same, took-holds, took-held}
+use Rattle.safety.proofs.Inv.{Agreement, Agrees, BoxOk}
 
--- ---- the records after a record is stored at last+1
-
-module _ (q r : ℕ) (a : Store) (shaped : Shaped a) where
-  before : length (take (a .last) (a .records)) ≡ a .last
-  before = length-take-le (a .last) (a .records) shaped
-
-  pub stored-length : length (stored q r a .records) ≡ suc (a .last)
-  stored-length = length-append (take (a .last) (a .records)) (r ∷ []) ∙ omega (arith, before)
-
-  pub stored-at : getD (stored q r a .records) (a .last) 0 ≡ r
-  stored-at = getD-at (take (a .last) (a .records)) r [] 0 (a .last) before
-
-  pub stored-below : (k : ℕ) → k < a .last
-      → getD (stored q r a .records) k 0 ≡ getD (a .records) k 0
-  stored-below k h =
-      List·getD-append (take (a .last) (a .records)) (r ∷ []) 0 k (omega (arith, before))
-      ∙ getD-take (a .last) (a .records) k 0 h
-
-  pub stored-take : (k : ℕ) → k ≤ a .last → take k (stored q r a .records) ≡ take k (a .records)
-  stored-take k h =
-      sym (take-take k (a .last) (stored q r a .records) h)
-      ∙ ap (take k) (front (a .last) (a .records) (r ∷ []) shaped)
-      ∙ take-take k (a .last) (a .records) h
-
--- ---- the clauses
+-- a Commit's records
+pub agrees-take : (g : Agreement) (F L : ℕ) (rs : List ℕ) → Agrees g F L rs
+    → Agrees g F L (take (span F L) rs)
+agrees-take g F L rs h k i j = at-taken F L rs (suc k) i j ∙ h k i j
 
 module _ {g : Agreement} {part : Bool} (a : Store) (h : BoxOk g part a) where
   pub box-promised : (q : ℕ) → a .pn ≤ q → BoxOk g part (promised q a)
   box-promised q le = record {
     low = h .low;
-    prefix = h .prefix;
+    agreed = h .agreed;
+    shaped = h .shaped;
+    kept = h .kept;
     number = h .number;
     promise = λ m. omega (arith, h .promise m, le);
     vote = h .vote;
@@ -49,41 +33,92 @@ module _ {g : Agreement} {part : Bool} (a : Store) (h : BoxOk g part a) where
     old = h .old;
   }
 
-  -- under the own pn, where nothing beyond is agreed, and the agreed record where this one is
-  pub box-stored : (q r : ℕ) → q ≡ a .pn → Shaped a → length (g .records) ≤ suc (a .last)
-      → (suc (a .last) ≡ length (g .records) → r ≡ getD (g .records) (a .last) 0)
-      → BoxOk g part (stored q r a)
-  box-stored q r e shaped top is = record {
-    low = h .low;
-    prefix = front (a .last) (a .records) (r ∷ []) shaped ∙ h .prefix;
-    number = λ l. omega arith;
-    promise = h .promise;
-    vote = λ m l. let len = stored-length q r a shaped in
-        (omega (arith, l, top), omega (arith, len), omega (arith, h .promise m, e));
-    same = λ m l u. stored-at q r a shaped ∙ is m;
-    old = λ l. absurd (omega (arith, l, top));
-  }
+  -- ---- first is raised to f
 
-  -- agreed records up to l are taken
-  pub box-took : (l : ℕ) (rs : List ℕ) → l ≤ length (g .records) → take l rs ≡ take l (g .records)
-      → BoxOk g part (took l rs a)
-  box-took l rs low e = took-elim (BoxOk g part) l rs a go (λ t. h)
-    where
-      go : a .last < l → BoxOk g part (taken l rs a)
-      go lt = record {
-        low = low;
-        prefix = ap (take l) is ∙ take-take l l (g .records) (omega arith);
-        number = λ k. absurd (omega (arith, k, len));
-        promise = h .promise;
-        vote = λ m k. absurd (omega (arith, h .vote m (omega arith) .0, k));
-        same = λ m k u. absurd (omega (arith, k, len));
-        old = λ m k. absurd (omega (arith, k, len));
-      }
-        where
-          is : take (a .last) (a .records) ++ drop (a .last) (take l rs) ≡ take l (g .records)
-          is =
-              rw (h .prefix, e, ← (take-take (a .last) l (g .records) (omega arith)))
-              (take-append-drop (a .last) (take l (g .records)))
+  module _ {d f : ℕ} (up : Raises a d f) (kept : f ≤ max 1 (a .last)) where
+    pub box-trimmed : BoxOk g part (trimmed d f a)
+    box-trimmed = record {
+      low = h .low;
+      agreed = λ k i j.
+          trimmed-at a (h .shaped) up (suc k) i ∙ h .agreed k (omega (arith, up .by, i)) j;
+      shaped = trimmed-shaped a (h .shaped) up;
+      kept = kept;
+      number = λ l. h .number (trimmed-held a (h .shaped) up l);
+      promise = h .promise;
+      vote = λ m l. let v = h .vote m l in (v .0, trimmed-holds a (h .shaped) up (v .1), v .2);
+      same = λ m l u.
+          trimmed-at a (h .shaped) up (a .last + 1) (up .top)
+          ∙ h .same m (trimmed-held a (h .shaped) up l) u;
+      old = λ m l. h .old m (trimmed-held a (h .shaped) up l);
+    }
 
-          len : length (take (a .last) (a .records) ++ drop (a .last) (take l rs)) ≡ l
-          len = ap length is ∙ length-take-le l (g .records) low
+    -- r is stored under the own pn, where nothing beyond is agreed, and the agreed record where
+    -- this one is
+    pub box-stored : (q r : ℕ) → q ≡ a .pn → length (g .records) ≤ suc (a .last)
+        → (suc (a .last) ≡ length (g .records) → r ≡ getD (g .records) (a .last) 0)
+        → BoxOk g part (stored d f q r a)
+    box-stored q r e top is = record {
+      low = h .low;
+      agreed = λ k i j.
+          stored-at a (h .shaped) up q r (suc k) i j ∙ h .agreed k (omega (arith, up .by, i)) j;
+      shaped = stored-shaped a (h .shaped) up q r;
+      kept = kept;
+      number = λ l. omega arith;
+      promise = h .promise;
+      vote = λ m l. (
+        omega (arith, l, top),
+        stored-held a (h .shaped) up q r,
+        omega (arith, h .promise m, e),
+      );
+      same = λ m l u. stored-next a (h .shaped) up q r ∙ is m;
+      old = λ l. absurd (omega (arith, l, top));
+    }
+
+  -- ---- agreed records from F to L are taken
+
+  module _ (F L : ℕ) (ms : List ℕ) (sent : Spans F L ms) where
+    abbrev t : Store
+    t = took F L ms a
+
+    last : t .last ≡ max (a .last) L
+    last = took-last F L ms a (h .shaped)
+
+    first : t .first ≡ max (a .first) F
+    first = took-first F L ms a (h .shaped)
+
+    pub box-took : F ≤ max 1 L → L ≤ length (g .records) → Agrees g F L ms
+        → BoxOk g part (took F L ms a)
+    box-took kept low agreed = record {
+      low = omega (arith, last, h .low, low);
+      agreed = λ k i j. own-or-sent k i j (below? (a .last) (suc k));
+      shaped = took-shaped F L ms a (h .shaped) sent;
+      kept = omega (arith, first, last, h .kept, kept);
+      number = λ l. let w = took-held F L ms a (h .shaped) sent l in
+          omega (arith, last, w .0, h .number (w .1));
+      promise = h .promise;
+      vote = λ m l.
+          let v = h .vote m (omega (arith, last, l)) in
+          let none : L ≤ a .last = omega (arith, last, l, v .0) in (
+            omega (arith, last, none, v .0),
+            took-holds F L ms a (h .shaped) sent none (v .1),
+            v .2,
+          );
+      same = λ m l u.
+          let w = took-held F L ms a (h .shaped) sent l in
+          let e : t .last ≡ a .last = omega (arith, last, w .0) in
+          took-same F L ms a (h .shaped) sent (w .0) (t .last + 1)
+          (omega (arith, first, last, h .kept, kept))
+          ∙ ap (λ (l : ℕ). at a (l + 1)) e
+          ∙ h .same (omega (arith, m, e)) (w .1) u
+          ∙ sym (ap (λ (l : ℕ). getD (g .records) l 0) e);
+      old = λ m l. let w = took-held F L ms a (h .shaped) sent l in
+          h .old (omega (arith, last, m, w .0)) (w .1);
+    }
+      where
+        own-or-sent : (k : ℕ) → t .first ≤ suc k → suc k ≤ t .last
+            → Or (a .last < suc k) (suc k ≤ a .last) → at t (suc k) ≡ getD (g .records) k 0
+        own-or-sent k i j (left e) =
+            let l : suc k ≤ L = omega (arith, last, j, e) in
+            took-new F L ms a (h .shaped) sent (suc k) i e l ∙ agreed k (omega (arith, first, i)) l
+        own-or-sent k i j (right e) =
+            took-old F L ms a (h .shaped) (suc k) i e ∙ h .agreed k (omega (arith, first, i)) e

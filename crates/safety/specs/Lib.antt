@@ -1,3 +1,4 @@
--- Demand 3 and Q-10, in statements.
+-- Demand 3, Q-10 and the room of Q-4, in statements.
 pub mod Demand3
 pub mod Begins
+pub mod Rooms

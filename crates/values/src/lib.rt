@@ -1,12 +1,13 @@
 // Words as the numbers, records, counts and sets that they stand for: what rows and letters share.
 ghost use mathlib.Core.Path.{_≡_};
 ghost use mathlib.Core.Bool.{cond};
-ghost use Prim.Native.Nat.{_<_, _^_};
+ghost use Prim.Native.Nat.{_≤_, _<_, _^_};
 ghost use Rattle.rules.specs.Every.{each};
 ghost use Rattle.rules.specs.Sizes.{proper, recordForm};
 ghost use Rattle.rules.specs.Sets.{setForm};
 ghost use Rattle.rules.specs.Box.{heldAt};
-ghost use Rattle.rules.specs.Form.{countForm};
+ghost use Rattle.rules.specs.Form.{firstForm};
+ghost use Rattle.values.specs.Counts.{countOf, agreedCount, fullCount, heldCount};
 ghost use Rattle.values.specs.declared.Fault.{Fault};
 use rules::model::Held;
 
@@ -18,6 +19,7 @@ pub enum Field {
     Kind,
     Pn,
     Last,
+    First,
     StoredPn,
     StoredNumber,
     BestPn,
@@ -34,6 +36,9 @@ pub enum Field {
 
 // The largest proposal number.
 pub const MOST_PN: u64 = 999999999;
+
+// The largest load number.
+pub const MOST_NUMBER: u64 = 1000000000;
 
 // The first field that is not by form.
 pub enum Fault {
@@ -100,15 +105,49 @@ pub fn held_at(records: &[u64], l: u32) -> Held
     Held::Nothing
 }
 
-// Records last or last+1, at most j: there is no such count where last is above j.
-pub fn is_count(j: u32, last: u64, count: u64) -> bool
-    ensures { λ r. ⌜ r ≡ countForm j last count ⌝ }
+pub fn is_first(first: u64, last: u64) -> bool
+    ensures { λ r. ⌜ r ≡ firstForm first last ⌝ }
+{
+    (1 <= first) & ((first == 1) | (first <= last))
+}
+
+// The records of first to last, and `more` behind them, at most j.
+fn is_many(j: u32, first: u64, last: u64, more: u64, count: u64) -> bool
+    requires { ⌜ more ≤ 1 ⌝ }
+    ensures { λ r. ⌜ r ≡ countOf j first last more count ⌝ }
 {
     let most = j as u64;
-    if most < last {
+    if MOST_NUMBER < last {
         return false;
     }
-    ((count == last) | (count == last + 1)) & (count <= most)
+    if last + 1 < first {
+        return false;
+    }
+    (count <= most) & (count == last + 1 - first + more)
+}
+
+// Those of first to last ..
+pub fn is_agreed(j: u32, first: u64, last: u64, count: u64) -> bool
+    ensures { λ r. ⌜ r ≡ agreedCount j first last count ⌝ }
+{
+    is_many(j, first, last, 0, count)
+}
+
+// .. and of last+1, which is a load number too.
+pub fn is_full(j: u32, first: u64, last: u64, count: u64) -> bool
+    ensures { λ r. ⌜ r ≡ fullCount j first last count ⌝ }
+{
+    let many = is_many(j, first, last, 1, count);
+    many & (last < MOST_NUMBER)
+}
+
+// Records first to last and perhaps last+1, at most j.
+pub fn is_count(j: u32, first: u64, last: u64, count: u64) -> bool
+    ensures { λ r. ⌜ r ≡ heldCount j first last count ⌝ }
+{
+    let agreed = is_agreed(j, first, last, count);
+    let full = is_full(j, first, last, count);
+    agreed | full
 }
 
 // A set of boxes 1 to n only: no binary digit is left after the n lowest.

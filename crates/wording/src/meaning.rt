@@ -24,7 +24,11 @@ pub(crate) fn put_meaning(out: &mut [u8], at: usize, code: u64) -> usize {
         4 => put_words(out, at, b"elect with fewer present than a majority"),
         5 => put_words(out, at, b"stop, return or timeout at epoch 1,000,000"),
         6 => put_words(out, at, b"the new proposal number would exceed 999,999,999"),
-        7 => put_words(out, at, b"propose with a full book"),
+        7 => put_words(
+            out,
+            at,
+            b"no room for the next load: a record beyond J, or a number above 1,000,000,000",
+        ),
         8 => put_words(
             out,
             at,
@@ -34,7 +38,11 @@ pub(crate) fn put_meaning(out: &mut [u8], at: usize, code: u64) -> usize {
         11 => put_words(out, at, b"a line that cannot be read"),
         12 => put_words(out, at, b"a buffer is too short"),
         13 => put_words(out, at, b"sizes outside their ranges"),
-        14 => put_words(out, at, b"a holds line that is untrue"),
+        14 => put_words(
+            out,
+            at,
+            b"a holds line that is untrue, or of a load that box no longer keeps",
+        ),
         _ => at,
     }
 }

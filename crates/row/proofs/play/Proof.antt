@@ -1,7 +1,6 @@
 -- `row::play` meets its contract: the records are written, and then the head and the count.
 use borrow.Author.Needs.{needs}
-use native.Mathlib.Omega.{arith}
-use Rattle.row.proofs.BookLaws.{after-fits, play-law}
+use Rattle.row.proofs.BookLaws.{count-fits, play-law}
 use Rattle.row.proofs.play.Statement.{statement}
 use Rattle.row.proofs.play.Tie as tie
 
@@ -9,9 +8,12 @@ count-after-requires : tie.Need-count-after-requires
 count-after-requires c κs =
     let start = c .before .before .before .before .before in
     let a = start .args in
-    let w = start .pre .writes in
-    let after = after-fits (a .row .now) (a .place .now) (a .t .book) w in
-    rw (c .number .ensures) (omega (arith, after, w .loads))
+    rw (c .number .ensures)
+    (count-fits (a .row .now) (a .place .now) (a .t .book) (start .pre .writes))
+
+write-requires : tie.Need-write-requires
+write-requires c κs =
+    (search needs, c .before .before .number .ensures)
 
 returns : tie.Need-returns
 returns c =
@@ -29,5 +31,5 @@ pub play-spec : {M : Type 1} → statement M
 play-spec =
     tie.close
     (tie.spec
-    (λ c. search needs) (λ c κs. search needs) count-after-requires (λ c κs. search needs)
+    (λ c. search needs) (λ c κs. search needs) count-after-requires write-requires
     (λ c κs. search needs) (λ c. search needs) returns)

@@ -1,4 +1,4 @@
--- `row::store` meets its contract: the twenty words, and behind them what was there.
+-- `row::store` meets its contract: the words of its fields, and behind them what was there.
 use mathlib.Core.Path.{_∙_}
 use Rattle.row.proofs.StoreLaws.{store-law}
 use borrow.Author.Needs.{needs}
@@ -20,7 +20,8 @@ returns c =
     let best-pn = best-number .before in
     let stored-number = best-pn .before in
     let stored-pn = stored-number .before in
-    let last = stored-pn .before in
+    let first = stored-pn .before in
+    let last = first .before in
     let pn = last .before in
     let phase = pn .before in
     let state = phase .before .before in
@@ -29,18 +30,19 @@ returns c =
     store-law (start .args .row .now) (start .args .h) (start .args .held) _
     (copied .copy .ensures
     ∙ simp (
-      held .wide16 .ensures,
-      five .wide15 .ensures,
-      four .wide14 .ensures,
-      three .wide13 .ensures,
-      two .wide12 .ensures,
-      one .wide11 .ensures,
-      accepts .wide10 .ensures,
-      answered .wide9 .ensures,
-      best-number .wide8 .ensures,
-      best-pn .wide7 .ensures,
-      stored-number .wide6 .ensures,
-      stored-pn .wide5 .ensures,
+      held .wide17 .ensures,
+      five .wide16 .ensures,
+      four .wide15 .ensures,
+      three .wide14 .ensures,
+      two .wide13 .ensures,
+      one .wide12 .ensures,
+      accepts .wide11 .ensures,
+      answered .wide10 .ensures,
+      best-number .wide9 .ensures,
+      best-pn .wide8 .ensures,
+      stored-number .wide7 .ensures,
+      stored-pn .wide6 .ensures,
+      first .wide5 .ensures,
       last .wide4 .ensures,
       pn .wide3 .ensures,
       phase .wide2 .ensures,
@@ -57,8 +59,8 @@ store-spec =
     (λ c κs. search needs) (λ c κs. search needs) (λ c κs. search needs) (λ c κs. search needs)
     (λ c κs. search needs) (λ c κs. search needs) (λ c κs. search needs) (λ c κs. search needs)
     (λ c κs. search needs) (λ c κs. search needs) (λ c κs. search needs) (λ c κs. search needs)
-    (λ c κs. search needs) (λ c. search needs) (λ c κs. search needs) (λ c. search needs)
-    (λ c κs. search needs) (λ c. search needs) (λ c κs. search needs) (λ c. search needs)
-    (λ c κs. search needs) (λ c. search needs) (λ c κs. search needs) (λ c κs. search needs)
-    (λ c. search needs) (λ c. search needs) (λ c. search needs) (λ c. search needs)
-    (λ c κs. search needs) (λ c. search needs) returns)
+    (λ c κs. search needs) (λ c κs. search needs) (λ c. search needs) (λ c κs. search needs)
+    (λ c. search needs) (λ c κs. search needs) (λ c. search needs) (λ c κs. search needs)
+    (λ c. search needs) (λ c κs. search needs) (λ c. search needs) (λ c κs. search needs)
+    (λ c κs. search needs) (λ c. search needs) (λ c. search needs) (λ c. search needs)
+    (λ c. search needs) (λ c κs. search needs) (λ c. search needs) returns)

@@ -8,13 +8,13 @@ returns : tie.Need-returns
 returns c =
     let k = c .before .pre .1 in
     let a = c .before .args in
-    peer-stop (a .n) (a .j) (a .b) (a .w .now) (a .k) (k .0) (k .1) (c .if1 .taken)
+    peer-stop (a .n) (a .b) (a .w .now) (a .k) (k .0) (k .1) (c .if1 .taken)
 
 returns-2 : tie.Need-returns-2
 returns-2 c =
     let k = c .before .before .pre .1 in
     let a = c .before .before .args in
-    peer-go (a .n) (a .j) (a .b) (a .w .now) (a .k) (k .0) (k .1) (c .before .if1 .left)
+    peer-go (a .n) (a .b) (a .w .now) (a .k) (k .0) (k .1) (c .before .if1 .left)
 
 pub is-peer-spec : {M : Type 1} → statement M
 is-peer-spec =

@@ -13,7 +13,7 @@ returns c =
       c .before .before .can-agree .ensures,
       c .before .before .before .does .ensures,
       c .before .before .before .before .others .ensures,
-      c .before .before .before .before .before .mail-of .ensures,
+      c .before .before .before .before .before .mail-from .ensures,
       c .before .before .before .before .before .before .before .before .reach .ensures,
     )
 
@@ -21,12 +21,5 @@ pub agree-spec : {M : Type 1} → statement M
 agree-spec =
     tie.close
     (tie.spec
-    (λ c. search needs)
-    (λ c κs. tt)
-    (λ c κs. tt)
-    (λ c κs. tt)
-    (λ c κs. tt)
-    (λ c κs. tt)
-    (λ c κs. tt)
-    (λ c κs. tt)
-    returns)
+    (λ c. search needs) (λ c κs. tt) (λ c κs. tt) (λ c κs. tt) (λ c κs. tt) (λ c κs. tt)
+    (λ c κs. tt) (λ c κs. tt) returns)

@@ -8,7 +8,7 @@ use Rattle.rules.proofs.model.BoxState.any_act.Tie as tie
 act-requires : tie.Need-act-requires
 act-requires c κs =
     let h = bounded-box _ _ (sym (c .before .bounded .ensures) ∙ c .if1 .taken) in
-    (h .pn, (h .last, h .me))
+    (h .pn, (h .last, (h .first, (h .me, h .j))))
 
 returns : tie.Need-returns
 unfolding anyAct
@@ -24,4 +24,5 @@ returns-2 c =
 pub any-act-spec : {M : Type 1} → statement M
 any-act-spec =
     tie.close
-    (tie.spec (λ c κs. tt) act-requires returns (λ c κs. tt) returns-2)
+    (tie.spec
+    (λ c κs. tt) act-requires returns (λ c κs. tt) returns-2)

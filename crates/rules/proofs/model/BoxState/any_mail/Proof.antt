@@ -13,7 +13,7 @@ on-mail-requires c κs =
     let g = c .before .bounded2 .result in
     let h = bounded-box _ _ (sym (at-bounded .bounded .ensures) ∙ first-of f g (c .if1 .taken)) in
     let m = bounded-mail _ (sym (c .before .bounded2 .ensures) ∙ second-of f g (c .if1 .taken)) in
-    (h .last, (m .last, (m .pn, h .me)))
+    (h .last, (h .first, (m .last, (m .first, (m .pn, (h .me, h .j))))))
 
 returns : tie.Need-returns
 unfolding anyMail
@@ -35,9 +35,4 @@ pub any-mail-spec : {M : Type 1} → statement M
 any-mail-spec =
     tie.close
     (tie.spec
-    (λ c κs. tt)
-    (λ c κs. tt)
-    on-mail-requires
-    returns
-    (λ c κs. tt)
-    returns-2)
+    (λ c κs. tt) (λ c κs. tt) on-mail-requires returns (λ c κs. tt) returns-2)

@@ -11,7 +11,7 @@ returns c =
       c .settle .ensures,
       c .before .takes .ensures,
       c .before .before .bit-of .ensures .0,
-      c .before .before .before .mail-of .ensures,
+      c .before .before .before .mail-from .ensures,
       c .before .before .before .before .before .before .first-cause .ensures,
       c .before .before .before .before .before .before .before .promise .ensures,
       c .before .before .before .before .before .before .before .before .larger .ensures,
@@ -22,12 +22,5 @@ pub on-collect-spec : {M : Type 1} → statement M
 on-collect-spec =
     tie.close
     (tie.spec
-    (λ c κs. search needs)
-    (λ c κs. tt)
-    (λ c κs. tt)
-    (λ c κs. tt)
-    (λ c κs. tt)
-    (λ c κs. tt)
-    (λ c κs. tt)
-    (λ c κs. tt)
-    returns)
+    (λ c κs. search needs) (λ c κs. tt) (λ c κs. tt) (λ c κs. tt) (λ c κs. tt) (λ c κs. tt)
+    (λ c κs. tt) (λ c κs. tt) returns)

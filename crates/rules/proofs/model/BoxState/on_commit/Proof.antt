@@ -1,5 +1,6 @@
 -- `rules::model::BoxState::on_commit` meets its contract.
 use Rattle.rules.specs.Mails.{onCommit}
+use borrow.Author.Needs.{needs}
 use Rattle.rules.proofs.model.BoxState.on_commit.Statement.{statement}
 use Rattle.rules.proofs.model.BoxState.on_commit.Tie as tie
 
@@ -19,10 +20,4 @@ pub on-commit-spec : {M : Type 1} → statement M
 on-commit-spec =
     tie.close
     (tie.spec
-    (λ c κs. tt)
-    (λ c κs. tt)
-    (λ c κs. tt)
-    (λ c κs. tt)
-    (λ c κs. tt)
-    (λ c κs. tt)
-    returns)
+    (λ c κs. tt) (λ c κs. tt) (λ c κs. tt) (λ c κs. search needs) (λ c κs. tt) (λ c κs. tt) returns)

@@ -7,39 +7,30 @@ use Rattle.rules.proofs.model.BoxState.on_last.Tie as tie
 returns : tie.Need-returns
 unfolding onLast
 returns c =
-    let at-take-book = c .before .before in
-    let at-mail-of = at-take-book .before in
-    let at-laggards = at-mail-of .before in
+    let at-mail-from = c .before .before in
+    let at-laggards = at-mail-from .before in
     let at-note = at-laggards .before in
     let at-take = at-note .before in
-    let at-answer = at-take .before .before .before in
+    let at-answer = at-take .before .before in
     let at-hear = at-answer .before in
     let at-judge-last = at-hear .before in
+    let at-take-book = at-judge-last .before in
     simp (
       c .settle .ensures,
       c .before .takes .ensures,
-      at-take-book .take-book .ensures,
-      at-mail-of .mail-of .ensures,
+      at-mail-from .mail-from .ensures,
       at-laggards .laggards .ensures,
       at-note .note .ensures,
       at-take .take .ensures,
       at-answer .answer .ensures,
       at-hear .hear .ensures,
       at-judge-last .judge-last .ensures,
+      at-take-book .take-book .ensures,
     )
 
 pub on-last-spec : {M : Type 1} → statement M
 on-last-spec =
     tie.close
     (tie.spec
-    (λ c κs. search needs)
-    (λ c κs. tt)
-    (λ c κs. search needs)
-    (λ c κs. tt)
-    (λ c κs. tt)
-    (λ c κs. tt)
-    (λ c κs. tt)
-    (λ c κs. tt)
-    (λ c κs. tt)
-    (λ c κs. tt)
-    returns)
+    (λ c κs. search needs) (λ c κs. search needs) (λ c κs. tt) (λ c κs. search needs) (λ c κs. tt)
+    (λ c κs. tt) (λ c κs. tt) (λ c κs. tt) (λ c κs. tt) (λ c κs. tt) returns)

@@ -12,16 +12,13 @@ returns c =
       c .before .unless2 .ensures,
       c .before .before .can-propose .ensures,
       c .before .before .before .unless .ensures,
-      c .before .before .before .before .before .before .start .ensures,
+      c .before .before .before .before .room-next .ensures,
+      c .before .before .before .before .before .start .ensures,
     )
 
 pub propose-spec : {M : Type 1} → statement M
 propose-spec =
     tie.close
     (tie.spec
-    (λ c κs. search needs)
-    (λ c κs. tt)
-    (λ c κs. tt)
-    (λ c κs. tt)
-    (λ c κs. tt)
-    returns)
+    (λ c κs. search needs) (λ c κs. search needs) (λ c κs. tt) (λ c κs. tt) (λ c κs. tt)
+    (λ c κs. tt) returns)

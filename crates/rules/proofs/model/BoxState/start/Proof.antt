@@ -10,19 +10,15 @@ returns c =
     simp (
       c .does .ensures,
       c .before .others .ensures,
-      c .before .before .mail-of .ensures,
+      c .before .before .mail-from .ensures,
       c .before .before .before .before .before .bit-of .ensures .0,
       c .before .before .before .before .before .before .store .ensures,
+      c .before .before .before .before .before .before .before .span .ensures,
     )
 
 pub start-spec : {M : Type 1} → statement M
 start-spec =
     tie.close
     (tie.spec
-    (λ c. search needs)
-    (λ c κs. tt)
-    (λ c κs. tt)
-    (λ c κs. tt)
-    (λ c κs. tt)
-    (λ c κs. tt)
-    returns)
+    (λ c κs. search needs) (λ c. search needs) (λ c κs. tt) (λ c κs. tt) (λ c κs. tt) (λ c κs. tt)
+    (λ c κs. tt) returns)

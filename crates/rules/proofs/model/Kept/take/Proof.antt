@@ -7,14 +7,14 @@ returns : tie.Need-returns
 unfolding tookKept
 returns c =
     simp (
-      c .reach .ensures,
-      c .before .pick-number .ensures,
+      c .keep .ensures,
+      c .before .reach .ensures,
+      c .before .before .higher2 .ensures .0,
+      c .before .before .before .higher .ensures .0,
     )
 
 pub take-spec : {M : Type 1} → statement M
 take-spec =
     tie.close
     (tie.spec
-    (λ c κs. tt)
-    (λ c κs. tt)
-    returns)
+    (λ c κs. tt) (λ c κs. tt) (λ c κs. tt) (λ c κs. tt) returns)
