@@ -15,7 +15,7 @@ use Rattle.words.proofs.RingLaws.{slot-zero, previous-lt}
 use Rattle.rules.specs.Box.{Letter}
 use Rattle.rules.specs.Site.{twice}
 use Rattle.laws.proofs.Logic.{passed, and-both}
-use Rattle.letter.specs.Place.{letterAt, placeFits}
+use Rattle.letter.specs.Place.{letterAt, placeFits, headWords, countAt}
 use Rattle.letter.proofs.CopyLaws.{copied-letter, copied-fits}
 use Rattle.link.specs.Link.{placeWidth, places, linkOf, linkFits}
 use Rattle.link.specs.Holds.{placeStart, ReadableLink, Holds, HeadAt}
@@ -64,17 +64,17 @@ unfolding twice
 twice-head {A = A} {y} {ys} {l} e = ap twice e ∙ ap (λ (k : List A). y ∷ k) (sym e)
 
 -- The head's records have room.
-pub head-count : {J L a : ℕ} {r : List ℕ} → HeadAt J L r a → getD r (a + 4) 0 ≤ J
+pub head-count : {J L a : ℕ} {r : List ℕ} → HeadAt J L r a → getD r (a + countAt) 0 ≤ J
 unfolding placeFits
 head-count {J} {L} {a} {r} at =
     let p = part r a (placeWidth J) in
-    let few = leb-true (getD p 4 0) J (passed _ (at .fits) .1 .0) in
-    omega (arith, getD-part a (placeWidth J) 4 0 r (omega arith))
+    let few = leb-true (getD p countAt 0) J (passed _ (at .fits) .1 .0) in
+    omega (arith, getD-part a (placeWidth J) countAt 0 r (omega arith))
 
 -- a is where the head's place begins, and the code's other numbers are those of the words
 module _ {J L a : ℕ} {r : List ℕ} (ok : ReadableLink J L r) (at : HeadAt J L r a)
     (few : length (linkOf J L r) < L) {s c b p x : ℕ} (es : s ≡ getD r 0 0) (ec : c ≡ getD r 1 0)
-    (eb : b ≡ previous L s) (ep : p ≡ placeStart J L b 0) (ex : x ≡ getD r (a + 4) 0) where
+    (eb : b ≡ previous L s) (ep : p ≡ placeStart J L b 0) (ex : x ≡ getD r (a + countAt) 0) where
   front-at : p ≡ frontStart J L r
   front-at =
       let w = placeWidth J in
@@ -83,14 +83,14 @@ module _ {J L a : ℕ} {r : List ℕ} (ok : ReadableLink J L r) (at : HeadAt J L
       ∙ ap (λ (v : ℕ). placeStart J L v 0) (eb ∙ ap (previous L) es)
       ∙ ap (λ (v : ℕ). 2 + v * w) (slot-zero L (previous L (getD r 0 0)) q)
 
-  held-words : 5 + x ≡ 5 + getD (part r a (placeWidth J)) 4 0
-  held-words = ap (λ (v : ℕ). 5 + v) (ex ∙ sym (getD-part a (placeWidth J) 4 0 r (omega arith)))
+  held-words : headWords + x ≡ headWords + getD (part r a (placeWidth J)) countAt 0
+  held-words = ap (λ (v : ℕ). headWords + v) (ex ∙ sym (getD-part a (placeWidth J) countAt 0 r (omega arith)))
 
   pub double-done : Holds J L
-      (set (set (splice r p (5 + x) (part r a (5 + x))) 0 b) 1 (c + 1)) (twice (linkOf J L r))
+      (set (set (splice r p (headWords + x) (part r a (headWords + x))) 0 b) 1 (c + 1)) (twice (linkOf J L r))
   double-done =
       let w = placeWidth J in
-      let n = 5 + x in
+      let n = headWords + x in
       let f = frontStart J L r in
       let room : getD r 1 0 < L = omega (arith, length-link J L r) in
       let inside = front-inside J L r ok room in

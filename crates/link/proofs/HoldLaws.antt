@@ -26,8 +26,8 @@ use Rattle.link.proofs.LinkLaws.{fits-says, fits-made, length-link, two
 use Rattle.link.proofs.LinkLaws.{link-none, fits-none, places-pop, places-push, form-held}
 
 -- the one product of a link's sizes
-pub places-most : {J L : ℕ} → LinkSizes J L → L * placeWidth J ≤ 65616
-places-most h = mul-le-mul {n₂ = 16} {m₂ = 4101} (h .few-mails) (omega arith)
+pub places-most : {J L : ℕ} → LinkSizes J L → L * placeWidth J ≤ 65632
+places-most h = mul-le-mul {n₂ = 16} {m₂ = 4102} (h .few-mails) (omega arith)
 
 -- what a link that can be read gives a proof
 module _ {J L : ℕ} {r : List ℕ} (ok : ReadableLink J L r) where

@@ -10,7 +10,7 @@ use Rattle.rules.specs.Sizes.{mostLoads, mostMails}
 use Rattle.rules.specs.Box.{Letter}
 use Rattle.rules.specs.declared.model.Mail.{Mail}
 use Rattle.letter.specs.Place.{letterAt, placeFits, placeForm}
-use Rattle.letter.specs.Lent.{enclosedFrom, enclosedCount}
+use Rattle.letter.specs.Lent.{agreedOf, Numbered, enclosedFrom, enclosedCount}
 use Rattle.link.specs.Link.{placeWidth, linkWidth, linkOf, linkFits, linkForm}
 
 -- where the place begins that is i places on from place s, and its words
@@ -52,6 +52,7 @@ pub record HeadAt (J L : ℕ) (r : List ℕ) (a : ℕ) : Type 0 where
 
 -- rs has the records that go with m, and a place has room for them
 pub record Sendable (J : ℕ) (m : Mail) (rs : List ℕ) : Type 0 where
-  pub held : enclosedFrom (m .kind) (m .last) + enclosedCount (m .kind) (m .last) (length rs)
+  pub numbered : Numbered m
+  pub held : enclosedFrom (m .kind) (agreedOf m) + enclosedCount (m .kind) (agreedOf m) (length rs)
       ≤ length rs
-  pub room : enclosedCount (m .kind) (m .last) (length rs) ≤ J
+  pub room : enclosedCount (m .kind) (agreedOf m) (length rs) ≤ J

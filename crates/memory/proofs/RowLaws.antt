@@ -119,7 +119,7 @@ module _ (s : Setting) (xs place : List ℕ) (t : Turn) {p e : ℕ}
         above = λ k a m. unknown-above k a (f .peers k (omega arith, m));
       })
     where
-      unknown-above : (k : ℕ) {last : ℕ} → s .n < k → Peer (s .n) (s .j) (s .me) k last
+      unknown-above : (k : ℕ) {last : ℕ} → s .n < k → Peer (s .n) (s .me) k last
           → last ≡ unknown
       unknown-above k a (left e) = e
       unknown-above k a (right e) = absurd (omega (arith, e .0))

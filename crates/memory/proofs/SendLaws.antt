@@ -10,6 +10,7 @@ use lib.ListN.{length, take, length-take, List·getD-eq-default}
 use borrow.Author.Tests.{leb-true, leb-false, le-leb, lt-leb, ltb-true, ne-eqb}
 use Rattle.rules.specs.Every.{every}
 use Rattle.rules.specs.Sets.{has, setForm}
+use Rattle.rules.specs.Parts.{span}
 use Rattle.rules.specs.Box.{Letter, enclosed, letterOf}
 use Rattle.rules.specs.Form.{formLetter}
 use Rattle.rules.specs.Site.{isBox, isLink}
@@ -43,38 +44,48 @@ module _ {s : Setting} {ls : List ℕ} {set b : ℕ} {m : Mail} {rs : List ℕ}
 -- ---- the letter
 
 -- a letter by form has its records of those that are there, and has room for them
-module _ (J pn last unagreed : ℕ) (rs : List ℕ) (most : last ≤ J) where
+module _ (J pn last first unagreed : ℕ) (rs : List ℕ) where
   abbrev Enclosable : Kind → Type 0
   Enclosable k =
-      (enclosedFrom k last + enclosedCount k last (length rs) ≤ length rs)
-      × (enclosedCount k last (length rs) ≤ J)
+      (enclosedFrom k (span first last) + enclosedCount k (span first last) (length rs)
+      ≤ length rs)
+      × (enclosedCount k (span first last) (length rs) ≤ J)
+      × (first ≤ last + 1)
 
-  enclosable : (k : Kind) → FormedKind k J pn last unagreed (length (enclosed k last rs))
-      → All Proper (enclosed k last rs) → Enclosable k
+  enclosable : (k : Kind)
+      → FormedKind k J pn last first unagreed (length (enclosed k (span first last) rs))
+      → All Proper (enclosed k (span first last) rs) → Enclosable k
   unfolding enclosed
-  enclosable Kind.Collect h p = (omega arith, omega arith)
-  enclosable Kind.Last h p = (omega arith, h .held .room)
-  enclosable Kind.Begin h p = (there (decLt last (length rs)), omega (arith, h .room))
+  enclosable Kind.Collect h p = (omega arith, omega arith, omega (arith, h .no-first))
+  enclosable Kind.Last h p = (omega arith, h .held .room, omega (arith, h .first .top))
+  enclosable Kind.Begin h p =
+      (there (decLt (span first last) (length rs)), h .fits, omega (arith, h .first .top))
     where
-      there : Dec (last < length rs) → last + 1 ≤ length rs
+      there : Dec (span first last < length rs) → span first last + 1 ≤ length rs
       there (yes l) = omega arith
       there (no l) =
-          absurd (proper-some (All-head p) (List·getD-eq-default rs 0 {n = last} (omega arith)))
-  enclosable Kind.Accept h p = (omega arith, omega arith)
-  enclosable Kind.Commit h p = (
-    let l : length (take last rs) ≡ last = h .all-records in
-        omega (arith, length-take last rs),
-    most,
-  )
-  enclosable Kind.Lease h p = (omega arith, omega arith)
+          absurd
+          (proper-some (All-head p)
+          (List·getD-eq-default rs 0 {n = span first last} (omega arith)))
+  enclosable Kind.Accept h p = (omega arith, omega arith, omega (arith, h .no-first))
+  enclosable Kind.Commit h p =
+      let a = span first last in
+      let top : first ≤ last + 1 = omega (arith, h .first .top) in
+      let l : length (take a rs) ≡ a = omega (arith, h .all-records) in
+      (omega (arith, length-take a rs), omega (arith, h .room), top)
+  enclosable Kind.Lease h p = (omega arith, omega arith, omega (arith, h .bare .no-first))
 
 pub sendable : (J : ℕ) (m : Mail) (rs : List ℕ) → formLetter J (letterOf m rs) ≡ true
     → Sendable J m rs
 sendable J m rs e =
     let f = letter-says e in
-    let h = enclosable J (m .pn) (m .last) (m .unagreed) rs (f .last) (m .kind) (f .kind)
+    let h = enclosable J (m .pn) (m .last) (m .first) (m .unagreed) rs (m .kind) (f .kind)
     (f .records) in
-    record { held = h .0; room = h .1 }
+    record {
+      numbered = record { last = f .last; first = h .2 };
+      held = h .0;
+      room = h .1;
+    }
 
 -- ---- the letters to the boxes up to b
 

@@ -21,10 +21,10 @@ use Rattle.memory.specs.Memory.{linkStart}
 -- ---- how many words
 
 -- the one product of a link's sizes
-pub link-most : {J L : ℕ} → LinkSizes J L → linkWidth J L ≤ 65618
-link-most h = omega (arith, mul-le-mul {n₂ = 16} {m₂ = 4101} (h .few-mails) (places h))
+pub link-most : {J L : ℕ} → LinkSizes J L → linkWidth J L ≤ 65634
+link-most h = omega (arith, mul-le-mul {n₂ = 16} {m₂ = 4102} (h .few-mails) (places h))
   where
-    places : {J L : ℕ} → LinkSizes J L → placeWidth J ≤ 4101
+    places : {J L : ℕ} → LinkSizes J L → placeWidth J ≤ 4102
     places h = omega arith
 
 module _ {n J L : ℕ} (h : FormedSizes n J L) where
@@ -36,14 +36,14 @@ module _ {n J L : ℕ} (h : FormedSizes n J L) where
     few-mails = h .few-mails;
   }
 
-  pub rows-most : n * rowWidth J ≤ 20580
-  rows-most = mul-le-mul {n₂ = 5} {m₂ = 4116} (h .few-boxes) (omega arith)
+  pub rows-most : n * rowWidth J ≤ 20585
+  rows-most = mul-le-mul {n₂ = 5} {m₂ = 4117} (h .few-boxes) (omega arith)
 
   pub pairs-most : n * (n - 1) ≤ 20
   pairs-most = mul-le-mul {n₂ = 5} {m₂ = 4} (h .few-boxes) (omega arith)
 
-  pub links-most : linksWords n J L ≤ 1312360
-  links-most = mul-le-mul {n₂ = 20} {m₂ = 65618} pairs-most (link-most link-sizes)
+  pub links-most : linksWords n J L ≤ 1312680
+  links-most = mul-le-mul {n₂ = 20} {m₂ = 65634} pairs-most (link-most link-sizes)
 
 pub box-few : (n b : ℕ) {J L : ℕ} → FormedSizes n J L → isBox n b ≡ true → b ≤ mostBoxes
 box-few n b h e = let i : In b n = is-box e in omega (arith, i .1)

@@ -138,6 +138,7 @@ fn fresh_head() -> BoxState
         kept: Kept {
             pn: 0,
             last: 0,
+            first: 1,
             stored: Stored { pn: 0, number: 0 },
         },
         best: Best {
