@@ -174,7 +174,7 @@ step-formed-spec =
     (λ c. search needs) returns-4 (λ c. search needs) (λ c. search needs) returns-5
     (λ c. search needs) (λ c. search needs) returns-6 (λ c. search needs) (λ c. search needs)
     returns-7 (λ c. search needs) (λ c. search needs) returns-8 (λ c. search needs)
-    (λ c. search needs) returns-9 (λ c. search needs) (λ c. search needs) returns-10 (λ c. search needs) (λ c. search needs) returns-11
-    (λ c. search needs) (λ c. search needs) returns-12 (λ c. search needs) (λ c. search needs)
-    returns-13 (λ c. search needs) (λ c. search needs) returns-14 (λ c. search needs)
-    (λ c. search needs) returns-15)
+    (λ c. search needs) returns-9 (λ c. search needs) (λ c. search needs) returns-10
+    (λ c. search needs) (λ c. search needs) returns-11 (λ c. search needs) (λ c. search needs)
+    returns-12 (λ c. search needs) (λ c. search needs) returns-13 (λ c. search needs)
+    (λ c. search needs) returns-14 (λ c. search needs) (λ c. search needs) returns-15)
