@@ -118,21 +118,24 @@ module _ (s : Setting) (r : List ℕ) (ok : Passed s r) where
     turn-owned out reads form numbers r' out' a to h =
         rw (turn-on s (ownBox s r) e out (ok .sizes) reads form numbers, same) (rw et at h)
 
--- A step of its own takes no mail.
+-- A step of its own takes no mail: the words of an empty place.
+abbrev pub noMail : List ℕ
+noMail = 0 ∷ 0 ∷ 0 ∷ 0 ∷ 0 ∷ 0 ∷ []
+
 module _ (s : Setting) (r : List ℕ) (ok : Passed s r) (a : Act) (t : Turn) (end : ℕ)
     (ee : end ≡ headWords + s .j) (et : t ≡ turnOf s (boxOf (s .n) (take end r)) (own a)) where
   act-turn : t ≡ turnOf s (ownBox s r) (own a)
   act-turn = rw ee at et
 
-  pub act-concludes : ActFits a → Concludes s r (0 ∷ 0 ∷ 0 ∷ 0 ∷ 0 ∷ []) t
-  act-concludes f = turn-concludes s r ok (own a) (0 ∷ 0 ∷ 0 ∷ 0 ∷ 0 ∷ []) t act-turn refl f
+  pub act-concludes : ActFits a → Concludes s r noMail t
+  act-concludes f = turn-concludes s r ok (own a) noMail t act-turn refl f
 
   pub act-owned : (out r' out' : List ℕ) (b : Answer) (to : ℕ)
-      → Owned s (concluded s r (0 ∷ 0 ∷ 0 ∷ 0 ∷ 0 ∷ []) t out) r out r' out' b to
+      → Owned s (concluded s r noMail t out) r out r' out' b to
       → Owned s (actOn s r a out) r out r' out' b to
   act-owned =
       let form = act-tested s r a true true (sym (ok .setting)) (sym (ok .row)) in
-      λ out. turn-owned s r ok (own a) (0 ∷ 0 ∷ 0 ∷ 0 ∷ 0 ∷ []) t act-turn refl out
+      λ out. turn-owned s r ok (own a) noMail t act-turn refl out
       (rowReads (s .j) r) (sym form) (box-is (ok .me))
 
 -- The mail stands in the place p, which the code cuts at `stop`.

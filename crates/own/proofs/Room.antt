@@ -10,9 +10,12 @@ use borrow.Author.Tests.{leb-true, leb-false, le-leb, lt-leb, lt-ltb, le-ltb}
 use Rattle.rules.specs.Sizes.{unknown}
 use Rattle.rules.specs.Box.{own, mail}
 use Rattle.laws.proofs.Types.{Act, Setting}
+use Rattle.letter.specs.Place as place
 use Rattle.letter.specs.Place.{kindOf, letterAt, placeFits, headWords as letterHead}
-use Rattle.row.specs.Row.{stateOf, phaseOf, flagOf, peerOf, boxOf, rowFits, beforePeers, countAt}
-use Rattle.row.specs.Row.{headWords}
+use Rattle.row.specs.Row.{stateOf, phaseOf, flagOf, peerOf, boxOf, rowFits, headWords}
+use Rattle.row.specs.Row.{flagAt, stateAt, phaseAt, pnAt, lastAt, firstAt, storedPnAt}
+use Rattle.row.specs.Row.{storedNumberAt, bestPnAt, bestNumberAt, answeredAt, acceptsAt, bestAt}
+use Rattle.row.specs.Row.{waitingAt, agreeingAt, beforePeers, peersAt, countAt}
 use Rattle.row.specs.Lent.{recordsOf}
 use Rattle.own.specs.Entry.{rowOf, placeOf, ownBox, ownLetter, rowReads, placeReads}
 use Rattle.own.specs.Entry.{buffered, ownOn, actOn, mailOn}
@@ -67,14 +70,14 @@ module _ (s : Setting) where
 
 -- of a row: the fields, the lasts of n peers, the count of records and the records held
 pub record SameRow (n : ℕ) (r r' : List ℕ) : Type 0 where
-  pub fields : (k : ℕ) → k < 14 → getD r k 0 ≡ getD r' k 0
+  pub fields : (k : ℕ) → k < peersAt → getD r k 0 ≡ getD r' k 0
   pub peers : (k : ℕ) → k ≤ n → getD r (beforePeers + k) 0 ≡ getD r' (beforePeers + k) 0
-  pub count : getD r countAt 0 ≡ getD r' 19 0
+  pub count : getD r countAt 0 ≡ getD r' countAt 0
   pub records : recordsOf r ≡ recordsOf r'
 
 module _ (n : ℕ) (r r' : List ℕ) (e : SameRow n r r') where
-  field : (k : ℕ) → leb (suc k) 14 ≡ true → getD r k 0 ≡ getD r' k 0
-  field k h = e .fields k (leb-true (suc k) 14 h)
+  field : (k : ℕ) → leb (suc k) peersAt ≡ true → getD r k 0 ≡ getD r' k 0
+  field k h = e .fields k (leb-true (suc k) peersAt h)
 
   peer : (k : ℕ) → peerOf n r k ≡ peerOf n r' k
   peer k = go (leb k n) refl
@@ -88,19 +91,24 @@ module _ (n : ℕ) (r r' : List ℕ) (e : SameRow n r r') where
   same-box : boxOf n r ≡ boxOf n r'
   same-box = λ i. record {
     head = record {
-      leads = flagOf (field 0 refl i);
-      state = stateOf (field 1 refl i);
-      phase = phaseOf (field 2 refl i);
+      leads = flagOf (field flagAt refl i);
+      state = stateOf (field stateAt refl i);
+      phase = phaseOf (field phaseAt refl i);
       kept = record {
-        pn = field 3 refl i;
-        last = field 4 refl i;
-        stored = record { pn = field 5 refl i; number = field 6 refl i };
+        pn = field pnAt refl i;
+        last = field lastAt refl i;
+        first = field firstAt refl i;
+        stored = record { pn = field storedPnAt refl i; number = field storedNumberAt refl i };
       };
-      best = record { pn = field 7 refl i; number = field 8 refl i; value = field 11 refl i };
-      answered = field 9 refl i;
-      accepts = field 10 refl i;
-      waiting = field 12 refl i;
-      agreeing = field 13 refl i;
+      best = record {
+        pn = field bestPnAt refl i;
+        number = field bestNumberAt refl i;
+        value = field bestAt refl i;
+      };
+      answered = field answeredAt refl i;
+      accepts = field acceptsAt refl i;
+      waiting = field waitingAt refl i;
+      agreeing = field agreeingAt refl i;
       peers = peer 1 i ∷ peer 2 i ∷ peer 3 i ∷ peer 4 i ∷ peer 5 i ∷ [];
     };
     records = e .records i;
@@ -108,31 +116,32 @@ module _ (n : ℕ) (r r' : List ℕ) (e : SameRow n r r') where
 
   same-fits : (J : ℕ) → rowFits J r ≡ rowFits J r'
   unfolding rowFits
-  same-fits J = rw (field 0 refl, field 1 refl, field 2 refl, e .count)
+  same-fits J = rw (field flagAt refl, field stateAt refl, field phaseAt refl, e .count)
 
 -- of a place: the fields, the count of records and the records held
 pub record SamePlace (p p' : List ℕ) : Type 0 where
-  pub fields : (k : ℕ) → k < 5 → getD p k 0 ≡ getD p' k 0
+  pub fields : (k : ℕ) → k < letterHead → getD p k 0 ≡ getD p' k 0
   pub records : letterAt p .records ≡ letterAt p' .records
 
 module _ (p p' : List ℕ) (e : SamePlace p p') where
-  word : (k : ℕ) → leb (suc k) 5 ≡ true → getD p k 0 ≡ getD p' k 0
-  word k h = e .fields k (leb-true (suc k) 5 h)
+  word : (k : ℕ) → leb (suc k) letterHead ≡ true → getD p k 0 ≡ getD p' k 0
+  word k h = e .fields k (leb-true (suc k) letterHead h)
 
   same-letter : letterAt p ≡ letterAt p'
   same-letter = λ i. record {
     head = record {
-      kind = kindOf (word 0 refl i);
-      pn = word 1 refl i;
-      last = word 2 refl i;
-      unagreed = word 3 refl i;
+      kind = kindOf (word place.kindAt refl i);
+      pn = word place.pnAt refl i;
+      last = word place.lastAt refl i;
+      first = word place.firstAt refl i;
+      unagreed = word place.unagreedAt refl i;
     };
     records = e .records i;
   }
 
   same-room : (J : ℕ) → placeFits J p ≡ placeFits J p'
   unfolding placeFits
-  same-room J = rw (word 0 refl, word 4 refl)
+  same-room J = rw (word place.kindAt refl, word place.countAt refl)
 
 module _ (s : Setting) where
   pub used-row : (r r' : List ℕ)

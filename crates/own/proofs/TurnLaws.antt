@@ -5,12 +5,13 @@ use mathlib.Core.Path.{_≡_, subst}
 use mathlib.Core.List.{List}
 use Prim.Native.Nat.{ℕ, _+_, _-_, _≤_, _<_}
 use native.Mathlib.Omega.{arith}
-use lib.ListN.{length, getD, length-take, List·getD-eq-default}
+use lib.ListN.{length, take, getD, length-take, List·getD-eq-default}
 use lib.Seq.{length-take-le}
 use lib.Dec.{ltb}
 use borrow.Author.Tests.{ltb-true, ltb-false}
 use Rattle.rules.specs.Sizes.{mostBoxes, unknown, sizesForm}
 use Rattle.rules.specs.Sets.{setForm}
+use Rattle.rules.specs.Parts.{span}
 use Rattle.rules.specs.Box.{Box, Event, enclosed, turnOf, brought}
 use Rattle.laws.proofs.Types.{Kind, Out, Setting}
 use Rattle.laws.proofs.Logic.{Or, left, right, In, All, All-head, decide}
@@ -31,7 +32,7 @@ peers-above : {n J b : ℕ} {x : Box} → FormedBox n J b x → (k : ℕ) → n 
     → getD (x .head .peers) (k - 1) 0 ≡ unknown
 peers-above {n} {J} {b} {x} f k h m = go (f .peers k (omega arith, m))
   where
-    go : Peer n J b k (getD (x .head .peers) (k - 1) 0) → getD (x .head .peers) (k - 1) 0 ≡ unknown
+    go : Peer n b k (getD (x .head .peers) (k - 1) 0) → getD (x .head .peers) (k - 1) 0 ≡ unknown
     go (left e) = e
     go (right p) = absurd (omega (arith, p .0))
 
@@ -46,23 +47,29 @@ proper-held rs l p = go (decide (ltb l (length rs)))
     go (right e) =
         absurd (proper-some p (List·getD-eq-default rs 0 (ltb-false l (length rs) e)))
 
--- The records that go with a mail by form are held, and at most J.
-module _ (J pn last unagreed : ℕ) (rs : List ℕ) (room : last ≤ J) where
-  enclosed-held : (k : Kind) → FormedKind k J pn last unagreed (length (enclosed k last rs))
-      → All Proper (enclosed k last rs)
-      → (enclosedFrom k last + enclosedCount k last (length rs) ≤ length rs)
-      × (enclosedCount k last (length rs) ≤ J)
+-- The records that go with a mail by form are held, and at most J; its numbers can be counted.
+module _ (J pn last first unagreed : ℕ) (rs : List ℕ) where
+  abbrev agreed : ℕ
+  agreed = span first last
+
+  enclosed-held : (k : Kind)
+      → FormedKind k J pn last first unagreed (length (enclosed k agreed rs))
+      → All Proper (enclosed k agreed rs)
+      → (enclosedFrom k agreed + enclosedCount k agreed (length rs) ≤ length rs)
+      × (enclosedCount k agreed (length rs) ≤ J)
+      × (first ≤ last + 1)
   unfolding enclosed
-  enclosed-held Kind.Collect f p = (omega arith, omega arith)
-  enclosed-held Kind.Last f p = (omega arith, f .held .room)
+  enclosed-held Kind.Collect f p = (omega arith, omega arith, omega (arith, f .no-first))
+  enclosed-held Kind.Last f p = (omega arith, f .held .room, omega (arith, f .first .top))
   enclosed-held Kind.Begin f p =
-      let h : last < length rs = proper-held rs last (All-head p) in
-      (omega arith, omega (arith, f .room))
-  enclosed-held Kind.Accept f p = (omega arith, omega arith)
+      let h : agreed < length rs = proper-held rs agreed (All-head p) in
+      (omega arith, f .fits, omega (arith, f .first .top))
+  enclosed-held Kind.Accept f p = (omega arith, omega arith, omega (arith, f .no-first))
   enclosed-held Kind.Commit f p =
-      let e = rw length-take at (f .all-records) in
-      (omega arith, room)
-  enclosed-held Kind.Lease f p = (omega arith, omega arith)
+      let top : first ≤ last + 1 = omega (arith, f .first .top) in
+      let l : length (take agreed rs) ≡ agreed = omega (arith, f .all-records) in
+      (omega (arith, length-take agreed rs), omega (arith, f .room), top)
+  enclosed-held Kind.Lease f p = (omega arith, omega arith, omega (arith, f .bare .no-first))
 
 posts : (n J : ℕ) (o : Out) (rs : List ℕ) → OutFits n J rs o → (q : List ℕ)
     → length q ≡ letterHead + J
@@ -70,8 +77,12 @@ posts : (n J : ℕ) (o : Out) (rs : List ℕ) → OutFits n J rs o → (q : List
 posts n J Out.Nothing rs h q e = tt
 posts n J (Out.To set m) rs h q e =
     let f = h .1 in
-    let held = enclosed-held J _ (m .last) _ rs (f .last) (m .kind) (f .kind) (f .records) in
-    record { held = held .0; room = omega (arith, held .1) }
+    let held = enclosed-held J _ (m .last) (m .first) _ rs (m .kind) (f .kind) (f .records) in
+    record {
+      numbered = record { last = f .last; first = held .2 };
+      held = held .0;
+      room = omega (arith, held .1);
+    }
 
 -- ---- the turn
 

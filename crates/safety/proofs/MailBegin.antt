@@ -75,7 +75,7 @@ module _ (s : Site) (i : Inv s) (a b : ℕ) (y : Letter) (ys : List Letter)
     own : BoxOk (i .agreed) (i .agreed .by b) st
     own = i .core .boxes b (r .to)
 
-    form : FormedBegin l (y .head .first) (y .head .unagreed) (length (y .records))
+    form : FormedBegin (s .J) l (y .head .first) (y .head .unagreed) (length (y .records))
     form = arrived r
 
     -- first is raised to the leader's

@@ -26,6 +26,7 @@ module _ (s : Site) (f : form s ≡ false) where
   unformed-step (Call.Propose c) = need-not _ _ _ _ _ f
   unformed-step (Call.Agree c) = need-not _ _ _ _ _ f
   unformed-step (Call.Finish c) = need-not _ _ _ _ _ f
+  unformed-step (Call.Trim c k) = need-not _ _ _ _ _ f
   unformed-step (Call.Stop c) = need-not _ _ _ _ _ f
   unformed-step (Call.Return c) = need-not _ _ _ _ _ f
   unformed-step (Call.Timeout c) = need-not _ _ _ _ _ f

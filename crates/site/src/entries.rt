@@ -34,6 +34,7 @@ pub fn step_formed(site: &mut [u64], links: &mut [u64], call: Call) -> Answer
         Call::Propose(c) => turns::acting(site, links, c, Act::Propose),
         Call::Agree(c) => turns::acting(site, links, c, Act::Agree),
         Call::Finish(c) => turns::acting(site, links, c, Act::Finish),
+        Call::Trim(c, k) => turns::acting(site, links, c, Act::Trim(k)),
         Call::Stop(c) => presence::change(site, links, c, Presence::Stop),
         Call::Return(c) => presence::change(site, links, c, Presence::Return),
         Call::Timeout(c) => presence::change(site, links, c, Presence::Timeout),

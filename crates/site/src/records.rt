@@ -10,13 +10,14 @@ pub(crate) fn is_agreed(row: &[u64], n: u32, k: u32, left: u32, right: u32) -> b
     ensures { λ r. ⌜ r ≡ agreedAs (boxOf n (now (row .entry))) k left right ⌝ }
 {
     let number = k as u64;
-    if number < 1 {
+    let first = row[row::FIRST];
+    if number < first {
         return false;
     }
     if row[row::LAST] < number {
         return false;
     }
-    let at = row::BEFORE_RECORDS + k as usize;
+    let at = row::HEAD + words::size(number - first);
     let record = row[at];
     (record / 4294967296 == left as u64) & (record % 4294967296 == right as u64)
 }
