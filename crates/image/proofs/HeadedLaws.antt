@@ -96,12 +96,10 @@ module _ {A : Type 0} {enc : A → List ℕ} {Range : A → Type 0} (H : Headed 
       }
   headed-then t count c Walk.Bad none = λ x q h v.
       let e = headed-told x q h v in
-      none (H .records x) q
-      (record {
+      none (H .records x) q (record {
         count = sym (c ∙ ap (λ (u : List ℕ). getD u (H .count-at) 0) (e .0) ∙ H .count x);
         each = H .proper x (T .fits x h);
-      })
-      (e .1)
+      }) (e .1)
 
 -- ---- read into words
 
@@ -109,8 +107,7 @@ module _ {A : Type 0} {enc : A → List ℕ} {Good : A → Type 0} (H : Headed e
     (at : ℕ) where
   -- Where such a thing stands, its records have room in m words.
   records-there : (m : ℕ) → ((x : A) → Good x → H .width + length (H .records x) ≤ m)
-      → Has enc Good src at
-      → RecordsThere (H .groups) (H .width) (H .count-at) (H .rest) src at m
+      → Has enc Good src at → RecordsThere (H .groups) (H .width) (H .count-at) (H .rest) src at m
   records-there m few h = record {
     room = λ v p g s.
         let f = h .found in
@@ -126,8 +123,7 @@ module _ {A : Type 0} {enc : A → List ℕ} {Good : A → Type 0} (H : Headed e
   -- what `get_headed` asks of m words, with the groups gs
   abbrev pub Asked : ℕ → List Group → Type 0
   Asked m gs =
-      Cut 0 (H .width) gs
-      × (((H .count-at < H .width) × (H .width ≤ m) × (m < 2 ^ 64))
+      Cut 0 (H .width) gs × (((H .count-at < H .width) × (H .width ≤ m) × (m < 2 ^ 64))
       × ((at + groupsLength gs ≤ length src)
       × RecordsThere gs (H .width) (H .count-at) (H .rest) src at m))
 
@@ -148,8 +144,7 @@ module _ {A : Type 0} {enc : A → List ℕ} {Good : A → Type 0} (H : Headed e
   -- What was read is the thing that stands there.
   pub headed-read : (ns : List ℕ) → groupsOf ns ≡ H .groups → {w z : List ℕ} {r : ℕ}
       → HeadedRead (groupsOf ns) (H .width) (H .count-at) (H .rest) src at w z r
-      → (q : ℕ) (f : Found enc Good src at q)
-      → (z ≡ H .words (f .thing) ++ (H .records (f .thing)
+      → (q : ℕ) (f : Found enc Good src at q) → (z ≡ H .words (f .thing) ++ (H .records (f .thing)
       ++ drop (H .width + length (H .records (f .thing))) w)) × (r ≡ q)
   headed-read ns u {w} {z} {r} g' q f =
       let g = subst (λ (gs : List Group).
