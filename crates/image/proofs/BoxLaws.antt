@@ -62,13 +62,9 @@ module _ (n J b : ℕ) (boxes : n ≤ mostBoxes) (x : Box) (f : FormedBox n J b 
 
   peers-back : headOf n (boxWords x) .peers ≡ peersOf
   peers-back =
-      (λ i. peer-back 1 (omega arith, omega arith) i
-      ∷ peer-back 2 (omega arith, omega arith) i
-      ∷ peer-back 3 (omega arith, omega arith) i
-      ∷ peer-back 4 (omega arith, omega arith) i
-      ∷ peer-back 5 (omega arith, omega arith) i
-      ∷ [])
-      ∙ gets-all 0 peersOf 5 (f .places)
+      (λ i. peer-back 1 (omega arith, omega arith) i ∷ peer-back 2 (omega arith, omega arith) i
+      ∷ peer-back 3 (omega arith, omega arith) i ∷ peer-back 4 (omega arith, omega arith) i
+      ∷ peer-back 5 (omega arith, omega arith) i ∷ []) ∙ gets-all 0 peersOf 5 (f .places)
 
   -- A box's fields are what its words say.
   pub head-back : headOf n (boxWords x) ≡ x .head
@@ -87,8 +83,7 @@ module _ (n J b : ℕ) (boxes : n ≤ mostBoxes) (x : Box) (f : FormedBox n J b 
       }
 
   -- A word in no group is that of a peer above n.
-  rest-unknown : (k : ℕ) → k < headWords → Outside (boxGroups n) k
-      → getD (boxWords x) k 0 ≡ unknown
+  rest-unknown : (k : ℕ) → k < headWords → Outside (boxGroups n) k → getD (boxWords x) k 0 ≡ unknown
   unfolding Each
   rest-unknown k h o = go (leb (peersAt + n) k) refl (leb countAt k) refl
     where
@@ -115,8 +110,7 @@ module _ (n J b : ℕ) (boxes : n ≤ mostBoxes) (x : Box) (f : FormedBox n J b 
           let at : peersAt + i ≡ k = omega arith in
           let inside : i < length peersOf = omega arith in
           let back : i ≡ i + 1 - 1 = omega arith in
-          ap (λ (j : ℕ). getD (boxWords x) j 0) (sym at)
-          ∙ sym (getD-drop peersAt (boxWords x) i 0)
+          ap (λ (j : ℕ). getD (boxWords x) j 0) (sym at) ∙ sym (getD-drop peersAt (boxWords x) i 0)
           ∙ ap (λ (w : List ℕ). getD w i 0) peers-words
           ∙ List·getD-append peersOf (length (x .records) ∷ []) 0 i inside
           ∙ ap (λ (j : ℕ). getD peersOf j 0) back
@@ -181,8 +175,7 @@ module _ (n J b : ℕ) (boxes : n ≤ mostBoxes) (x : Box) (f : FormedBox n J b 
                 (record-below (f .waiting), (record-below (f .agreeing), tt)),
               ),
               (
-                subst (Below (256 ^ 4)) (sym peers-part)
-                    (each-take (λ i y. y < 256 ^ 4) n peersOf
+                subst (Below (256 ^ 4)) (sym peers-part) (each-take (λ i y. y < 256 ^ 4) n peersOf
                     (each-made (λ i y. y < 256 ^ 4) peersOf 0 peer-below)),
                 (each-one (λ i y. y < 256 ^ 4) (length (x .records)) (omega arith), tt),
               ),

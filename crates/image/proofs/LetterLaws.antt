@@ -76,10 +76,7 @@ module _ (J : ℕ) (few : J ≤ mostLoads) where
       leb-true _ _ (and-yes (leb 1 (kindNumber (y .head .kind))) _ (kind-in (y .head .kind)) .1) in
       record {
         width = refl;
-        below = (
-          (omega arith, (omega arith, (omega arith, (omega arith, (omega arith, tt))))),
-          tt,
-        );
+        below = ((omega arith, (omega arith, (omega arith, (omega arith, (omega arith, tt))))), tt);
         none = λ i h o. absurd (o .0 (omega arith) (omega arith));
       }
 
@@ -97,8 +94,7 @@ module _ (J : ℕ) (few : J ≤ mostLoads) where
     count = λ y. refl;
     proper = letter-records J;
     back = λ y z g h e r.
-        let m : y .head ≡ z .head =
-        sym (mail-back (y .head) (length (y .records))) ∙ ap mailAt e
+        let m : y .head ≡ z .head = sym (mail-back (y .head) (length (y .records))) ∙ ap mailAt e
         ∙ mail-back (z .head) (length (z .records)) in
         λ i. record { head = m i; records = r i };
   }
@@ -111,8 +107,7 @@ module _ (J : ℕ) (few : J ≤ mostLoads) where
 abbrev pub countWord : List Letter → List ℕ
 countWord ys = length ys ∷ []
 
-pub link-split : (ys : List Letter) → linkBytes ys ≡ cells 4 (countWord ys)
-    ++ chain letterBytes ys
+pub link-split : (ys : List Letter) → linkBytes ys ≡ cells 4 (countWord ys) ++ chain letterBytes ys
 unfolding linkBytes
 link-split ys = refl
 

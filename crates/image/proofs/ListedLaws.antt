@@ -54,8 +54,7 @@ leaders-tally f zero = refl
 leaders-tally f (suc k) =
     let e : 1 + k ≡ suc k = omega arith in
     ap leaders (ap (map f) (from-snoc 1 k) ∙ map-snoc f (numbersFrom 1 k) (1 + k))
-    ∙ leaders-snoc (map f (numbersFrom 1 k)) (f (1 + k))
-    ∙ rw (e, leaders-tally f k)
+    ∙ leaders-snoc (map f (numbersFrom 1 k)) (f (1 + k)) ∙ rw (e, leaders-tally f k)
 
 -- ---- by form
 
@@ -107,8 +106,7 @@ module _ (s : Site) where
   unfolding listed boxesOf
   good-listed g =
       let epoch = and-yes (leb 1 (s .epoch)) (leb (s .epoch) mostEpoch) (g .epoch) in
-      form-made
-      (record {
+      form-made (record {
         sizes = sizes-says (g .sizes);
         some-epoch = leb-true 1 (s .epoch) (epoch .0);
         few-epochs = leb-true (s .epoch) mostEpoch (epoch .1);
@@ -126,8 +124,7 @@ module _ (s : Site) where
           let k : b - 1 < length (boxesOf s) = omega (arith, length-boxes s) in
           let good = each-at (λ i. GoodBox (s .n) (s .J) (i + 1)) (boxesOf s) (b - 1) freshBox k
           (g .boxes .each) in
-          box-says
-          (subst (λ (c : ℕ). GoodBox (s .n) (s .J) c (s .box c)) same
+          box-says (subst (λ (c : ℕ). GoodBox (s .n) (s .J) c (s .box c)) same
           (rw (boxes-at s (b - 1) freshBox (omega arith)) at good))
 
       link : (a b : ℕ) → In a (s .n) → In b (s .n) → (a ≡ b → ⊥) → FormedLink s a b
@@ -177,14 +174,12 @@ boxes-code n J few loads x y r s gx gy e =
 pub rest-code : (n J L : ℕ) → sizesForm n J L ≡ true → (x y : List Box) (k l : List (List Letter))
     (r s : List ℕ) → GoodBoxes n J x → GoodBoxes n J y → GoodLinks n J L k → GoodLinks n J L l
     → (chain (boxBody n) x ++ chain linkBytes k) ++ r ≡ (chain (boxBody n) y ++ chain linkBytes l)
-    ++ s
-    → (x ≡ y) × (k ≡ l)
+    ++ s → (x ≡ y) × (k ≡ l)
 rest-code n J L sizes x y k l r s gx gy gk gl e =
     let z = sizes-says sizes in
     let f = regroup (chain (boxBody n) x) (chain linkBytes k) r (chain (boxBody n) y)
     (chain linkBytes l) s e in
-    let boxes : x ≡ y =
-    boxes-code n J (z .few-boxes) (z .few-loads) x y (chain linkBytes k ++ r)
+    let boxes : x ≡ y = boxes-code n J (z .few-boxes) (z .few-loads) x y (chain linkBytes k ++ r)
     (chain linkBytes l ++ s) gx gy f in
     let links : k ≡ l =
     chain-code linkBytes (GoodLink J L) (link-code J L (z .few-loads) (z .few-mails)) k l r s
@@ -202,11 +197,9 @@ listed-code t u r s g h e =
     subst (λ (v : List ℕ). GoodLinks (getD v 0 0) (getD v 1 0) (getD v 2 0) (u .links)) w
     (h .links) in
     let same : restBytes t ++ r
-    ≡ (chain (boxBody (nIn t)) (u .boxes) ++ chain linkBytes (u .links)) ++ s =
-    p .1
+    ≡ (chain (boxBody (nIn t)) (u .boxes) ++ chain linkBytes (u .links)) ++ s = p .1
     ∙ ap (λ (v : List ℕ). (chain (boxBody (getD v 0 0)) (u .boxes) ++ chain linkBytes (u .links))
     ++ s) w in
-    let z = rest-code (nIn t) (JIn t) (LIn t) (g .sizes) (t .boxes) (u .boxes) (t .links)
-    (u .links)
+    let z = rest-code (nIn t) (JIn t) (LIn t) (g .sizes) (t .boxes) (u .boxes) (t .links) (u .links)
     r s (g .boxes) boxes (g .links) links same in
     λ i. record { general = p .0 i; boxes = z .0 i; links = z .1 i }

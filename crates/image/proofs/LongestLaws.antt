@@ -31,8 +31,7 @@ use Rattle.image.proofs.Lengths.{length-letter, length-box}
 
 module _ {A : Type 0} (enc : A → List ℕ) (k : ℕ) where
   -- Things of at most k bytes each.
-  chain-most : (l : List A) → All (λ x. length (enc x) ≤ k) l
-      → length (chain enc l) ≤ length l * k
+  chain-most : (l : List A) → All (λ x. length (enc x) ≤ k) l → length (chain enc l) ≤ length l * k
   unfolding chain Each
   chain-most [] h = omega arith
   chain-most (x ∷ l) h =

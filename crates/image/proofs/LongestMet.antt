@@ -76,15 +76,13 @@ module _ (n J L : ℕ) (e : sizesForm n J L ≡ true) where
   box : (b : ℕ) → FormedBox n J b (fullBox J)
   unfolding freshHead
   box b =
-      box-of
-      (record {
+      box-of (record {
         held = held;
         records = records;
         pn = omega arith;
         stored-pn = omega arith;
         stored-number = omega arith;
-      })
-      (none-form J) (set-zero n) (set-zero n) (left refl) (left refl) (unknown-form n J b)
+      }) (none-form J) (set-zero n) (set-zero n) (left refl) (left refl) (unknown-form n J b)
 
   letter : FormedLetter J (fullLetter J)
   letter = record {
@@ -141,10 +139,8 @@ module _ (n J L : ℕ) (e : sizesForm n J L ≡ true) where
 
   link : linkLength (replicate L (fullLetter J)) ≡ linkLong J L
   link =
-      ap (λ (k : ℕ). 4 + k)
-      (total-same letterLength (letterLong J) L (replicate L (fullLetter J))
-      (length-replicate L (fullLetter J))
-      (all-of
+      ap (λ (k : ℕ). 4 + k) (total-same letterLength (letterLong J) L (replicate L (fullLetter J))
+      (length-replicate L (fullLetter J)) (all-of
       (all-same (λ y. letterLength y ≡ letterLong J) (fullLetter J) L
       (ap letterLong (length-replicate J (recordOf 1 1))))))
 

@@ -53,8 +53,7 @@ listed-agree s t e =
         let low = h .0 in
         let top = h .1 in
         let same : b - 1 + 1 ≡ b = omega arith in
-        subst (λ (c : ℕ). s .box c ≡ t .box c) same
-        (sym (boxes-at s (b - 1) freshBox (omega arith))
+        subst (λ (c : ℕ). s .box c ≡ t .box c) same (sym (boxes-at s (b - 1) freshBox (omega arith))
         ∙ ap (λ (l : Listed). getD (l .boxes) (b - 1) freshBox) e
         ∙ boxes-at t (b - 1) freshBox (omega arith))
 
@@ -65,8 +64,7 @@ listed-agree s t e =
         let hb' = subst (In b) n hb in
         sym (links-at s a b [] ha hb ab)
         ∙ ap (λ (l : Listed). getD (l .links) (linkIndex (s .n) a b) []) e
-        ∙ ap (λ (k : ℕ). getD (linksOf t) (linkIndex k a b) []) n
-        ∙ links-at t a b [] ha' hb' ab
+        ∙ ap (λ (k : ℕ). getD (linksOf t) (linkIndex k a b) []) n ∙ links-at t a b [] ha' hb' ab
 
 agree-listed : (s t : Site) → Agree s t → listed s ≡ listed t
 unfolding listed linksOf
@@ -79,8 +77,7 @@ agree-listed s t e =
   where
     boxes : boxesOf s ≡ boxesOf t
     boxes =
-        ext-getD freshBox (boxesOf s) (boxesOf t)
-        (length-boxes s ∙ e .n ∙ sym (length-boxes t))
+        ext-getD freshBox (boxesOf s) (boxesOf t) (length-boxes s ∙ e .n ∙ sym (length-boxes t))
         (λ i h.
         let k : i < s .n = omega (arith, length-boxes s) in
         boxes-at s i freshBox k ∙ e .box (i + 1) (omega arith, omega arith)
@@ -107,17 +104,14 @@ bodies-few t g = let n = sizes-says (g .sizes) .few-boxes in
 pub same-listed : (t u : Listed) → GoodListed t → GoodListed u
     → tableOf (bodiesIn t) ++ listedBytes t ≡ tableOf (bodiesIn u) ++ listedBytes u → t ≡ u
 same-listed t u g h e =
-    let same = table-rest (bodiesIn t) (bodiesIn u) (listedBytes t) (listedBytes u)
-    (bodies-few t g)
+    let same = table-rest (bodiesIn t) (bodiesIn u) (listedBytes t) (listedBytes u) (bodies-few t g)
     (bodies-few u h) e in
-    listed-code t u [] [] g h (append-nil (listedBytes t) ∙ same ∙ sym
-    (append-nil (listedBytes u)))
+    listed-code t u [] [] g h (append-nil (listedBytes t) ∙ same ∙ sym (append-nil (listedBytes u)))
 
 -- Two sites by form with the same bytes agree.
 pub one-image : (s t : Site) → form s ≡ true → form t ≡ true → imageOf s ≡ imageOf t → Agree s t
 one-image s t f g e =
-    listed-agree s t
-    (same-listed (listed s) (listed t) (listed-good s f) (listed-good t g)
+    listed-agree s t (same-listed (listed s) (listed t) (listed-good s f) (listed-good t g)
     (sym (image-in s) ∙ e ∙ image-in t))
 
 -- Sites that agree, and have nothing outside, are one.
@@ -135,8 +129,7 @@ agree-same s t e p q =
   where
     box : (b : ℕ) (h : Bool) → isBox (s .n) b ≡ h → s .box b ≡ t .box b
     box b true h = e .box b (is-box h)
-    box b false h =
-        p .box b h ∙ sym (q .box b (subst (λ (n : ℕ). isBox n b ≡ false) (e .n) h))
+    box b false h = p .box b h ∙ sym (q .box b (subst (λ (n : ℕ). isBox n b ≡ false) (e .n) h))
 
     link : (a b : ℕ) (h : Bool) → isLink (s .n) a b ≡ h → s .link a b ≡ t .link a b
     link a b true h = let k = is-link h in e .link a b (k .0) (k .1) (k .2)

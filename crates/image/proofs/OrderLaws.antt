@@ -69,12 +69,10 @@ unfolding numbersFrom
 from-snoc a zero = rw add-zero
 from-snoc a (suc k) = ap (λ (l : List ℕ). a ∷ l) (from-snoc (suc a) k ∙ rw (suc-add, add-suc))
 
-pub from-append : (a j k : ℕ)
-    → numbersFrom a (j + k) ≡ numbersFrom a j ++ numbersFrom (a + j) k
+pub from-append : (a j k : ℕ) → numbersFrom a (j + k) ≡ numbersFrom a j ++ numbersFrom (a + j) k
 unfolding numbersFrom
 from-append a zero k = rw (zero-add, add-zero)
-from-append a (suc j) k =
-    rw (suc-add, from-append (suc a) j k, suc-add, add-suc)
+from-append a (suc j) k = rw (suc-add, from-append (suc a) j k, suc-add, add-suc)
 
 pub map-append {ℓ κ} : {A : Type ℓ} {B : Type κ} (f : A → B) (a b : List A)
     → map f (a ++ b) ≡ map f a ++ map f b
@@ -88,17 +86,14 @@ chain-from {ℓ} : {B : Type ℓ} (f : ℕ → List B) (g : ℕ → B) (m a i k 
 unfolding chain numbersFrom
 chain-from f g m a i zero h = rw zero-mul
 chain-from f g m a i (suc k) h =
-    let first : f a ≡ map g (numbersFrom (i * m) m) =
-    ap f (sym (add-zero a)) ∙ h 0 (omega arith)
+    let first : f a ≡ map g (numbersFrom (i * m) m) = ap f (sym (add-zero a)) ∙ h 0 (omega arith)
     ∙ ap (λ (x : ℕ). map g (numbersFrom (x * m) m)) (add-zero i) in
     let rest = chain-from f g m (suc a) (suc i) k next in
     let size : suc k * m ≡ m + k * m = rw suc-mul (add-comm (k * m) m) in
     let start : suc i * m ≡ i * m + m = suc-mul i m in
     (λ t. first t ++ rest t)
-    ∙ ap (λ (x : ℕ). map g (numbersFrom (i * m) m) ++ map g (numbersFrom x (k * m))) start
-    ∙ sym
-    (ap (λ (x : ℕ). map g (numbersFrom (i * m) x)) size
-    ∙ ap (map g) (from-append (i * m) m (k * m))
+    ∙ ap (λ (x : ℕ). map g (numbersFrom (i * m) m) ++ map g (numbersFrom x (k * m))) start ∙ sym
+    (ap (λ (x : ℕ). map g (numbersFrom (i * m) x)) size ∙ ap (map g) (from-append (i * m) m (k * m))
     ∙ map-append g (numbersFrom (i * m) m) (numbersFrom (i * m + m) (k * m)))
   where
     next : (j : ℕ) → j < k → f (suc a + j) ≡ map g (numbersFrom ((suc i + j) * m) m)
@@ -131,8 +126,7 @@ module _ (n a : ℕ) (ha : In a n) where
   pub others-below : (i : ℕ) → i < a - 1 → getD (others n a) i 0 ≡ i + 1
   others-below i h =
       List·getD-append (numbersFrom 1 (a - 1)) (numbersFrom (a + 1) (n - a)) 0 i
-      (omega (arith, length-from 1 (a - 1)))
-      ∙ from-at 1 (a - 1) i 0 h ∙ omega arith
+      (omega (arith, length-from 1 (a - 1))) ∙ from-at 1 (a - 1) i 0 h ∙ omega arith
 
   pub others-above : (i : ℕ) → a - 1 ≤ i → i < n - 1 → getD (others n a) i 0 ≡ i + 2
   others-above i h k =
@@ -199,8 +193,7 @@ receiver-in n a i ha h = go (ltb i (a - 1)) refl
         ((omega arith, omega arith), λ z. omega arith)
 
 -- The receiver at an index has that index.
-pub receiver-index : (n a i : ℕ) → In a n → i < n - 1
-    → receiverIndex a (getD (others n a) i 0) ≡ i
+pub receiver-index : (n a i : ℕ) → In a n → i < n - 1 → receiverIndex a (getD (others n a) i 0) ≡ i
 receiver-index n a i ha h = go (ltb i (a - 1)) refl
   where
     low : 1 ≤ a
@@ -232,8 +225,7 @@ module _ {B : Type 0} (n : ℕ) (f : ℕ → ℕ → B) where
   length-sent : (a : ℕ) → In a n → length (sent a) ≡ n - 1
   length-sent a h = length-map (others n a) (f a) ∙ length-others n a h
 
-  sent-at : (a i : ℕ) (d : B) → In a n → i < n - 1 → getD (sent a) i d ≡ f a
-      (getD (others n a) i 0)
+  sent-at : (a i : ℕ) (d : B) → In a n → i < n - 1 → getD (sent a) i d ≡ f a (getD (others n a) i 0)
   sent-at a i d h k = map-at (f a) (others n a) i d 0 (omega (arith, length-others n a h))
 
   pub length-pairs : length (bySender n f) ≡ n * (n - 1)
@@ -265,8 +257,7 @@ module _ {B : Type 0} (n : ℕ) (f : ℕ → ℕ → B) where
     where
       of : (a : ℕ) → In a n → All P (sent a)
       of a ha =
-          each-made (λ i. P) (sent a) d
-          (λ i k.
+          each-made (λ i. P) (sent a) d (λ i k.
           let j : i < n - 1 = omega (arith, length-sent a ha) in
           let r = receiver-in n a i ha j in
           rw (sent-at a i d ha j) (h a (getD (others n a) i 0) ha (r .0) (r .1)))
@@ -287,17 +278,14 @@ module _ {B : Type 0} (n : ℕ) (f : ℕ → ℕ → B) where
           let row = numbersFrom ((0 + i) * (n - 1)) (n - 1) in
           let count : length (map g row) ≡ n - 1 =
           length-map row g ∙ length-from ((0 + i) * (n - 1)) (n - 1) in
-          ext-getD d (sent a) (map g row) (length-sent a ha ∙ sym count)
-          (λ j m.
+          ext-getD d (sent a) (map g row) (length-sent a ha ∙ sym count) (λ j m.
           let b : j < n - 1 = omega (arith, length-sent a ha) in
           let r = receiver-in n a j ha b in
           let e : 0 + i ≡ a - 1 = omega arith in
           sent-at a j d ha b ∙ h a (getD (others n a) j 0) ha (r .0) (r .1)
-          ∙ ap (λ (x : ℕ). g ((a - 1) * (n - 1) + x)) (receiver-index n a j ha b)
-          ∙ sym
+          ∙ ap (λ (x : ℕ). g ((a - 1) * (n - 1) + x)) (receiver-index n a j ha b) ∙ sym
           (map-at g row j d 0 (omega (arith, length-from ((0 + i) * (n - 1)) (n - 1)))
-          ∙ ap g (from-at ((0 + i) * (n - 1)) (n - 1) j 0 b
-          ∙ ap (λ (x : ℕ). x * (n - 1) + j) e)))
+          ∙ ap g (from-at ((0 + i) * (n - 1)) (n - 1) j 0 b ∙ ap (λ (x : ℕ). x * (n - 1) + j) e)))
 
 -- Where every pair has the same, the same is listed.
 pub pairs-same : {B : Type 0} (n : ℕ) (f g : ℕ → ℕ → B) (d : B)

@@ -50,11 +50,9 @@ records-code a b r s n p q e = cells-code 8 a b r s n (below a p) (below b q) e
 
 -- Records that were read where those of a thing by form stand are these.
 pub same-records : {src : List ℕ} {p q r : ℕ} (xs ys : List ℕ) → length ys ≡ length xs
-    → Read 8 src p ys r → Stands (cells 8 xs) src p q → All GoodRecord xs
-    → (ys ≡ xs) × (r ≡ q)
+    → Read 8 src p ys r → Stands (cells 8 xs) src p q → All GoodRecord xs → (ys ≡ xs) × (r ≡ q)
 same-records {src} {p} {q} {r} xs ys l g v good =
     let below = each-map (λ i. GoodRecord) (λ i x. x < 256 ^ 8) (λ i x. proper-below) xs good in
-    let e : ys ≡ xs =
-    cells-code 8 ys xs (drop r src) (drop q src) l (g .below) below
+    let e : ys ≡ xs = cells-code 8 ys xs (drop r src) (drop q src) l (g .below) below
     (sym (g .stands .here) ∙ v .here) in
     (e, g .stands .next ∙ ap (λ (x : List ℕ). p + length (cells 8 x)) e ∙ sym (v .next))

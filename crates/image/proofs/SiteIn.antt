@@ -38,8 +38,7 @@ at-indices d l m e =
     let at : ℕ → _ = λ k. getD l k d in
     let count : length (map at (numbersFrom 0 m)) ≡ m =
     length-map (numbersFrom 0 m) at ∙ length-from 0 m in
-    ext-getD d (map at (numbersFrom 0 m)) l (count ∙ sym e)
-    (λ i h.
+    ext-getD d (map at (numbersFrom 0 m)) l (count ∙ sym e) (λ i h.
     let k : i < m = omega arith in
     map-at at (numbersFrom 0 m) i d 0 (omega (arith, length-from 0 m))
     ∙ ap at (from-at 0 m i 0 k ∙ zero-add i))
@@ -58,8 +57,7 @@ listed-site t g =
     boxes =
         let s = siteIn t in
         let n = g .boxes .count in
-        ext-getD freshBox (boxesOf s) (t .boxes) (length-boxes s ∙ sym n)
-        (λ i h.
+        ext-getD freshBox (boxesOf s) (t .boxes) (length-boxes s ∙ sym n) (λ i h.
         let same : i + 1 - 1 ≡ i = omega arith in
         boxes-at s i freshBox (omega (arith, length-boxes s))
         ∙ ap (λ (k : ℕ). getD (t .boxes) k freshBox) same)

@@ -57,8 +57,7 @@ module _ {A : Type 0} (enc : A → List ℕ) (at : ℕ) (l : List A) where
       ∙ ap (λ (k : ℕ). 2 * k) (length-map (take i l) enc ∙ length-take-le i l h)
 
   -- The next entry: where the bodies before end, and the length of the next.
-  pub entries-next : (i : ℕ) (d : A) → i < length l
-      → entries (i + 1) ≡ entries i
+  pub entries-next : (i : ℕ) (d : A) → i < length l → entries (i + 1) ≡ entries i
       ++ ((at + length (chain enc (take i l))) ∷ length (enc (getD l i d)) ∷ [])
   unfolding contents
   entries-next i d h =
@@ -91,8 +90,7 @@ bodies-bytes t =
     let general = cells 4 (t .general) in
     let boxes = map (boxBody (nIn t)) (t .boxes) in
     let mail = chain linkBytes (t .links) in
-    chain-cons id general (boxes ++ (mail ∷ []))
-    ∙ ap (λ (l : List ℕ). general ++ l)
+    chain-cons id general (boxes ++ (mail ∷ [])) ∙ ap (λ (l : List ℕ). general ++ l)
     (chain-append id boxes (mail ∷ [])
     ∙ (λ i. chain-map id (boxBody (nIn t)) (t .boxes) i ++ chain-one id mail i))
 
@@ -108,8 +106,7 @@ image-in s =
     ∙ ap (λ (l : List ℕ). tableOf (bodiesIn (listed s)) ++ l) (bodies-bytes (listed s))
 
 -- The entries: the general body's, the boxes', the mail's.
-pub contents-in : (t : Listed) (start : ℕ) → length (t .general) ≡ 5
-    → contents start (bodiesIn t)
+pub contents-in : (t : Listed) (start : ℕ) → length (t .general) ≡ 5 → contents start (bodiesIn t)
     ≡ start ∷ 20 ∷ (contents (start + 20) (map (boxBody (nIn t)) (t .boxes))
     ++ ((start + 20 + length (chain (boxBody (nIn t)) (t .boxes)))
     ∷ length (chain linkBytes (t .links)) ∷ []))
@@ -121,8 +118,7 @@ contents-in t start g =
     let general : length (cells 4 (t .general)) ≡ 20 =
     length-cells 4 (t .general) ∙ ap (λ (k : ℕ). k * 4) g in
     ap (λ (k : ℕ). start ∷ k ∷ contents (start + k) (boxes ++ (mail ∷ []))) general
-    ∙ ap (λ (l : List ℕ). start ∷ 20 ∷ l)
-    (contents-append (start + 20) boxes (mail ∷ [])
+    ∙ ap (λ (l : List ℕ). start ∷ 20 ∷ l) (contents-append (start + 20) boxes (mail ∷ [])
     ∙ ap (λ (b : List ℕ).
     contents (start + 20) boxes ++ ((start + 20 + length b) ∷ length mail ∷ []))
     (chain-map id (boxBody (nIn t)) (t .boxes)))
@@ -168,6 +164,5 @@ pub table-rest : (a b : List (List ℕ)) (r s : List ℕ) → length a < 256 ^ 4
 table-rest a b r s p q e =
     let n = length (tableOf b) in
     let k : length (tableOf a) ≡ n =
-    length-table a ∙ ap (λ (x : ℕ). 4 + 8 * x) (table-count a b r s p q e) ∙ sym
-    (length-table b) in
+    length-table a ∙ ap (λ (x : ℕ). 4 + 8 * x) (table-count a b r s p q e) ∙ sym (length-table b) in
     sym (drop-at (tableOf a) r n k) ∙ ap (drop n) e ∙ drop-at (tableOf b) s n refl

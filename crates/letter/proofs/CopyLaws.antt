@@ -19,8 +19,7 @@ module _ (p q : List ℕ) (n : ℕ) (held : n ≡ 5 + getD p 4 0) (same : take n
   same-records : part q 5 (getD p 4 0) ≡ part p 5 (getD p 4 0)
   same-records =
       let c = getD p 4 0 in
-      sym (part-part 0 n 5 c q (omega arith))
-      ∙ ap (λ (l : List ℕ). part l 5 c) same
+      sym (part-part 0 n 5 c q (omega arith)) ∙ ap (λ (l : List ℕ). part l 5 c) same
       ∙ part-part 0 n 5 c p (omega arith)
 
   pub copied-letter : letterAt q ≡ letterAt p

@@ -64,8 +64,7 @@ module _ (p : List ℕ) (m : Mail) (ys : List ℕ) (count : ℕ) (long : length 
 
 -- What the code of `enclose` has written is the letter.
 pub enclose-law : (p : List ℕ) (m : Mail) (rs : List ℕ) → Encloses p m rs
-    → (from count : ℕ) (ws q : List ℕ)
-    → from ≡ enclosedFrom (m .kind) (m .last)
+    → (from count : ℕ) (ws q : List ℕ) → from ≡ enclosedFrom (m .kind) (m .last)
     → count ≡ enclosedCount (m .kind) (m .last) (length rs)
     → ws ≡ wordsOfMail m count → q ≡ splice (ws ++ drop 5 p) 5 count (part rs from count)
     → Enclosed p m rs q
@@ -73,8 +72,7 @@ enclose-law p m rs ok from count ws q ef ec ew eq =
     let k = m .kind in
     let l = m .last in
     let long = count-enclosed k l rs (ok .held) in
-    rw (eq, ew, ef, ec, ← enclosed-part k l rs (ok .held))
-    (record {
+    rw (eq, ew, ef, ec, ← enclosed-part k l rs (ok .held)) (record {
       letter = filled-letter p m (enclosed k l rs) (enclosedCount k l (length rs)) long;
       words = filled-length p m (enclosed k l rs) (enclosedCount k l (length rs)) long (ok .room);
       fits = filled-fits p m (enclosed k l rs) (enclosedCount k l (length rs)) long (ok .room);

@@ -49,8 +49,7 @@ module _ (J pn last unagreed count : ℕ) where
   none-said {b} e = let z = eqb-true b 0 e in omega arith
 
   bare : (k : Kind) → pn ≤ mostPn → leb last J ≡ true → eqb unagreed 0 ≡ true
-      → formKind k J pn last unagreed count ≡ true → count ≤ J
-      → KindSays k J pn last unagreed count
+      → formKind k J pn last unagreed count ≡ true → count ≤ J → KindSays k J pn last unagreed count
   bare k p l u f c = record {
     form = f;
     pn = p;
@@ -98,8 +97,7 @@ module _ (J pn last unagreed count : ℕ) where
       → (pnFits k pn ≡ true) × (lastFits k J last ≡ true)
       × (unagreedFits k unagreed ≡ true) × (countFits k J last unagreed count ≡ true)
   unfolding formKind
-  kind-fits Kind.Collect f p u l =
-      (p, l, second-of (eqb count 0) _ f, first-of (eqb count 0) _ f)
+  kind-fits Kind.Collect f p u l = (p, l, second-of (eqb count 0) _ f, first-of (eqb count 0) _ f)
   kind-fits Kind.Last f p u l = (p, l, u, f)
   kind-fits Kind.Begin f p u l =
       let two = first-of (eqb count 1 && ltb last J) (eqb unagreed 0) f in (
@@ -108,8 +106,7 @@ module _ (J pn last unagreed count : ℕ) where
         second-of (eqb count 1 && ltb last J) (eqb unagreed 0) f,
         first-of (eqb count 1) _ two,
       )
-  kind-fits Kind.Accept f p u l =
-      (p, l, second-of (eqb count 0) _ f, first-of (eqb count 0) _ f)
+  kind-fits Kind.Accept f p u l = (p, l, second-of (eqb count 0) _ f, first-of (eqb count 0) _ f)
   kind-fits Kind.Commit f p u l =
       (p, l, second-of (eqb count last) _ f, first-of (eqb count last) _ f)
   kind-fits Kind.Lease f p u l =
@@ -236,8 +233,7 @@ module _ (J : ℕ) (p : List ℕ) (s : PlaceSized J p) where
         le-leb (getD p pnAt 0) mostPn (k .pn),
         le-leb (getD p unagreedAt 0) mostPn (k .unagreed),
         le-leb (getD p lastAt 0) J (k .last),
-      )
-      (simp and-true)
+      ) (simp and-true)
 
   -- .. or one is.
   pub form-stop : isWhole (headFault J p) ≡ false → false ≡ placeForm J p

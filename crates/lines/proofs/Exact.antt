@@ -31,8 +31,7 @@ starts-is (a ∷ w) [] e = absurd (both-no e refl)
 starts-is (a ∷ w) (b ∷ s) e = by (eqb a b) refl e (starts-is w s)
   where
     by : (t : Bool) → eqb a b ≡ t → pick t (starts w s) false ≡ true
-        → (starts w s ≡ true → s ≡ w ++ drop (length w) s)
-        → b ∷ s ≡ (a ∷ w) ++ drop (length w) s
+        → (starts w s ≡ true → s ≡ w ++ drop (length w) s) → b ∷ s ≡ (a ∷ w) ++ drop (length w) s
     by true d e rest =
         ap (λ (x : ℕ). x ∷ s) (sym (eqb-true a b d))
         ∙ ap (λ (t : List ℕ). a ∷ t) (rest (sym (pick-true true _ _ refl) ∙ e))
@@ -48,23 +47,10 @@ at-or {s} w e = pick-elim (At s) (starts (wordBytes w) s) (λ t. record { start 
 word-starts : (s : List ℕ) → At s (wordOf s)
 unfolding wordOf starts
 word-starts s =
-    at-or Word.Site
-    (at-or Word.Elect
-    (at-or Word.Recover
-    (at-or Word.Collect
-    (at-or Word.Ready
-    (at-or Word.Offer
-    (at-or Word.Propose
-    (at-or Word.Agree
-    (at-or Word.Finish
-    (at-or Word.Stop
-    (at-or Word.Return
-    (at-or Word.Timeout
-    (at-or Word.Lose
-    (at-or Word.Repeat
-    (at-or Word.Mail
-    (at-or Word.Holds
-    (record { start = refl }))))))))))))))))
+    at-or Word.Site (at-or Word.Elect (at-or Word.Recover (at-or Word.Collect (at-or Word.Ready
+    (at-or Word.Offer (at-or Word.Propose (at-or Word.Agree (at-or Word.Finish (at-or Word.Stop
+    (at-or Word.Return (at-or Word.Timeout (at-or Word.Lose (at-or Word.Repeat (at-or Word.Mail
+    (at-or Word.Holds (record { start = refl }))))))))))))))))
 
 word-short : (w : Word) → length (wordBytes w) ≤ 8
 word-short Word.Site = omega arith
@@ -114,8 +100,7 @@ abbrev Again : Line → Type 0
 Again l =
     (lineOf (lineWord l) (pushedAll noNumbers (lineNumbers l)) ≡ l)
     × ((t : List ℕ) → wordOf (wordBytes (lineWord l) ++ t) ≡ lineWord l)
-    × (1 ≤ length (lineNumbers l))
-    × (length (lineNumbers l) ≤ 4)
+    × (1 ≤ length (lineNumbers l)) × (length (lineNumbers l) ≤ 4)
 
 call-again : (c : Call) → Again (Line.Call c)
 unfolding pick starts wordOf lineOf
@@ -207,10 +192,7 @@ read-printed s l r e =
 
 pub exact : (s : List ℕ) (l : Line) → readable l ≡ true
     → (readLine s ≡ l) ↔ ((s ≡ lineBytes l) × (inRange l ≡ true))
-exact s l r = (
-  read-printed s l r,
-  λ p. ap readLine (p .0) ∙ printed-read l r (p .1),
-)
+exact s l r = (read-printed s l r, λ p. ap readLine (p .0) ∙ printed-read l r (p .1))
 
 -- and every other text is unreadable
 pub unreadable : (s : List ℕ)

@@ -118,8 +118,7 @@ count-more n h = pick-true _ _ _ (lt-ltb (n .count) 4 h)
 begun-shown : (n : Numbers) (s : List ℕ) → n .begun ≡ true → s ≡ shown n
     → s ≡ ended (lastOf (n .count) n) ++ decimal (n .value)
 unfolding shown begunText
-begun-shown n s t e =
-    e ∙ ap (λ (u : Bool). ended (lastOf (n .count) n) ++ begunText u (n .value)) t
+begun-shown n s t e = e ∙ ap (λ (u : Bool). ended (lastOf (n .count) n) ++ begunText u (n .value)) t
 
 finished-shown : (n : Numbers) → n .count < 4
     → lastOf (finished n .count) (finished n) ≡ lastOf (n .count) n ++ (n .value ∷ [])
@@ -187,9 +186,7 @@ digit-shown true v b u w h z =
     let d : b - 48 < 10 = omega (arith, w .least, w .most) in
     let e : 48 + (b - 48) ≡ b = omega (arith, w .least) in
     let big : v < 10 ^ 19 = omega arith in
-    sym
-    (ap decimal (w .is)
-    ∙ (grows v (b - 48) p big d ∙ ap (λ (x : ℕ). decimal v ++ (x ∷ [])) e))
+    sym (ap decimal (w .is) ∙ (grows v (b - 48) p big d ∙ ap (λ (x : ℕ). decimal v ++ (x ∷ [])) e))
 digit-shown false v b u w h z =
     let e : u ≡ b - 48 = omega (arith, w .is, z refl) in
     let d : u < 10 = omega (arith, w .least, w .most) in
@@ -286,8 +283,7 @@ range-of : (k : ℕ) (n : Numbers) → n .a < 4294967296 → n .b < 4294967296 �
     → n .d < 4294967296 → each small (lastOf k n) ≡ true
 unfolding each
 range-of k n p q r s =
-    each-drop (4 - k) (n .a ∷ n .b ∷ n .c ∷ n .d ∷ [])
-    (and-both (lt-ltb _ _ p)
+    each-drop (4 - k) (n .a ∷ n .b ∷ n .c ∷ n .d ∷ []) (and-both (lt-ltb _ _ p)
     (and-both (lt-ltb _ _ q) (and-both (lt-ltb _ _ r) (and-both (lt-ltb _ _ s) refl))))
 
 pub read-parted : (s : List ℕ) → numbersOf s .bad ≡ false → Parted (numbersOf s) s
@@ -299,16 +295,14 @@ read-parted s e =
     let w = sound-all s noNumbers [] sound-none g in
     record {
       bytes =
-          begun-shown m s (p .0) (w .bytes)
-          ∙ (parted-last (lastOf (m .count) m) (m .value)
+          begun-shown m s (p .0) (w .bytes) ∙ (parted-last (lastOf (m .count) m) (m .value)
           ∙ ap parted (sym (finished-shown m (p .1))));
       range = range-of (finished m .count) (finished m) (w .b) (w .c) (w .d) (w .value);
     }
 
 -- ---- the other way: a text of such numbers is read
 
-pub read-append : (n : Numbers) (s t : List ℕ)
-    → bytesRead n (s ++ t) ≡ bytesRead (bytesRead n s) t
+pub read-append : (n : Numbers) (s t : List ℕ) → bytesRead n (s ++ t) ≡ bytesRead (bytesRead n s) t
 unfolding bytesRead
 read-append n [] t = refl
 read-append n (b ∷ s) t = read-append (byteRead n b) s t
@@ -320,12 +314,10 @@ unfolding byteRead grown
 digit-read n v d e h f r =
     let minus : 48 + d - 48 ≡ d = omega arith in
     let space : 48 + d ≡ 32 → ⊥ = λ q. omega arith in
-    pick-false _ _ _ (ne-eqb (48 + d) 32 space)
-    ∙ ap (withGrown n)
+    pick-false _ _ _ (ne-eqb (48 + d) 32 space) ∙ ap (withGrown n)
     (ap (λ (x : ℕ). grown (n .begun) x (48 + d)) e
     ∙ (pick-false _ _ _ (le-ltb (48 + d) 48 (omega arith))
-    ∙ (pick-false _ _ _ (le-ltb 57 (48 + d) (omega arith))
-    ∙ (pick-false _ _ _ f
+    ∙ (pick-false _ _ _ (le-ltb 57 (48 + d) (omega arith)) ∙ (pick-false _ _ _ f
     ∙ (ap (λ (x : ℕ). pick (ltb 4294967295 (v * 10 + x)) Grown.Bad (Grown.Good (v * 10 + x))) minus
     ∙ pick-false _ _ _ (le-ltb 4294967295 (v * 10 + d) (omega arith)))))))
 
@@ -339,8 +331,7 @@ unfolding bytesRead
 one-read f v n h e z =
     let zero-first : (n .begun && eqb 0 0) ≡ false = rw e refl in
     let same : 0 * 10 + v ≡ v = omega arith in
-    ap (bytesRead n) (one-digit f v h)
-    ∙ (digit-read n 0 v z h zero-first (omega arith)
+    ap (bytesRead n) (one-digit f v h) ∙ (digit-read n 0 v z h zero-first (omega arith)
     ∙ ap (λ (x : ℕ). withGrown n (Grown.Good x)) same)
 
 decimal-read : (f v : ℕ) (n : Numbers) → v < 10 ^ suc f → v < 4294967296 → n .begun ≡ false
@@ -348,9 +339,7 @@ decimal-read : (f v : ℕ) (n : Numbers) → v < 10 ^ suc f → v < 4294967296 �
 unfolding bytesRead
 decimal-read zero v n h r e z = one-read 0 v n h e z
 decimal-read (suc f) v n h r e z =
-    ⊎-elim
-    (λ l. one-read (suc f) v n l e z)
-    (λ l.
+    ⊎-elim (λ l. one-read (suc f) v n l e z) (λ l.
     let ten : 0 < 10 = omega arith in
     let q : v / 10 * 10 + v % 10 ≡ v = div-add-mod' v 10 in
     let d : v % 10 < 10 = mod-lt v ten in
@@ -360,8 +349,7 @@ decimal-read (suc f) v n h r e z =
     ∙ (ap (λ (k : Numbers). byteRead k (48 + v % 10))
     (decimal-read f (v / 10) n (tenth-below (suc f) v h) (omega arith) e z)
     ∙ (digit-read m (v / 10) (v % 10) refl d (ne-eqb (v / 10) 0 (λ e. omega arith)) (omega arith)
-    ∙ ap (λ (x : ℕ). withGrown n (Grown.Good x)) q))))
-    (one-or-more v)
+    ∙ ap (λ (x : ℕ). withGrown n (Grown.Good x)) q)))) (one-or-more v)
 
 -- a number put behind the others, with nothing begun
 abbrev pub pushed : Numbers → ℕ → Numbers
@@ -395,8 +383,7 @@ finish-one n x g h =
       b = n .c;
       c = n .d;
       d = x;
-    }) one
-    ∙ ap (λ (k : ℕ). record {
+    }) one ∙ ap (λ (k : ℕ). record {
       bad = n .bad;
       begun = false;
       value = 0;
@@ -420,11 +407,9 @@ numbers-read x (y ∷ ys) n g e z h r =
     let p = and-yes (small x) (each small (y ∷ ys)) r in
     let s = ltb-true x 4294967296 (p .0) in
     let big : x < 10 ^ 20 = omega arith in
-    ap finished
-    (read-append n (decimal x) (32 ∷ parted (y ∷ ys))
+    ap finished (read-append n (decimal x) (32 ∷ parted (y ∷ ys))
     ∙ (ap (λ (m : Numbers). bytesRead (byteRead m 32) (parted (y ∷ ys)))
-    (decimal-read 19 x n big s e z)
-    ∙ ap (λ (m : Numbers). bytesRead m (parted (y ∷ ys)))
+    (decimal-read 19 x n big s e z) ∙ ap (λ (m : Numbers). bytesRead m (parted (y ∷ ys)))
     (pick-true _ _ _ (eq-eqb 32 32 refl) ∙ finish-one n x g (omega arith))))
     ∙ numbers-read y ys (pushed n x) g refl refl (omega arith) (p .1)
 

@@ -36,8 +36,7 @@ drop-take : (xs : List ℕ) (a l : ℕ) → a ≤ l → l ≤ length xs → drop
 drop-take xs a l h m =
     let long : length (drop a (take l xs)) ≤ l - a =
     simp (length-drop, length-take) (omega arith) in
-    sym (take-all (l - a) (drop a (take l xs)) long)
-    ∙ part-part 0 l a (l - a) xs (omega arith)
+    sym (take-all (l - a) (drop a (take l xs)) long) ∙ part-part 0 l a (l - a) xs (omega arith)
     ∙ ap (λ (k : ℕ). part xs k (l - a)) (zero-add a)
 
 -- What is put from h + a to h + l follows the first a behind h.
@@ -62,8 +61,7 @@ module _ (r p : List ℕ) where
   unfolding written
   put-law l v q w e =
       let at : l < length (drop 20 r) = rw length-drop (omega (arith, w .words, w .book .1)) in
-      rw e
-      (record {
+      rw e (record {
         words = length-set r (20 + l) v;
         records =
             rw (add-one, drop-set-add 20 r l v, take-suc-set (drop 20 r) l v at)
@@ -81,12 +79,10 @@ module _ (r p : List ℕ) where
   taken a l w =
       let some : l ≤ length (drop 5 p) = rw length-drop (omega (arith, room-for a l w)) in
       ap (drop a) (take-part p 5 (getD p 4 0) l (w .book .2))
-      ∙ drop-take (drop 5 p) a l (omega (arith, w .book .1)) some
-      ∙ part-drop 5 a (l - a) p
+      ∙ drop-take (drop 5 p) a l (omega (arith, w .book .1)) some ∙ part-drop 5 a (l - a) p
 
   pub take-law : (a l : ℕ) (q : List ℕ) → Writes r p (Book.Take a l)
-      → q ≡ splice r (20 + a) (l - a) (part p (5 + a) (l - a))
-      → Wrote r p (Book.Take a l) q
+      → q ≡ splice r (20 + a) (l - a) (part p (5 + a) (l - a)) → Wrote r p (Book.Take a l) q
   unfolding written
   take-law a l q w e =
       let ys = part p (5 + a) (l - a) in
@@ -94,8 +90,7 @@ module _ (r p : List ℕ) where
       let room : 20 + l ≤ length r = omega (arith, w .words, w .book .3) in
       let there : 5 + a + (l - a) ≤ length p = omega (arith, room-for a l w) in
       let long = length-part (5 + a) (l - a) p there in
-      rw e
-      (record {
+      rw e (record {
         words = length-splice (20 + a) (l - a) r ys (omega arith) long;
         records =
             rw (put-behind 20 a l r ys le room long, taken a l w)
@@ -118,8 +113,7 @@ play-law n r p t ok count held s q ec eh w eq =
     let h = t .next in
     let held-is : held ≡ countAfter (t .book) (getD r 19 0) = eh ∙ ap (countAfter (t .book)) ec in
     let room : held ≤ ok .writes .J = rw held-is (after-fits r p (t .book) (ok .writes)) in
-    rw eq
-    (record {
+    rw eq (record {
       box =
           box-stored n h held (drop 20 s) (ok .five) (ok .above)
           ∙ ap (λ (rs : List ℕ). record { head = h; records = rs }) (rw held-is (w .records));

@@ -78,12 +78,9 @@ module _ (n J b : ℕ) (w : List ℕ) where
         count = count-room J (getD w lastAt 0) (getD w countAt 0) counted;
       }
     where
-      five : all (peerForm n J b (headOf n w .peers) 1
-          ∷ peerForm n J b (headOf n w .peers) 2
-          ∷ peerForm n J b (headOf n w .peers) 3
-          ∷ peerForm n J b (headOf n w .peers) 4
-          ∷ peerForm n J b (headOf n w .peers) 5
-          ∷ []) ≡ true
+      five : all (peerForm n J b (headOf n w .peers) 1 ∷ peerForm n J b (headOf n w .peers) 2
+          ∷ peerForm n J b (headOf n w .peers) 3 ∷ peerForm n J b (headOf n w .peers) 4
+          ∷ peerForm n J b (headOf n w .peers) 5 ∷ []) ≡ true
           → (peerForm n J b (headOf n w .peers) 5 && peerForm n J b (headOf n w .peers) 4
           && peerForm n J b (headOf n w .peers) 3 && peerForm n J b (headOf n w .peers) 2
           && peerForm n J b (headOf n w .peers) 1) ≡ true
@@ -92,8 +89,7 @@ module _ (n J b : ℕ) (w : List ℕ) where
   pub head-whole : HeadSays n J b w → headFault n J b w ≡ Fault.None
   unfolding headFault all
   head-whole h =
-      passed-then (numberTests J w)
-      (rw (
+      passed-then (numberTests J w) (rw (
         le-leb _ _ (h .flag),
         le-leb _ _ (h .state),
         le-leb _ _ (h .phase),
@@ -103,18 +99,15 @@ module _ (n J b : ℕ) (w : List ℕ) where
         le-leb _ _ (h .stored-number),
         le-leb _ _ (h .best-pn),
         le-leb _ _ (h .best-number),
-      ))
-      (passed-then (valueTests n w)
+      )) (passed-then (valueTests n w)
       (rw (h .answered, h .accepts, h .best, h .waiting, h .agreeing))
-      (passed-then (peerTests n J b w)
-      (rw (
+      (passed-then (peerTests n J b w) (rw (
         peer 1 (omega arith) (omega arith),
         peer 2 (omega arith) (omega arith),
         peer 3 (omega arith) (omega arith),
         peer 4 (omega arith) (omega arith),
         peer 5 (omega arith) (omega arith),
-      ))
-      (passed-then (countTest J w) (rw (h .counted)) refl)))
+      )) (passed-then (countTest J w) (rw (h .counted)) refl)))
     where
       peer : (k : ℕ) → 1 ≤ k → k ≤ mostBoxes → peerForm n J b (headOf n w .peers) k ≡ true
       peer k low top = every-says mostBoxes _ k (h .peers) low top
@@ -223,8 +216,7 @@ module _ (n J b : ℕ) (r : List ℕ) (z : RowSized n J r) where
         h .waiting,
         h .agreeing,
         h .peers,
-      )
-      (simp and-true)
+      ) (simp and-true)
 
   -- .. or one is.
   pub form-stop : isWhole (headFault n J b r) ≡ false → false ≡ rowForm n J b r

@@ -26,14 +26,9 @@ module _ (n : ℕ) (ps : List ℕ) (five : length ps ≡ mostBoxes)
       go true e = refl
       go false e = sym (above k (leb-false k n e) m)
 
-  peers-back : _≡_ {A = List ℕ}
-      (cond (leb 1 n) (getD ps 0 0) unknown
-      ∷ cond (leb 2 n) (getD ps 1 0) unknown
-      ∷ cond (leb 3 n) (getD ps 2 0) unknown
-      ∷ cond (leb 4 n) (getD ps 3 0) unknown
-      ∷ cond (leb 5 n) (getD ps 4 0) unknown
-      ∷ [])
-      ps
+  peers-back : _≡_ {A = List ℕ} (cond (leb 1 n) (getD ps 0 0) unknown
+      ∷ cond (leb 2 n) (getD ps 1 0) unknown ∷ cond (leb 3 n) (getD ps 2 0) unknown
+      ∷ cond (leb 4 n) (getD ps 3 0) unknown ∷ cond (leb 5 n) (getD ps 4 0) unknown ∷ []) ps
   peers-back =
       rw (
         peer-back 1 (omega arith),
@@ -41,8 +36,7 @@ module _ (n : ℕ) (ps : List ℕ) (five : length ps ≡ mostBoxes)
         peer-back 3 (omega arith),
         peer-back 4 (omega arith),
         peer-back 5 (omega arith),
-      )
-      (gets-all 0 ps 5 five)
+      ) (gets-all 0 ps 5 five)
 
 -- The box is the head that was stored, with as many records of what follows.
 pub box-stored : (n : ℕ) (h : BoxState) (count : ℕ) (rest : List ℕ) → length (h .peers) ≡ mostBoxes

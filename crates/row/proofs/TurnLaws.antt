@@ -82,6 +82,5 @@ module _ (s : Setting) (r : List ℕ) (ok : RowByForm s r) where
         → t ≡ anyMail head s sender m one next mine
         → t ≡ turnOf s (boxOf (s .n) r) (mail sender (letterAt p))
     mail-law sender head rs mine m one next t eh er em el eo en et =
-        et
-        ∙ rw (em, eh, er, el, eo, en)
+        et ∙ rw (em, eh, er, el, eo, en)
         (any-mail-in (headOf (s .n) r) s bounded sender (mailAt p) _ _ _ bounded-mail)

@@ -1,4 +1,3 @@
--- `image::box_groups` meets its contract.
 use mathlib.Core.Path.{refl}
 use Rattle.cells.specs.Groups.{groupsOf}
 use Rattle.image.proofs.box_groups.Statement.{statement}
@@ -9,7 +8,4 @@ unfolding groupsOf
 returns c = (refl, refl)
 
 pub box-groups-spec : {M : Type 1} → statement M
-box-groups-spec =
-    tie.close
-    (tie.spec
-    returns)
+box-groups-spec = tie.close (tie.spec returns)

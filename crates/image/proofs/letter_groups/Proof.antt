@@ -1,4 +1,3 @@
--- `image::letter_groups` meets its contract.
 use mathlib.Core.Path.{refl}
 use Rattle.cells.specs.Groups.{groupsOf}
 use Rattle.image.proofs.letter_groups.Statement.{statement}
@@ -9,7 +8,4 @@ unfolding groupsOf
 returns c = (refl, refl)
 
 pub letter-groups-spec : {M : Type 1} → statement M
-letter-groups-spec =
-    tie.close
-    (tie.spec
-    returns)
+letter-groups-spec = tie.close (tie.spec returns)

@@ -1,4 +1,3 @@
--- `letter::after_last` meets its contract.
 use borrow.Author.Needs.{needs}
 use Rattle.letter.proofs.after_last.Statement.{statement}
 use Rattle.letter.proofs.after_last.Tie as tie
@@ -9,8 +8,6 @@ returns c =
     simp (c .held-at .ensures, c .before .records .ensures, at-number .number .ensures)
 
 pub after-last-spec : {M : Type 1} → statement M
-after-last-spec =
-    tie.close
-    (tie.spec
+after-last-spec = tie.close (tie.spec
     (λ c. search needs) (λ c κs. search needs) (λ c κs. search needs) (λ c κs. search needs)
     returns)

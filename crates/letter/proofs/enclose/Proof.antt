@@ -17,8 +17,7 @@ returns c =
     let from = count .before in
     let start = from .before .before .before in
     enclose-law (start .args .place .now) (start .args .m) (start .args .records .now) (start .pre)
-    _ _ _ _ (from .enclosed-from .ensures) (count .enclosed-count .ensures)
-    (copied .copy .ensures
+    _ _ _ _ (from .enclosed-from .ensures) (count .enclosed-count .ensures) (copied .copy .ensures
     ∙ simp (
       kind .wide .ensures,
       pn .wide2 .ensures,
@@ -26,13 +25,10 @@ returns c =
       unagreed .wide4 .ensures,
       counted .word .ensures,
       kind .before .kind-number .ensures,
-    ))
-    (c .before .before .copy-part .ensures)
+    )) (c .before .before .copy-part .ensures)
 
 pub enclose-spec : {M : Type 1} → statement M
-enclose-spec =
-    tie.close
-    (tie.spec
+enclose-spec = tie.close (tie.spec
     (λ c κs. search needs) (λ c κs. search needs) (λ c κs. search needs) (λ c κs. search needs)
     (λ c κs. search needs) (λ c κs. search needs) (λ c κs. search needs) (λ c κs. search needs)
     (λ c. search needs) (λ c. search needs) (λ c. search needs) (λ c. search needs)

@@ -1,4 +1,3 @@
--- `letter::first_record` meets its contract.
 use borrow.Author.Needs.{needs}
 use mathlib.Core.Path.{sym, ap, _∙_}
 use mathlib.Core.List.{List}
@@ -16,7 +15,5 @@ returns-2 c =
     ∙ ap (λ (l : List ℕ). getD l 0 0) (c .before .records .ensures)
 
 pub first-record-spec : {M : Type 1} → statement M
-first-record-spec =
-    tie.close
-    (tie.spec
+first-record-spec = tie.close (tie.spec
     (λ c κs. search needs) (λ c. search needs) returns returns-2)

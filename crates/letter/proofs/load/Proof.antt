@@ -1,14 +1,8 @@
--- `letter::load` meets its contract.
 use borrow.Author.Needs.{needs}
 use Rattle.letter.proofs.load.Statement.{statement}
 use Rattle.letter.proofs.load.Tie as tie
 
-returns : tie.Need-returns
-returns c = cc
-
 pub load-spec : {M : Type 1} → statement M
-load-spec =
-    tie.close
-    (tie.spec
+load-spec = tie.close (tie.spec
     (λ c. search needs) (λ c κs. search needs) (λ c. search needs) (λ c κs. search needs)
-    (λ c. search needs) (λ c κs. search needs) (λ c. search needs) (λ c κs. search needs) returns)
+    (λ c. search needs) (λ c κs. search needs) (λ c. search needs) (λ c κs. search needs) (λ c. cc))

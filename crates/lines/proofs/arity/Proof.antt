@@ -4,9 +4,7 @@ use Rattle.lines.proofs.arity.Statement.{statement}
 use Rattle.lines.proofs.arity.Tie as tie
 
 pub arity-spec : {M : Type 1} → statement M
-arity-spec =
-    tie.close
-    (tie.spec
+arity-spec = tie.close (tie.spec
     (λ c. search needs) (λ c. search needs) (λ c. search needs) (λ c. search needs)
     (λ c. search needs) (λ c. search needs) (λ c. search needs) (λ c. search needs)
     (λ c. search needs) (λ c. search needs) (λ c. search needs) (λ c. search needs)

@@ -1,4 +1,3 @@
--- `lines::choose` meets its contract.
 use Rattle.rules.proofs.Tests.{tests}
 use Rattle.rules.specs.Pick.{pick}
 use Rattle.lines.proofs.choose.Statement.{statement}
@@ -13,7 +12,4 @@ unfolding pick
 returns-2 c = search tests
 
 pub choose-spec : {M : Type 1} → statement M
-choose-spec =
-    tie.close
-    (tie.spec
-    returns returns-2)
+choose-spec = tie.close (tie.spec returns returns-2)

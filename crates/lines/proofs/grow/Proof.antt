@@ -1,4 +1,3 @@
--- `lines::grow` meets its contract.
 use borrow.Author.Needs.{needs}
 use Rattle.rules.proofs.Tests.{tests}
 use Rattle.lines.specs.Read.{grown}
@@ -26,8 +25,6 @@ unfolding grown
 returns-5 c = search tests
 
 pub grow-spec : {M : Type 1} → statement M
-grow-spec =
-    tie.close
-    (tie.spec
+grow-spec = tie.close (tie.spec
     returns returns-2 returns-3 (λ c. search needs) (λ c. search needs) (λ c. search needs)
     returns-4 (λ c. search needs) returns-5)

@@ -1,4 +1,3 @@
--- `lines::line_of` meets its contract.
 use Prim.Native.Nat.{ℕ}
 use mathlib.Core.Path.{sym, _∙_, ap}
 use mathlib.Core.Bool.{_||_, not}
@@ -24,15 +23,9 @@ returns-2 c =
     let at-arity = c .before .before .before .before in
     let start = at-arity .before in
     let a = start .args in
-    c .line-with .ensures
-    ∙ sym
-    (ap
+    c .line-with .ensures ∙ sym (ap
     (λ (k : ℕ). pick (a .n .bad || not (eqb (a .n .count) k)) L.Unreadable (lineWith (a .w) (a .n)))
-    (sym (at-arity .arity .ensures))
-    ∙ pick-false _ _ _ (c .before .if1 .left))
+    (sym (at-arity .arity .ensures)) ∙ pick-false _ _ _ (c .before .if1 .left))
 
 pub line-of-spec : {M : Type 1} → statement M
-line-of-spec =
-    tie.close
-    (tie.spec
-    (λ c κs. search needs) returns (λ c κs. search needs) returns-2)
+line-of-spec = tie.close (tie.spec (λ c κs. search needs) returns (λ c κs. search needs) returns-2)

@@ -1,12 +1,9 @@
--- `lines::line_with` meets its contract.
 use borrow.Author.Needs.{needs}
 use Rattle.lines.proofs.line_with.Statement.{statement}
 use Rattle.lines.proofs.line_with.Tie as tie
 
 pub line-with-spec : {M : Type 1} → statement M
-line-with-spec =
-    tie.close
-    (tie.spec
+line-with-spec = tie.close (tie.spec
     (λ c. search needs) (λ c. search needs) (λ c. search needs) (λ c. search needs)
     (λ c. search needs) (λ c. search needs) (λ c. search needs) (λ c. search needs)
     (λ c. search needs) (λ c. search needs) (λ c. search needs) (λ c. search needs)

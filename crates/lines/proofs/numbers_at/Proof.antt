@@ -1,4 +1,3 @@
--- `lines::numbers_at` meets its contract.
 use Prim.Native.Nat.{_+_, _-_}
 use mathlib.Core.Path.{_≡_, sym, _∙_, ap}
 use lib.ListN.{length, drop}
@@ -14,25 +13,10 @@ Inv-loop s at n₀ i₀ n i = bytesRead n (drop i s) ≡ bytesRead noNumbers (dr
 abbrev μ-loop : tie.MeasureT-loop
 μ-loop s at n₀ i₀ n i = length s - i
 
-none-requires : tie.Need-none-requires Inv-loop μ-loop
-none-requires c κs = search tests
-
 loop-holds : tie.Need-loop-holds Inv-loop μ-loop
 loop-holds c =
     ap (λ n. bytesRead n (drop (c .before .before .args .at) (c .before .before .args .s .now)))
     (c .none .ensures)
-
-shared-slice-read-next : tie.Need-shared-slice-read-next Inv-loop μ-loop
-shared-slice-read-next c = search tests
-
-next-requires : tie.Need-next-requires Inv-loop μ-loop
-next-requires c κs = search tests
-
-add-i : tie.Need-add-i Inv-loop μ-loop
-add-i c = search tests
-
-loop-less : tie.Need-loop-less Inv-loop μ-loop
-loop-less c = search tests
 
 loop-again : tie.Need-loop-again Inv-loop μ-loop
 loop-again c =
@@ -42,17 +26,12 @@ loop-again c =
     ap (λ n. bytesRead n (drop (at-loop .loop .i + 1) (start .args .s .now))) (c .next .ensures)
     ∙ (sym (read-on _ _ _ (at-loop-test .loop-test .taken)) ∙ at-loop .loop .inv)
 
-finish-requires : tie.Need-finish-requires Inv-loop μ-loop
-finish-requires c κs = search tests
-
 returns : tie.Need-returns Inv-loop μ-loop
 returns c =
     c .finish .ensures
     ∙ ap finished (sym (read-end _ _ _ (c .before .loop-test .left)) ∙ c .before .before .loop .inv)
 
 pub numbers-at-spec : {M : Type 1} → statement M
-numbers-at-spec =
-    tie.close
-    (tie.spec
-    Inv-loop μ-loop none-requires loop-holds shared-slice-read-next next-requires add-i loop-less
-    loop-again finish-requires returns)
+numbers-at-spec = tie.close (tie.spec
+    Inv-loop μ-loop (λ c κs. search tests) loop-holds (λ c. search tests) (λ c κs. search tests)
+    (λ c. search tests) (λ c. search tests) loop-again (λ c κs. search tests) returns)

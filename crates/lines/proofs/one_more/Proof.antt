@@ -1,4 +1,3 @@
--- `lines::one_more` meets its contract.
 use borrow.Author.Needs.{needs}
 use Rattle.rules.proofs.Tests.{tests}
 use Rattle.rules.specs.Pick.{pick}
@@ -14,7 +13,4 @@ unfolding pick
 returns-2 c = search tests
 
 pub one-more-spec : {M : Type 1} → statement M
-one-more-spec =
-    tie.close
-    (tie.spec
-    (λ c. search needs) returns returns-2)
+one-more-spec = tie.close (tie.spec (λ c. search needs) returns returns-2)

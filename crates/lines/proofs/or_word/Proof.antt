@@ -1,4 +1,3 @@
--- `lines::or_word` meets its contract.
 use borrow.Author.Needs.{needs}
 use Rattle.rules.specs.Pick.{pick}
 use Rattle.lines.proofs.or_word.Statement.{statement}
@@ -6,14 +5,7 @@ use Rattle.lines.proofs.or_word.Tie as tie
 
 returns : tie.Need-returns
 unfolding pick
-returns c =
-    simp (
-      c .choose .ensures,
-      c .before .starts .ensures,
-    )
+returns c = simp (c .choose .ensures, c .before .starts .ensures)
 
 pub or-word-spec : {M : Type 1} → statement M
-or-word-spec =
-    tie.close
-    (tie.spec
-    (λ c κs. search needs) (λ c κs. search needs) returns)
+or-word-spec = tie.close (tie.spec (λ c κs. search needs) (λ c κs. search needs) returns)

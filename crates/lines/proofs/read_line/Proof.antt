@@ -1,4 +1,3 @@
--- `lines::read_line` meets its contract.
 use mathlib.Core.Path.{sym}
 use borrow.Author.Tests.{le-ltb}
 use borrow.Author.Needs.{needs}
@@ -26,8 +25,6 @@ returns-2 c =
     ) (sym (pick-false _ _ _ (le-ltb _ _ (at-if1 .if1 .left))))
 
 pub read-line-spec : {M : Type 1} → statement M
-read-line-spec =
-    tie.close
-    (tie.spec
+read-line-spec = tie.close (tie.spec
     returns (λ c κs. search needs) (λ c κs. search needs) (λ c κs. search needs)
     (λ c κs. search needs) returns-2)

@@ -1,4 +1,3 @@
--- `lines::starts` meets its contract.
 use Prim.Native.Nat.{_-_}
 use mathlib.Core.Path.{_≡_, sym, _∙_, refl}
 use lib.ListN.{length, drop}
@@ -14,19 +13,10 @@ Inv-loop w s i₀ i = starts (drop i w) (drop i s) ≡ starts w s
 abbrev μ-loop : tie.MeasureT-loop
 μ-loop w s i₀ i = length w - i
 
-loop-holds : tie.Need-loop-holds Inv-loop μ-loop
-loop-holds c = refl
-
 returns : tie.Need-returns Inv-loop μ-loop
 returns c =
     sym (starts-short _ _ _ (c .before .loop-test .taken) (c .if1 .taken))
     ∙ c .before .before .loop .inv
-
-shared-slice-read-if2 : tie.Need-shared-slice-read-if2 Inv-loop μ-loop
-shared-slice-read-if2 c = search tests
-
-shared-slice-read-if2-2 : tie.Need-shared-slice-read-if2-2 Inv-loop μ-loop
-shared-slice-read-if2-2 c = search tests
 
 returns-2 : tie.Need-returns-2 Inv-loop μ-loop
 returns-2 c =
@@ -35,12 +25,6 @@ returns-2 c =
     let at-loop = at-loop-test .before in
     sym (starts-differ _ _ _ (at-loop-test .loop-test .taken) (at-if1 .if1 .left) (c .if2 .taken))
     ∙ at-loop .loop .inv
-
-add-i : tie.Need-add-i Inv-loop μ-loop
-add-i c = search tests
-
-loop-less : tie.Need-loop-less Inv-loop μ-loop
-loop-less c = search tests
 
 loop-again : tie.Need-loop-again Inv-loop μ-loop
 loop-again c =
@@ -54,8 +38,6 @@ returns-3 : tie.Need-returns-3 Inv-loop μ-loop
 returns-3 c = sym (starts-end _ _ _ (c .loop-test .left)) ∙ c .before .loop .inv
 
 pub starts-spec : {M : Type 1} → statement M
-starts-spec =
-    tie.close
-    (tie.spec
-    Inv-loop μ-loop loop-holds returns shared-slice-read-if2 shared-slice-read-if2-2 returns-2
-    add-i loop-less loop-again returns-3)
+starts-spec = tie.close (tie.spec
+    Inv-loop μ-loop (λ c. refl) returns (λ c. search tests) (λ c. search tests) returns-2
+    (λ c. search tests) (λ c. search tests) loop-again returns-3)

@@ -4,9 +4,7 @@ use Rattle.lines.proofs.width.Statement.{statement}
 use Rattle.lines.proofs.width.Tie as tie
 
 pub width-spec : {M : Type 1} → statement M
-width-spec =
-    tie.close
-    (tie.spec
+width-spec = tie.close (tie.spec
     (λ c. search needs) (λ c. search needs) (λ c. search needs) (λ c. search needs)
     (λ c. search needs) (λ c. search needs) (λ c. search needs) (λ c. search needs)
     (λ c. search needs) (λ c. search needs) (λ c. search needs) (λ c. search needs)

@@ -1,4 +1,3 @@
--- `row::act_turn` meets its contract.
 use borrow.Author.Needs.{needs}
 use Rattle.row.proofs.TurnLaws.{row-formed, act-law}
 use Rattle.row.proofs.act_turn.Statement.{statement}
@@ -25,7 +24,5 @@ returns c =
     (c .any-act .ensures)
 
 pub act-turn-spec : {M : Type 1} → statement M
-act-turn-spec =
-    tie.close
-    (tie.spec
+act-turn-spec = tie.close (tie.spec
     load-requires records-requires (λ c κs. search needs) (λ c κs. search needs) returns)

@@ -1,4 +1,3 @@
--- `row::load` meets its contract.
 use borrow.Author.Needs.{needs}
 use Rattle.row.proofs.load.Statement.{statement}
 use Rattle.row.proofs.load.Tie as tie
@@ -38,9 +37,7 @@ returns c =
     )
 
 pub load-spec : {M : Type 1} → statement M
-load-spec =
-    tie.close
-    (tie.spec
+load-spec = tie.close (tie.spec
     (λ c. search needs) (λ c κs. search needs) (λ c. search needs) (λ c κs. search needs)
     (λ c. search needs) (λ c κs. search needs) (λ c. search needs) (λ c κs. search needs)
     (λ c. search needs) (λ c κs. search needs) (λ c. search needs) (λ c κs. search needs)

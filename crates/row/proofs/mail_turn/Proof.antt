@@ -1,4 +1,3 @@
--- `row::mail_turn` meets its contract.
 use borrow.Author.Needs.{needs}
 use Rattle.row.proofs.TurnLaws.{row-formed, place-formed, mail-law}
 use Rattle.row.proofs.mail_turn.Statement.{statement}
@@ -42,14 +41,11 @@ returns c =
     let start = head .before .before .before in
     let a = start .args in
     mail-law (a .s) (a .row .now) (start .pre .0) (a .place .now) (start .pre .1) (a .sender)
-    _ _ _ _ _ _ _
-    (head .load .ensures) (held .before .records .ensures) (held .held-at .ensures)
+    _ _ _ _ _ _ _ (head .load .ensures) (held .before .records .ensures) (held .held-at .ensures)
     (m .load2 .ensures) (one .first-record .ensures) (next .after-last .ensures)
     (c .any-mail .ensures)
 
 pub mail-turn-spec : {M : Type 1} → statement M
-mail-turn-spec =
-    tie.close
-    (tie.spec
+mail-turn-spec = tie.close (tie.spec
     load-requires records-requires (λ c κs. search needs) load-requires-2 first-record-requires
     after-last-requires (λ c κs. search needs) returns)

@@ -1,4 +1,3 @@
--- `row::peer_of` meets its contract.
 use borrow.Author.Needs.{needs}
 use mathlib.Core.Path.{sym, _∙_}
 use Rattle.row.proofs.PeerLaws.{peer-in, peer-above}
@@ -22,7 +21,5 @@ returns-2 c =
     c .number .ensures ∙ sym (peer-in (a .n) (a .row .now) (a .k) (inside .if1 .left))
 
 pub peer-of-spec : {M : Type 1} → statement M
-peer-of-spec =
-    tie.close
-    (tie.spec
+peer-of-spec = tie.close (tie.spec
     returns (λ c. search needs) (λ c. search needs) (λ c. search needs) number-requires returns-2)

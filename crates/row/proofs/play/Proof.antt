@@ -26,8 +26,6 @@ returns c =
     (wrote .write .ensures) (stored .store .ensures)
 
 pub play-spec : {M : Type 1} → statement M
-play-spec =
-    tie.close
-    (tie.spec
+play-spec = tie.close (tie.spec
     (λ c. search needs) (λ c κs. search needs) count-after-requires (λ c κs. search needs)
     (λ c κs. search needs) (λ c. search needs) returns)

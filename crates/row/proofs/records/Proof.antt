@@ -1,4 +1,3 @@
--- `row::records` meets its contract.
 use mathlib.Core.Path.{refl}
 use Rattle.words.proofs.PartLaws.{cut-at}
 use borrow.Author.Needs.{needs}
@@ -11,8 +10,6 @@ returns c =
     cut-at (start .args .row .now) refl (c .before .size .ensures)
 
 pub records-spec : {M : Type 1} → statement M
-records-spec =
-    tie.close
-    (tie.spec
+records-spec = tie.close (tie.spec
     (λ c. search needs) (λ c κs. search needs) (λ c. search needs) (λ c. search needs)
     (λ c. search needs) (λ c. search needs) returns)

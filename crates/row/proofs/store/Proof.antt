@@ -26,8 +26,7 @@ returns c =
     let state = phase .before .before in
     let leads = state .before .before in
     let start = leads .before .before .before in
-    store-law (start .args .row .now) (start .args .h) (start .args .held) _
-    (copied .copy .ensures
+    store-law (start .args .row .now) (start .args .h) (start .args .held) _ (copied .copy .ensures
     ∙ simp (
       held .wide16 .ensures,
       five .wide15 .ensures,
@@ -51,9 +50,7 @@ returns c =
     ))
 
 pub store-spec : {M : Type 1} → statement M
-store-spec =
-    tie.close
-    (tie.spec
+store-spec = tie.close (tie.spec
     (λ c κs. search needs) (λ c κs. search needs) (λ c κs. search needs) (λ c κs. search needs)
     (λ c κs. search needs) (λ c κs. search needs) (λ c κs. search needs) (λ c κs. search needs)
     (λ c κs. search needs) (λ c κs. search needs) (λ c κs. search needs) (λ c κs. search needs)

@@ -43,8 +43,6 @@ returns-3 c =
     rw (told .b2 .given .1) (take-law (a .row .now) (a .place .now) _ _ _ w (done .take .ensures))
 
 pub write-spec : {M : Type 1} → statement M
-write-spec =
-    tie.close
-    (tie.spec
+write-spec = tie.close (tie.spec
     (λ c. search needs) (λ c. search needs) put-requires (λ c. search needs) take-requires returns
     (λ c. search needs) returns-2 (λ c. search needs) returns-3)

@@ -1,4 +1,3 @@
--- `letter::form::head_fault` meets its contract.
 use Rattle.values.specs.Faults.{faultThen}
 use Rattle.letter.specs.Faults.{headFault}
 use borrow.Author.Needs.{needs}
@@ -30,9 +29,7 @@ returns c =
     )
 
 pub head-fault-spec : {M : Type 1} → statement M
-head-fault-spec =
-    tie.close
-    (tie.spec
+head-fault-spec = tie.close (tie.spec
     (λ c. search needs) (λ c κs. search needs) (λ c. search needs) (λ c κs. search needs)
     (λ c. search needs) (λ c κs. search needs) (λ c. search needs) (λ c κs. search needs)
     (λ c. search needs) (λ c. search needs) (λ c. search needs) (λ c κs. search needs)

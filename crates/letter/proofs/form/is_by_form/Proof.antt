@@ -19,8 +19,7 @@ returns c =
     let told = c .before .before in
     let s = told .before .before .before .before in
     let e = sym (told .before .before .head-fault .ensures) ∙ told .enum-told .given .1 in
-    c .all-proper .ensures ∙ ap (each proper) (c .before .records .ensures)
-    ∙ form-go _ _ (s .pre) e
+    c .all-proper .ensures ∙ ap (each proper) (c .before .records .ensures) ∙ form-go _ _ (s .pre) e
 
 returns-2 : tie.Need-returns-2
 returns-2 c =
@@ -29,8 +28,6 @@ returns-2 c =
     form-stop _ _ (s .pre) (ap isWhole e)
 
 pub is-by-form-spec : {M : Type 1} → statement M
-is-by-form-spec =
-    tie.close
-    (tie.spec
+is-by-form-spec = tie.close (tie.spec
     (λ c κs. search needs) (λ c. search needs) records-requires (λ c κs. search needs)
     (λ c. search needs) returns returns-2)

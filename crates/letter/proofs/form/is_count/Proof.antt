@@ -1,4 +1,3 @@
--- `letter::form::is_count` meets its contract.
 use borrow.Author.Needs.{needs}
 use Rattle.letter.proofs.form.is_count.Statement.{statement}
 use Rattle.letter.proofs.form.is_count.Tie as tie
@@ -52,9 +51,7 @@ returns-6 c =
     )
 
 pub is-count-spec : {M : Type 1} → statement M
-is-count-spec =
-    tie.close
-    (tie.spec
+is-count-spec = tie.close (tie.spec
     (λ c κs. search needs) (λ c κs. search needs) (λ c. search needs) (λ c. search needs)
     (λ c. search needs) (λ c. search needs) (λ c. search needs) (λ c. search needs) returns
     returns-2 returns-3 returns-4 returns-5 returns-6)

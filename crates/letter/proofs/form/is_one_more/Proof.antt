@@ -1,4 +1,3 @@
--- `letter::form::is_one_more` meets its contract.
 use borrow.Author.Needs.{needs}
 use mathlib.Core.Path.{sym}
 use native.Mathlib.Omega.{arith}
@@ -17,7 +16,4 @@ returns-2 : tie.Need-returns-2
 returns-2 c = let a = c .before .args in one-more (a .count) (a .last) (c .if1 .left)
 
 pub is-one-more-spec : {M : Type 1} → statement M
-is-one-more-spec =
-    tie.close
-    (tie.spec
-    returns (λ c. search needs) returns-2)
+is-one-more-spec = tie.close (tie.spec returns (λ c. search needs) returns-2)

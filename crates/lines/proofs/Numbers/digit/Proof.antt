@@ -1,4 +1,3 @@
--- `lines::Numbers::digit` meets its contract.
 use mathlib.Core.Path.{sym, _∙_, ap}
 use borrow.Author.Needs.{needs}
 use Rattle.lines.specs.Read.{withGrown}
@@ -15,7 +14,5 @@ returns-2 c = ap (withGrown (c .before .before .before .args .self)) (sym (c .en
     ∙ c .before .before .grow .ensures)
 
 pub digit-spec : {M : Type 1} → statement M
-digit-spec =
-    tie.close
-    (tie.spec
+digit-spec = tie.close (tie.spec
     (λ c κs. search needs) (λ c. search needs) (λ c. search needs) returns returns-2)

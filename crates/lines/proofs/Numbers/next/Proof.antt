@@ -1,4 +1,3 @@
--- `lines::Numbers::next` meets its contract.
 use borrow.Author.Needs.{needs}
 use Rattle.rules.proofs.Tests.{tests}
 use Rattle.lines.specs.Read.{byteRead}
@@ -14,7 +13,4 @@ unfolding byteRead
 returns-2 c = search tests
 
 pub next-spec : {M : Type 1} → statement M
-next-spec =
-    tie.close
-    (tie.spec
-    (λ c κs. search needs) (λ c κs. search needs) returns returns-2)
+next-spec = tie.close (tie.spec (λ c κs. search needs) (λ c κs. search needs) returns returns-2)

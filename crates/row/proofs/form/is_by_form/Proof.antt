@@ -29,8 +29,6 @@ returns-2 c =
     form-stop _ _ _ _ (s .pre) (ap isWhole e)
 
 pub is-by-form-spec : {M : Type 1} → statement M
-is-by-form-spec =
-    tie.close
-    (tie.spec
+is-by-form-spec = tie.close (tie.spec
     (λ c κs. search needs) (λ c. search needs) records-requires (λ c κs. search needs)
     (λ c. search needs) returns returns-2)

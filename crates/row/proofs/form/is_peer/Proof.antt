@@ -1,4 +1,3 @@
--- `row::form::is_peer` meets its contract.
 use borrow.Author.Needs.{needs}
 use Rattle.row.proofs.PeerLaws.{peer-go, peer-stop}
 use Rattle.row.proofs.form.is_peer.Statement.{statement}
@@ -17,7 +16,5 @@ returns-2 c =
     peer-go (a .n) (a .j) (a .b) (a .w .now) (a .k) (k .0) (k .1) (c .before .if1 .left)
 
 pub is-peer-spec : {M : Type 1} → statement M
-is-peer-spec =
-    tie.close
-    (tie.spec
+is-peer-spec = tie.close (tie.spec
     returns (λ c. search needs) (λ c. search needs) (λ c. search needs) returns-2)

@@ -1,4 +1,3 @@
--- `row::form::number_fault` meets its contract.
 use Rattle.values.specs.Faults.{faultThen}
 use borrow.Author.Needs.{needs}
 use Rattle.row.proofs.form.number_fault.Statement.{statement}
@@ -28,9 +27,7 @@ returns c =
     )
 
 pub number-fault-spec : {M : Type 1} → statement M
-number-fault-spec =
-    tie.close
-    (tie.spec
+number-fault-spec = tie.close (tie.spec
     (λ c. search needs) (λ c κs. search needs) (λ c. search needs) (λ c κs. search needs)
     (λ c. search needs) (λ c κs. search needs) (λ c. search needs) (λ c κs. search needs)
     (λ c. search needs) (λ c κs. search needs) (λ c. search needs) (λ c κs. search needs)

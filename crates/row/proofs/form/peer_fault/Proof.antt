@@ -1,4 +1,3 @@
--- `row::form::peer_fault` meets its contract.
 use Rattle.values.specs.Faults.{faultThen}
 use borrow.Author.Needs.{needs}
 use Rattle.row.proofs.form.peer_fault.Statement.{statement}
@@ -21,9 +20,7 @@ returns c =
     )
 
 pub peer-fault-spec : {M : Type 1} → statement M
-peer-fault-spec =
-    tie.close
-    (tie.spec
+peer-fault-spec = tie.close (tie.spec
     (λ c κs. search needs) (λ c κs. search needs) (λ c κs. search needs) (λ c κs. search needs)
     (λ c κs. search needs) (λ c κs. search needs) (λ c κs. search needs) (λ c κs. search needs)
     (λ c κs. search needs) (λ c κs. search needs) returns)

@@ -1,4 +1,3 @@
--- `row::form::value_fault` meets its contract.
 use Rattle.values.specs.Faults.{faultThen}
 use borrow.Author.Needs.{needs}
 use Rattle.row.proofs.form.value_fault.Statement.{statement}
@@ -29,9 +28,7 @@ returns c =
     )
 
 pub value-fault-spec : {M : Type 1} → statement M
-value-fault-spec =
-    tie.close
-    (tie.spec
+value-fault-spec = tie.close (tie.spec
     (λ c. search needs) (λ c κs. search needs) (λ c κs. search needs) (λ c. search needs)
     (λ c κs. search needs) (λ c κs. search needs) (λ c. search needs) (λ c κs. search needs)
     (λ c κs. search needs) (λ c. search needs) (λ c κs. search needs) (λ c κs. search needs)
