@@ -16,12 +16,7 @@ use Rattle.answer.specs.declared.ask.Asked.{Asked}
 use Rattle.answer.specs.declared.tell.Told.{Told}
 use Rattle.answer.specs.Asks.{Asks, AsksNothing, AskIs, asks, asks-long, asks-nothing}
 use Rattle.answer.specs.Text.{answerText}
-use Rattle.answer.specs.Says.{
-  textRoom,
-  lends,
-  CallTold,
-  AnswerIs,
-}
+use Rattle.answer.specs.Says.{textRoom, lends, CallTold, AnswerIs}
 use Rattle.answer.specs.Says.{asks-nothing as nothing, asks-long as longer, asks as asking}
 use Rattle.answer.proofs.TellLaws.{refused-told}
 
@@ -57,8 +52,7 @@ pub record Found (line o p : List ℕ) (n : ℕ) (l : Line) : Type 0 where
 found-there : {line o im : List ℕ} {l : Line} → Asks line im l → length im ≤ length o
     → Found line o (im ++ drop (length im) o) (length im) l
 found-there {line} {o} {im} {l} a h =
-    let n : length (im ++ drop (length im) o) ≡ length o =
-    length-append im (drop (length im) o)
+    let n : length (im ++ drop (length im) o) ≡ length o = length-append im (drop (length im) o)
     ∙ omega (arith, length-drop (length im) o) in
     let seam = take-append-seam im (drop (length im) o) in
     record {

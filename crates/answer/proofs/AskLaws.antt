@@ -60,24 +60,16 @@ pub record Parted (line hex rest : List ℕ) (e : ℕ) : Type 0 where
 pub parted : (line : List ℕ) (e : ℕ) {im : List ℕ} {l : Line} → e ≡ indexOf 32 line
     → (a : Asks line im l) → Parted line (a .hex) (a .call) e
 parted line e {im} h a =
-    let p : e ≡ length (a .hex) =
-    h ∙ ap (indexOf 32) (a .text)
+    let p : e ≡ length (a .hex) = h ∙ ap (indexOf 32) (a .text)
     ∙ index-at 32 (a .hex) (a .call) (no-space im (a .hex) (a .bytes) (a .spells)) in
     record {
       place = p;
-      below =
-          omega (
-            arith,
-            ap length (a .text),
-            length-append (a .hex) (32 ∷ (a .call)),
-          );
+      below = omega (arith, ap length (a .text), length-append (a .hex) (32 ∷ (a .call)));
       image =
-          ap (take e) (a .text)
-          ∙ ap (λ (k : ℕ). take k (a .hex ++ (32 ∷ (a .call)))) p
+          ap (take e) (a .text) ∙ ap (λ (k : ℕ). take k (a .hex ++ (32 ∷ (a .call)))) p
           ∙ take-append-seam (a .hex) (32 ∷ (a .call));
       call =
-          ap (drop (e + 1)) (a .text)
-          ∙ ap (λ (k : ℕ). drop (k + 1) (a .hex ++ (32 ∷ (a .call)))) p
+          ap (drop (e + 1)) (a .text) ∙ ap (λ (k : ℕ). drop (k + 1) (a .hex ++ (32 ∷ (a .call)))) p
           ∙ drop-append-add (a .hex) (32 ∷ (a .call)) 1;
     }
 
@@ -90,16 +82,14 @@ pub not-served-asks-nothing : (line o rest : List ℕ) (e : ℕ) (l : Line) → 
     → rest ≡ drop (e + 1) line → l ≡ readLine rest → served l ≡ false
     → AskIs line o Asked.Unreadable o
 not-served-asks-nothing line o rest e l h r s f =
-    asks-nothing (λ im k a.
-    both-no (a .served)
+    asks-nothing (λ im k a. both-no (a .served)
     (ap served (sym (a .says) ∙ ap readLine (sym (parted line e h a .call) ∙ sym r) ∙ sym s) ∙ f))
 
 -- ---- what is found
 
 pub rest-all : (line : List ℕ) (e m : ℕ) → length line ≤ m + (e + 1)
     → take m (drop (e + 1) line) ≡ drop (e + 1) line
-rest-all line e m h =
-    take-all m (drop (e + 1) line) (omega (arith, length-drop (e + 1) line))
+rest-all line e m h = take-all m (drop (e + 1) line) (omega (arith, length-drop (e + 1) line))
 
 module _ (line part rest : List ℕ) (e : ℕ) (l : Line) (at : e ≡ indexOf 32 line)
     (inside : e < length line) (hx : part ≡ take e line) (r : rest ≡ drop (e + 1) line)
@@ -107,8 +97,7 @@ module _ (line part rest : List ℕ) (e : ℕ) (l : Line) (at : e ≡ indexOf 32
   cut : line ≡ part ++ (32 ∷ rest)
   cut =
       let one : suc e ≡ e + 1 = omega arith in
-      let space : getD line e 0 ≡ 32 =
-      ap (λ (k : ℕ). getD line k 0) at
+      let space : getD line e 0 ≡ 32 = ap (λ (k : ℕ). getD line k 0) at
       ∙ index-found 32 line (subst (λ (k : ℕ). k < length line) at inside) in
       split-at line e 0 inside
       ∙ ap (λ (a : List ℕ). a ++ (getD line e 0 ∷ drop (suc e) line)) (sym hx)

@@ -30,32 +30,10 @@ use Rattle.lines.specs.declared.Line.{Line}
 use Rattle.answer.specs.declared.call.Came.{Came}
 use Rattle.answer.specs.declared.tell.Told.{Told}
 use Rattle.answer.specs.Asks.{served}
-use Rattle.answer.specs.Calls.{
-  outcomeOf,
-  Holds,
-  fits,
-  no-room,
-  Comes,
-  unserved,
-  none,
-  few-words,
-  some,
-  no-sizes,
-  no-words,
-  made,
-  front,
-  CallIs,
-  too-long,
-  called,
-  FreshIs,
-  comes,
-  Serves,
-  PutIs,
-  put,
-  not-put,
-  within,
-  imageIn,
-}
+use Rattle.answer.specs.Calls.{outcomeOf, Holds, fits, no-room, Comes, unserved, none}
+use Rattle.answer.specs.Calls.{few-words, some, no-sizes, no-words, made, front, CallIs}
+use Rattle.answer.specs.Calls.{too-long, called, FreshIs, comes, Serves, PutIs, put, not-put}
+use Rattle.answer.specs.Calls.{within, imageIn}
 use Rattle.answer.specs.Says.{TellIs, short, CallTold, call-told}
 
 -- ---- an image at the front of a buffer
@@ -103,12 +81,10 @@ module _ (l : Line) (xs ls xs' ls' : List ℕ) {a : Answer} (s : Serves l xs ls 
       → imageOf (siteOf xs ls) ≡ take n o
       → PutIs (outcomeOf (siteOf xs ls) l .answer) (imageOf (outcomeOf (siteOf xs ls) l .next)) o
       (Came.Answered a n) o
-  put-refused o n r h e =
-      let k = s .after .kept r in
+  put-refused o n r h e = let k = s .after .kept r in
       let same : imageOf (siteOf xs' ls') ≡ take n o =
       (λ i. imageOf (siteOf (k .0 i) (k .1 i))) ∙ e in
-      put-served
-      (subst (λ (im : List ℕ). PutIs a im o (Came.Answered a n) o) (sym same)
+      put-served (subst (λ (im : List ℕ). PutIs a im o (Came.Answered a n) o) (sym same)
       (subst (λ (q : List ℕ). PutIs a (take n o) o (Came.Answered a n) q) (front-same o n h)
       (subst (λ (m : ℕ). PutIs a (take n o) o (Came.Answered a m) (front (take n o) o))
       (length-take-le n o h) (put (omega (arith, length-take-le n o h))))))
@@ -166,8 +142,7 @@ module _ (l : Line) (n : ℕ) (o : List ℕ) {xs ls : List ℕ} (inside : n ≤ 
 
   pub call-some : {ys ks p : List ℕ} {c : Came} → served l ≡ true → Stored (take n o) xs ls ys ks
       → PutIs (outcomeOf (siteOf ys ks) l .answer) (imageOf (outcomeOf (siteOf ys ks) l .next)) o c
-      p
-      → CallIs l n xs ls o c p
+      p → CallIs l n xs ls o c p
   call-some {ys} {ks} s h (put k) =
       called inside (some s (siteOf ys ks) (held h) (held-room h) (fits k))
   call-some {ys} {ks} s h (not-put k) =
@@ -190,8 +165,7 @@ left (some s t k w (no-room e)) h = shorter h
 
 left-within : {after : List ℕ} (o : List ℕ) {c : Came} → Left after (length o) c
     → within (length (front after o)) c × (length (front after o) ≡ length o)
-left-within {after} o (answered h) =
-    let e = front-length after o h in (omega arith, e)
+left-within {after} o (answered h) = let e = front-length after o h in (omega arith, e)
 left-within {after} o (shorter h) = (tt, front-length after o h)
 
 told-left : {after : List ℕ} (b : List ℕ) {c : Came} {o q : List ℕ} {r : Told}
@@ -242,13 +216,10 @@ module _ (n J L : ℕ) (xs ls xs' ls' : List ℕ) (a : Answer) (w : FreshMade n 
       w .after .site ∙ ap (λ (r : Outcome). r .next) (is-fresh s e),
     )
 
-    fresh-by : (P : Type 0)
-        → (sizesForm n J L ≡ false → a ≡ Answer.Refused Refusal.Sizes → P)
+    fresh-by : (P : Type 0) → (sizesForm n J L ≡ false → a ≡ Answer.Refused Refusal.Sizes → P)
         → (sizesForm n J L ≡ true → enough n J L xs ls ≡ false → a ≡ Answer.Refused Refusal.Buffer
-        → P)
-        → (sizesForm n J L ≡ true → enough n J L xs ls ≡ true → a ≡ Answer.Done
-        → siteOf xs' ls' ≡ fresh n J L → P)
-        → P
+        → P) → (sizesForm n J L ≡ true → enough n J L xs ls ≡ true → a ≡ Answer.Done
+        → siteOf xs' ls' ≡ fresh n J L → P) → P
     fresh-by P f g h = go (decide (sizesForm n J L)) (decide (enough n J L xs ls))
       where
         go : Or (sizesForm n J L ≡ true) (sizesForm n J L ≡ false)
@@ -259,17 +230,14 @@ module _ (n J L : ℕ) (xs ls xs' ls' : List ℕ) (a : Answer) (w : FreshMade n 
 
     pub fresh-formed : answerNumber a ≡ 0 → memoryForm xs' ls' ≡ true
     fresh-formed e =
-        fresh-by (memoryForm xs' ls' ≡ true)
-        (λ s q. absurd (omega (arith, ap answerNumber q)))
-        (λ s k q. absurd (omega (arith, ap answerNumber q)))
-        (λ s k q t. w .form (ap isRefusal q))
+        fresh-by (memoryForm xs' ls' ≡ true) (λ s q. absurd (omega (arith, ap answerNumber q)))
+        (λ s k q. absurd (omega (arith, ap answerNumber q))) (λ s k q t. w .form (ap isRefusal q))
 
     module _ {o : List ℕ} where
       pub fresh-short : answerNumber a ≡ 12 → FreshIs n J L xs ls o Came.Short o
       fresh-short e =
           fresh-by (FreshIs n J L xs ls o Came.Short o)
-          (λ s q. absurd (omega (arith, ap answerNumber q)))
-          (λ s k q. comes (no-words s k))
+          (λ s q. absurd (omega (arith, ap answerNumber q))) (λ s k q. comes (no-words s k))
           (λ s k q t. absurd (omega (arith, ap answerNumber q)))
 
       pub fresh-refused : (answerNumber a ≡ 0 → ⊥) → (answerNumber a ≡ 12 → ⊥)
@@ -277,8 +245,7 @@ module _ (n J L : ℕ) (xs ls xs' ls' : List ℕ) (a : Answer) (w : FreshMade n 
       fresh-refused d e =
           fresh-by (FreshIs n J L xs ls o (Came.Answered a 0) o)
           (λ s q. subst (λ (b : Answer). FreshIs n J L xs ls o (Came.Answered b 0) o) (sym q)
-          (comes (no-sizes s)))
-          (λ s k q. absurd (e (ap answerNumber q)))
+          (comes (no-sizes s))) (λ s k q. absurd (e (ap answerNumber q)))
           (λ s k q t. absurd (d (ap answerNumber q)))
 
       fresh-put : {c : Came} {p : List ℕ} → sizesForm n J L ≡ true → enough n J L xs ls ≡ true
@@ -289,9 +256,7 @@ module _ (n J L : ℕ) (xs ls xs' ls' : List ℕ) (a : Answer) (w : FreshMade n 
       pub fresh-made : {c : Came} {p : List ℕ} → answerNumber a ≡ 0
           → PutIs a (imageOf (siteOf xs' ls')) o c p → FreshIs n J L xs ls o c p
       fresh-made {c} {p} z v =
-          fresh-by (FreshIs n J L xs ls o c p)
-          (λ s q. absurd (omega (arith, ap answerNumber q)))
-          (λ s k q. absurd (omega (arith, ap answerNumber q)))
-          (λ s k q t. fresh-put s k
+          fresh-by (FreshIs n J L xs ls o c p) (λ s q. absurd (omega (arith, ap answerNumber q)))
+          (λ s k q. absurd (omega (arith, ap answerNumber q))) (λ s k q t. fresh-put s k
           (subst (λ (x : Site). PutIs Answer.Done (imageOf x) o c p) t
           (subst (λ (b : Answer). PutIs b (imageOf (siteOf xs' ls')) o c p) q v)))

@@ -29,22 +29,9 @@ use Rattle.lines.proofs.Exact.{exact}
 use Rattle.answer.specs.declared.call.Came.{Came}
 use Rattle.answer.specs.declared.tell.Told.{Told}
 use Rattle.answer.specs.Asks.{served, Asks}
-use Rattle.answer.specs.Calls.{
-  outcomeOf,
-  HoldsNone,
-  no-room,
-  Comes,
-  few-words,
-  some,
-  FreshComes,
-  no-words,
-  made,
-  CallIs,
-  too-long,
-  called,
-  FreshIs,
-  comes,
-}
+use Rattle.answer.specs.Calls.{outcomeOf, HoldsNone, no-room, Comes, few-words, some}
+use Rattle.answer.specs.Calls.{FreshComes, no-words, made, CallIs, too-long, called, FreshIs}
+use Rattle.answer.specs.Calls.{comes}
 use Rattle.answer.specs.Says.{textRoom, lends, short, call-told, Says, not-by-form}
 use Rattle.answer.specs.Says.{AnswerIs, too-short, asks-long, asks}
 use Rattle.answer.specs.Hold.{heldFor}

@@ -29,16 +29,14 @@ front-least xs k m e = go (ltb k (length xs)) refl
         let l = ltb-true k (length xs) d in
         let q : k ≡ m = omega arith in
         ap (λ (i : ℕ). take i xs) q
-    go false d =
-        let l = ltb-false k (length xs) d in
+    go false d = let l = ltb-false k (length xs) d in
         take-all k xs (omega arith) ∙ sym (take-all m xs (omega arith))
 
 -- one byte of the copy
 pub copied-more : (o piece p : List ℕ) (n j : ℕ) → n + j < length o → j < length piece
     → p ≡ paste o n piece j → set p (n + j) (getD piece j 0) ≡ paste o n piece (j + 1)
 copied-more o piece p n j h k e =
-    ap (λ (l : List ℕ). set l (n + j) (getD piece j 0)) e
-    ∙ paste-suc o n piece j 0 h k
+    ap (λ (l : List ℕ). set l (n + j) (getD piece j 0)) e ∙ paste-suc o n piece j 0 h k
     ∙ ap (λ (i : ℕ). paste o n piece i) (sym (add-one j))
 
 pub kept-is : (o piece p : List ℕ) (len n m j : ℕ) → n ≡ min len (length o)

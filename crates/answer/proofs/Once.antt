@@ -21,28 +21,9 @@ use Rattle.lines.specs.declared.Line.{Line}
 use Rattle.answer.specs.declared.call.Came.{Came}
 use Rattle.answer.specs.declared.tell.Told.{Told}
 use Rattle.answer.specs.Asks.{Asks}
-use Rattle.answer.specs.Calls.{
-  outcomeOf,
-  Holds,
-  Fits,
-  fits,
-  no-room,
-  Comes,
-  unserved,
-  none,
-  few-words,
-  some,
-  FreshComes,
-  no-sizes,
-  no-words,
-  made,
-  front,
-  CallIs,
-  too-long,
-  called,
-  FreshIs,
-  comes,
-}
+use Rattle.answer.specs.Calls.{outcomeOf, Holds, Fits, fits, no-room, Comes, unserved, none}
+use Rattle.answer.specs.Calls.{few-words, some, FreshComes, no-sizes, no-words, made, front}
+use Rattle.answer.specs.Calls.{CallIs, too-long, called, FreshIs, comes}
 use Rattle.answer.specs.Says.{Says, unreadable, not-by-form, answered}
 use Rattle.answer.specs.Says.{TellIs, told, short, CallTold, call-told}
 use Rattle.answer.specs.Says.{AnswerIs, too-short, asks-nothing, asks-long, asks}
@@ -51,8 +32,7 @@ use Rattle.answer.proofs.AskLaws.{parted}
 use Rattle.answer.proofs.TellLaws.{refusal-alone}
 
 -- a line asks one thing of one image
-pub asks-once : {line a b : List ℕ} {k l : Line} → Asks line a k → Asks line b l
-    → (a ≡ b) × (k ≡ l)
+pub asks-once : {line a b : List ℕ} {k l : Line} → Asks line a k → Asks line b l → (a ≡ b) × (k ≡ l)
 asks-once {line} {a} {b} x y =
     let p = parted line (indexOf 32 line) refl x in
     let q = parted line (indexOf 32 line) refl y in (
@@ -152,10 +132,8 @@ tell-once short short = alike
 told-once : {l : Line} {im xs ls o p q : List ℕ} {m : ℕ} {a b : Told}
     → CallTold l im m xs ls o a p → CallTold l im m xs ls o b q → Alike a b p q
 told-once {o = o} {q = q} {b = b} (call-told {after = x} {c = c} w t)
-    (call-told {after = y} {c = d} v u) =
-    let s = comes-once v w in
-    tell-once t
-    (subst (λ (e : Came). TellIs x o e b q) (s .came)
+    (call-told {after = y} {c = d} v u) = let s = comes-once v w in
+    tell-once t (subst (λ (e : Came). TellIs x o e b q) (s .came)
     (subst (λ (i : List ℕ). TellIs i o d b q) (s .image) u))
 
 pub answer-once : {line xs ls o p q : List ℕ} {m : ℕ} {a b : Told} → AnswerIs line m xs ls o a p
@@ -171,16 +149,13 @@ answer-once (asks-nothing e n w) (asks {im} {l = l} f x h v) = absurd (n im l x)
 answer-once (asks-long e x h) (too-short f) = absurd (both-no e f)
 answer-once (asks-long {im} {l = l} e x h) (asks-nothing f k v) = absurd (k im l x)
 answer-once (asks-long e x h) (asks-long f y k) = alike
-answer-once (asks-long e x h) (asks f y k v) =
-    absurd (omega (arith, ap length (asks-once x y .0)))
+answer-once (asks-long e x h) (asks f y k v) = absurd (omega (arith, ap length (asks-once x y .0)))
 answer-once (asks e x h w) (too-short f) = absurd (both-no e f)
 answer-once (asks {im} {l = l} e x h w) (asks-nothing f k v) = absurd (k im l x)
-answer-once (asks e x h w) (asks-long f y k) =
-    absurd (omega (arith, ap length (asks-once x y .0)))
+answer-once (asks e x h w) (asks-long f y k) = absurd (omega (arith, ap length (asks-once x y .0)))
 answer-once {xs = xs} {ls} {o} {q = q} {m} {b = b} (asks {im} e x h w) (asks {l = k} f y i v) =
     let s = asks-once y x in
-    told-once w
-    (subst (λ (j : Line). CallTold j im m xs ls o b q) (s .1)
+    told-once w (subst (λ (j : Line). CallTold j im m xs ls o b q) (s .1)
     (subst (λ (i : List ℕ). CallTold k i m xs ls o b q) (s .0) v))
 
 -- ---- what is written is what the rules say

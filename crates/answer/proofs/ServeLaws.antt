@@ -39,8 +39,7 @@ module _ {xs ls : List ℕ} {a : Answer} {l : Line} where
 
   pub held : {c k left right : ℕ} → l ≡ Line.Holds c k left right → memoryForm xs ls ≡ true
       → a ≡ holds (siteOf xs ls) c k left right → Serves l xs ls xs ls a
-  held e f h =
-      stays f
+  held e f h = stays f
       (h ∙ ap (λ (m : Line). outcomeOf (siteOf xs ls) m .answer) (sym e))
       (ap (λ (m : Line). outcomeOf (siteOf xs ls) m .next) (sym e))
 

@@ -59,8 +59,7 @@ front {r = r} {o = o} {t = t} h w =
     let n : r ≡ length t = w .end ∙ omega arith in
     let k : 0 + length t ≡ length t = omega arith in (
       n,
-      w .bytes ∙ sets-eq t o 0 (omega (arith, w .few, w .end))
-          ∙ ap (λ (x : ℕ). t ++ drop x o) k,
+      w .bytes ∙ sets-eq t o 0 (omega (arith, w .few, w .end)) ∙ ap (λ (x : ℕ). t ++ drop x o) k,
     )
 
 -- a text that was written at the front is told
@@ -81,8 +80,7 @@ refused-told h w = told-text h w
 
 pub refusal-wrote : (a : Answer) (im : List ℕ) {m r : ℕ} {o p : List ℕ} → isRefusal a ≡ true
     → 38 ≤ m → Wrote 38 o p 0 r (answerText a []) → Wrote m o p 0 r (answerText a im)
-refusal-wrote a im e h w =
-    at-most h (spelled (sym (refusal-alone a im e)) w)
+refusal-wrote a im e h w = at-most h (spelled (sym (refusal-alone a im e)) w)
 
 pub image-wrote : (a : Answer) (im : List ℕ) {r : ℕ} {o p : List ℕ}
     → Wrote (2 * length im + 19) o p 0 r (answerText a im)
@@ -92,13 +90,11 @@ image-wrote a im w = at-most (omega arith) w
 -- ---- what came
 
 -- the part of the buffer that an answer leaves its image in
-pub part-length : (image : List ℕ) (n k : ℕ) → k ≡ n → n ≤ length image
-    → length (take k image) ≡ n
+pub part-length : (image : List ℕ) (n k : ℕ) → k ≡ n → n ≤ length image → length (take k image) ≡ n
 part-length image n k e h = length-take-le k image (omega arith) ∙ e
 
 pub told-came : (image : List ℕ) (k : ℕ) {a : Answer} {c : Came} {n r : ℕ} {o q : List ℕ}
-    → c ≡ Came.Answered a n → k ≡ n → n ≤ length image
-    → textRoom (length image) ≤ length o
+    → c ≡ Came.Answered a n → k ≡ n → n ≤ length image → textRoom (length image) ≤ length o
     → Wrote (textRoom (length (take k image))) o q 0 r (answerText a (take k image))
     → TellIs (imageIn c image) o c (Told.Length r) q
 told-came image k {a} {c} {n} {r} {o} {q} e f h g w =

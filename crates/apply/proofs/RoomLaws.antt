@@ -1,6 +1,6 @@
 -- What the buffers have room for, and where the larger ones are asked for.
 use Prim.Native.Nat.{ℕ, _≤_, _<_}
-use mathlib.Core.Path.{_≡_, refl, sym, subst}
+use mathlib.Core.Path.{_≡_, refl, sym, subst, _∙_}
 use mathlib.Core.Bool.{Bool, true, false}
 use mathlib.Core.List.{List}
 use native.Mathlib.Omega.{arith}
@@ -29,13 +29,35 @@ use Rattle.apply.specs.Room.{Room, LineRoom, JobFits, FilledIn, OnLarger
 pub room-as : {last : Bool} {m x y k m' x' y' k' : ℕ} → m' ≡ m → x' ≡ x → y' ≡ y → k' ≡ k
     → Room last m x y k → Room last m' x' y' k'
 room-as {last} {m} {x} {y} {k} {m'} {x'} {y'} e f g h r =
-    subst (λ (i : ℕ). Room last m' x' y' i) (sym h)
-    (subst (λ (i : ℕ). Room last m' x' i k) (sym g)
+    subst (λ (i : ℕ). Room last m' x' y' i) (sym h) (subst (λ (i : ℕ). Room last m' x' i k) (sym g)
     (subst (λ (i : ℕ). Room last m' i y k) (sym f)
     (subst (λ (i : ℕ). Room last i x y k) (sym e) r)))
 
 pub line-as : {last : Bool} {h h' : ℕ} → h' ≡ h → LineRoom last h → LineRoom last h'
 line-as {last} e r = subst (λ (i : ℕ). LineRoom last i) (sym e) r
+
+-- five lent slices are as long as they were
+pub record Same (l i s k o l' i' s' k' o' : List ℕ) : Type 0 where
+  pub line : length l' ≡ length l
+  pub image : length i' ≡ length i
+  pub site : length s' ≡ length s
+  pub links : length k' ≡ length k
+  pub out : length o' ≡ length o
+
+pub same : {l i s k o : List ℕ} → Same l i s k o l i s k o
+same = record { line = refl; image = refl; site = refl; links = refl; out = refl }
+
+pub same-on : {l i s k o l' i' s' k' o' l'' i'' s'' k'' o'' : List ℕ}
+    → Same l i s k o l' i' s' k' o' → length l'' ≡ length l' → length i'' ≡ length i'
+    → length s'' ≡ length s' → length k'' ≡ length k' → length o'' ≡ length o'
+    → Same l i s k o l'' i'' s'' k'' o''
+same-on w a b c d e = record {
+  line = a ∙ w .line;
+  image = b ∙ w .image;
+  site = c ∙ w .site;
+  links = d ∙ w .links;
+  out = e ∙ w .out;
+}
 
 -- the smaller set need not have it
 pub small-room : {m x y k : ℕ} → Room false m x y k

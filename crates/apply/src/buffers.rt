@@ -26,9 +26,11 @@ const LONGEST_LINE: usize = 21313306;
 
 const LONGEST_OUT: usize = 21313278;
 
-const ALL_LINKS: usize = 1312360;
+const LINK: usize = 2 + 16 * (letter::HEAD + 4096);
 
-const SITE: usize = 20585;
+const ALL_LINKS: usize = 5 * 4 * LINK;
+
+const SITE: usize = memory::GENERAL + 5 * (row::HEAD + 4096);
 
 // What goes on in the larger set: the lines of the input, or a call on an image.
 pub enum Job {

@@ -32,15 +32,10 @@ pub keeps-is : (f g : Feed) (p : List ℕ) → g .stage ≡ f .stage → g .k �
     → take (g .len) (g .line) ≡ hold (take (f .len) (f .line)) p → Keeps f p g
 keeps-is f g p e k h =
     record {
-      next = λ xs ls.
-          ap
-          (λ (t : Stage).
-          record { run = courseOf t (g .k) (siteOf xs ls); held = take (g .len) (g .line) })
-          e
-          ∙ (ap
+      next = λ xs ls. ap (λ (t : Stage).
+          record { run = courseOf t (g .k) (siteOf xs ls); held = take (g .len) (g .line) }) e ∙ (ap
           (λ (x : ℕ).
-          record { run = courseOf (f .stage) x (siteOf xs ls); held = take (g .len) (g .line) })
-          k
+          record { run = courseOf (f .stage) x (siteOf xs ls); held = take (g .len) (g .line) }) k
           ∙ ap
           (λ (l : List ℕ). record { run = courseOf (f .stage) (f .k) (siteOf xs ls); held = l }) h);
       stage = e;
@@ -57,8 +52,7 @@ unfolding toldText toldNext siteOf
 finish-done k next a xs line e n w =
     record {
       next = λ ls.
-          ap (λ (i : ℕ). record { run = courseOf Stage.Going i (siteOf xs ls); held = [] }) n
-          ∙ ap
+          ap (λ (i : ℕ). record { run = courseOf Stage.Going i (siteOf xs ls); held = [] }) n ∙ ap
           (λ (t : Told).
           record { run = record { run = toldNext k t; site = siteOf xs ls }; held = [] })
           (sym (told-done a (siteOf xs ls) e));
@@ -83,8 +77,7 @@ finish-refused k c a xs line e n w =
       next = λ ls.
           ap (λ (r : Run). record { run = record { run = r; site = siteOf xs ls }; held = [] })
           (sym (refused-text k a (siteOf xs ls) e .1));
-      wrote = λ ls.
-          at-most (omega arith)
+      wrote = λ ls. at-most (omega arith)
           (spelled (ap (refusedText k) n ∙ sym (refused-text k a (siteOf xs ls) e .0)) w);
       form = λ ls h. refl;
     }
@@ -96,11 +89,7 @@ unfolding memoryForm roomy
 form-rowed xs ls e =
     let room = passed _ (passed _ e .0) in
     let sizes = sizes-says (room .0) in
-    record {
-      boxes = sizes .few-boxes;
-      loads = sizes .few-loads;
-      rows = leb-true _ _ (room .1 .0);
-    }
+    record { boxes = sizes .few-boxes; loads = sizes .few-loads; rows = leb-true _ _ (room .1 .0) }
 
 -- a line that is done is not past the last
 pub in-time : (k : ℕ) (s : Site) (l : Line) (a : Answer) {xs ls xs' ls' : List ℕ}
@@ -108,11 +97,9 @@ pub in-time : (k : ℕ) (s : Site) (l : Line) (a : Answer) {xs ls xs' ls' : List
 unfolding judged
 in-time k s l a {xs' = xs'} {ls' = ls'} w h =
     pick-elim (λ (x : Told). told a (siteOf xs' ls') ≡ x → k ≤ mostLines) _
-    (λ d q. leb-true k mostLines d)
-    (λ d q. absurd
+    (λ d q. leb-true k mostLines d) (λ d q. absurd
     (let f = sym (told-done a (siteOf xs' ls') h) ∙ q in
-    let z : _≡_ {A = ℕ} 0 1 = cc in omega arith))
-    (w .answer)
+    let z : _≡_ {A = ℕ} 0 1 = cc in omega arith)) (w .answer)
 
 -- ---- the whole turn
 
@@ -131,18 +118,13 @@ answer-turn f xs ls xs' ls' l a t k q et en es r w v h =
     let now = siteOf xs ls in
     record {
       next =
-          v .next ls'
-          ∙ (ap
-          (λ (z : Told).
+          v .next ls' ∙ (ap (λ (z : Told).
           record { run = record { run = toldNext k z; site = siteOf xs' ls' }; held = [] })
           (w .answer)
           ∙ (ap (λ (z : Run). record { run = record { run = z; site = siteOf xs' ls' }; held = [] })
-          (sym en)
-          ∙ (ap
+          (sym en) ∙ (ap
           (λ (z : Site). record { run = record { run = lineNext run l; site = z }; held = [] })
-          (w .holds ∙ sym es)
-          ∙ ap
-          (λ (z : Line). record {
+          (w .holds ∙ sym es) ∙ ap (λ (z : Line). record {
             run = record { run = lineNext run z; site = lineSite run now z };
             held = [];
           })
@@ -169,14 +151,12 @@ answer-first f xs ls xs' ls' l a t e r w v h =
     answer-turn f xs ls xs' ls' l a t 1 (opened l)
     (ap (λ (s : Stage). lineText (runOf s (f .k) (siteOf xs ls)) l) e)
     (ap (λ (s : Stage). lineNext (runOf s (f .k) (siteOf xs ls)) l) e)
-    (ap (λ (s : Stage). lineSite (runOf s (f .k) (siteOf xs ls)) (siteOf xs ls) l) e)
-    r w v h
+    (ap (λ (s : Stage). lineSite (runOf s (f .k) (siteOf xs ls)) (siteOf xs ls) l) e) r w v h
 
 pub answer-going : (f : Feed) (xs ls xs' ls' : List ℕ) {x y : List ℕ} {at : ℕ} (l : Line)
     (a : Answer) (t : Turn) → f .stage ≡ Stage.Going → l ≡ readLine (take (f .len) (f .line))
     → Answers (judged (f .k) (siteOf xs ls) l) xs ls xs' ls' a → Finishes (f .k) a xs' x y at t
-    → Lent (f .stage) xs ls
-    → Turns (answered courseNext (feedingOf f xs ls))
+    → Lent (f .stage) xs ls → Turns (answered courseNext (feedingOf f xs ls))
     (lineText (runOf (f .stage) (f .k) (siteOf xs ls)) (readLine (take (f .len) (f .line))))
     xs ls xs' ls' x y at t
 unfolding lineText lineNext lineSite
@@ -184,12 +164,10 @@ answer-going f xs ls xs' ls' l a t e r w v h =
     answer-turn f xs ls xs' ls' l a t (f .k) (judged (f .k) (siteOf xs ls) l)
     (ap (λ (s : Stage). lineText (runOf s (f .k) (siteOf xs ls)) l) e)
     (ap (λ (s : Stage). lineNext (runOf s (f .k) (siteOf xs ls)) l) e)
-    (ap (λ (s : Stage). lineSite (runOf s (f .k) (siteOf xs ls)) (siteOf xs ls) l) e)
-    r w v h
+    (ap (λ (s : Stage). lineSite (runOf s (f .k) (siteOf xs ls)) (siteOf xs ls) l) e) r w v h
 
 pub answer-ended : (f : Feed) (xs ls x line : List ℕ) (k at : ℕ) → f .stage ≡ Stage.Ended
-    → Lent (f .stage) xs ls
-    → Turns (answered courseNext (feedingOf f xs ls))
+    → Lent (f .stage) xs ls → Turns (answered courseNext (feedingOf f xs ls))
     (lineText (runOf (f .stage) (f .k) (siteOf xs ls)) (readLine (take (f .len) (f .line))))
     xs ls xs ls x x at
     (record { feed = record { stage = Stage.Ended; k = k; len = 0; line = line }; at = at })
@@ -198,8 +176,7 @@ answer-ended f xs ls x line k at e h =
     let l = readLine (take (f .len) (f .line)) in
     record {
       next =
-          ap
-          (λ (s : Stage).
+          ap (λ (s : Stage).
           record { run = courseNext (courseOf s (f .k) (siteOf xs ls)) l; held = [] })
           (sym e);
       wrote =
@@ -214,16 +191,12 @@ lent-as {s} {t} {xs} {ls} e h = subst (λ (u : Stage). Lent u xs ls) e h
 
 -- the line went on before its end
 pub line-turn : (f g : Feed) (p xs ls xs' ls' : List ℕ) {x y : List ℕ} {at : ℕ} (t : Turn)
-    → Keeps f p g
-    → Turns (answered courseNext (feedingOf g xs ls))
+    → Keeps f p g → Turns (answered courseNext (feedingOf g xs ls))
     (lineText (runOf (g .stage) (g .k) (siteOf xs ls)) (readLine (take (g .len) (g .line))))
-    xs ls xs' ls' x y at t
-    → Turns (answered courseNext (holding (feedingOf f xs ls) p))
+    xs ls xs' ls' x y at t → Turns (answered courseNext (holding (feedingOf f xs ls) p))
     (lineText (runOf (f .stage) (f .k) (siteOf xs ls)) (readLine (hold (take (f .len) (f .line))
-    p)))
-    xs ls xs' ls' x y at t
+    p))) xs ls xs' ls' x y at t
 line-turn f g p xs ls xs' ls' {x} {y} {at} t w v =
-    subst
-    (λ (s : Feeding Course).
+    subst (λ (s : Feeding Course).
     Turns (answered courseNext s) (courseText (s .run) (readLine (s .held))) xs ls xs' ls' x y at t)
     (w .next xs ls) v

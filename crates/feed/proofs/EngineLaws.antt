@@ -15,7 +15,7 @@ use Rattle.rules.specs.Step.{step, holds, did, refused as no}
 use Rattle.rules.specs.declared.model.Answer.{Answer}
 use Rattle.rules.specs.declared.model.Call.{Call}
 use Rattle.rules.specs.declared.model.Refusal.{Refusal}
-use Rattle.laws.proofs.Logic.{Or, decide, and-yes, and-both, or-cases, or-no}
+use Rattle.laws.proofs.Logic.{Or, and-yes, and-both, or-cases, or-no}
 use Rattle.laws.proofs.Logic.{both-no}
 use Rattle.laws.proofs.FormLaws.{sizes-says}
 use Rattle.memory.specs.Memory.{siteWords, linksWords, siteOf, memoryForm}
@@ -27,6 +27,7 @@ use Rattle.trace.specs.Replay.{Told, refused, told, traceSizes, opened, played,
 use Rattle.trace.specs.Stops.{opens, plays}
 use Rattle.feed.specs.State.{toldSite}
 use Rattle.feed.specs.Says.{Answers}
+use Rattle.feed.proofs.EntryLaws.{either}
 use Rattle.letter.specs.Place.{headWords as letterHead}
 use Rattle.row.specs.Row.{headWords}
 
@@ -79,8 +80,7 @@ module _ (k : ℕ) (xs ls : List ℕ) (h : k ≤ mostLines) where
   stepped : (xs' ls' : List ℕ) (c : Call) (a : Answer) → a ≡ step (siteOf xs ls) c .answer
       → siteOf xs' ls' ≡ step (siteOf xs ls) c .next → memoryForm xs' ls' ≡ true
       → (isRefusal a ≡ true → (xs' ≡ xs) × (ls' ≡ ls)) → length xs' ≡ length xs
-      → length ls' ≡ length ls
-      → Answers (judged k (siteOf xs ls) (Line.Call c)) xs ls xs' ls' a
+      → length ls' ≡ length ls → Answers (judged k (siteOf xs ls) (Line.Call c)) xs ls xs' ls' a
   unfolding played
   stepped xs' ls' c a ea es f kept p q =
       let e : told a (siteOf xs' ls') ≡ judged k (siteOf xs ls) (Line.Call c) =
@@ -138,8 +138,7 @@ founded : (n J L : ℕ) (xs ls xs' ls' : List ℕ) (a : Answer) → sizesForm n 
 unfolding opened traceSizes
 founded n J L xs ls xs' ls' a s hj hl ea es f p q =
     let e : told a (siteOf xs' ls') ≡ opened (Line.Site n J L) =
-    ap (λ (b : Answer). told b (siteOf xs' ls')) ea
-    ∙ (ap (told Answer.Done) es
+    ap (λ (b : Answer). told b (siteOf xs' ls')) ea ∙ (ap (told Answer.Done) es
     ∙ sym (pick-true _ _ _ (and-both (and-both s (le-leb J 32 hj)) (le-leb L 8 hl)))) in
     record {
       answer = e;
@@ -156,27 +155,23 @@ sizes-refused : (n J L : ℕ) (xs ls : List ℕ) → traceSizes n J L ≡ false
 unfolding opened
 sizes-refused n J L xs ls e = stays _ xs ls Refusal.Sizes (pick-false _ _ _ e)
 
-not-yes : (b : Bool) → (b ≡ true → ⊥) → b ≡ false
-not-yes true h = absurd (h refl)
-not-yes false h = refl
-
 few : (n J L : ℕ) → traceSizes n J L ≡ true → (leb J 32 ≡ true) × (leb L 8 ≡ true)
 unfolding traceSizes
 few n J L e =
     let two = and-yes (sizesForm n J L && leb J 32) (leb L 8) e in
     (and-yes (sizesForm n J L) (leb J 32) (two .0) .1, two .1)
 
-too-large : (n J L : ℕ) → (ltb 32 J || ltb 8 L) ≡ true → traceSizes n J L ≡ true → ⊥
-too-large n J L h e = go (or-cases (ltb 32 J) (ltb 8 L) h)
+too-large : (n J L : ℕ) → (ltb 32 J || ltb 8 L) ≡ true → traceSizes n J L ≡ false
+too-large n J L h = either (traceSizes n J L) (λ e. absurd (go (few n J L e) (or-cases _ _ h)))
+    (λ e. e)
   where
-    go : Or (ltb 32 J ≡ true) (ltb 8 L ≡ true) → ⊥
-    go (Or.left p) = both-no (few n J L e .0) (lt-leb J 32 (ltb-true 32 J p))
-    go (Or.right p) = both-no (few n J L e .1) (lt-leb L 8 (ltb-true 8 L p))
+    go : (leb J 32 ≡ true) × (leb L 8 ≡ true) → Or (ltb 32 J ≡ true) (ltb 8 L ≡ true) → ⊥
+    go f (Or.left p) = both-no (f .0) (lt-leb J 32 (ltb-true 32 J p))
+    go f (Or.right p) = both-no (f .1) (lt-leb L 8 (ltb-true 8 L p))
 
 pub open-large : (n J L : ℕ) (xs ls : List ℕ) → (ltb 32 J || ltb 8 L) ≡ true
     → Answers (opened (Line.Site n J L)) xs ls xs ls (Answer.Refused Refusal.Sizes)
-open-large n J L xs ls h =
-    sizes-refused n J L xs ls (not-yes (traceSizes n J L) (too-large n J L h))
+open-large n J L xs ls h = sizes-refused n J L xs ls (too-large n J L h)
 
 -- there are words enough for every site of a trace
 rows-enough : (n J m : ℕ) → n ≤ 5 → J ≤ 32 → siteWords 5 32 ≤ m → siteWords n J ≤ m
@@ -184,8 +179,7 @@ rows-enough n J m hn hj h =
     let rows : n * (headWords + J) ≤ 5 * 52 = mul-le-mul {n₂ = 5} {m₂ = 52} hn
     (omega arith) in omega arith
 
-links-enough : (n J L m : ℕ) → n ≤ 5 → J ≤ 32 → L ≤ 8 → linksWords 5 32 8 ≤ m
-    → linksWords n J L ≤ m
+links-enough : (n J L m : ℕ) → n ≤ 5 → J ≤ 32 → L ≤ 8 → linksWords 5 32 8 ≤ m → linksWords n J L ≤ m
 links-enough n J L m hn hj hl h =
     let pairs : n * (n - 1) ≤ 5 * 4 = mul-le-mul {n₂ = 5} {m₂ = 4} hn (omega arith) in
     let places : L * (letterHead + J) ≤ 8 * 37 = mul-le-mul {n₂ = 8} {m₂ = 37} hl (omega arith) in
@@ -201,12 +195,9 @@ module _ (n J L : ℕ) (xs ls xs' ls' : List ℕ) (a : Answer) (w : FreshMade n 
     open-good j l hs hl s =
         let z = sizes-says s in
         let o = w .after in
-        let is : freshOn xs ls n J L ≡ did (fresh n J L) =
-        need-met _ _ _ _ _ s
-        ∙ need-met _ _ _ _ _
+        let is : freshOn xs ls n J L ≡ did (fresh n J L) = need-met _ _ _ _ _ s ∙ need-met _ _ _ _ _
         (and-both (le-leb _ _ (rows-enough n J (length xs) (z .few-boxes) j hs))
-        (le-leb _ _ (links-enough n J L (length ls) (z .few-boxes) j l hl)))
-        ∙ no-needs _ _ in
+        (le-leb _ _ (links-enough n J L (length ls) (z .few-boxes) j l hl))) ∙ no-needs _ _ in
         let done : a ≡ Answer.Done = o .answer ∙ ap (λ (r : Outcome). r .answer) is in
         founded n J L xs ls xs' ls' a s j l done (o .site ∙ ap (λ (r : Outcome). r .next) is)
         (w .form (ap isRefusal done)) (o .site-words) (o .links-words)
@@ -216,8 +207,7 @@ module _ (n J L : ℕ) (xs ls xs' ls' : List ℕ) (a : Answer) (w : FreshMade n 
     open-bad s =
         let o = w .after in
         let is : freshOn xs ls n J L ≡ no (siteOf xs ls) Refusal.Sizes = need-not _ _ _ _ _ s in
-        let b : a ≡ Answer.Refused Refusal.Sizes =
-        o .answer ∙ ap (λ (r : Outcome). r .answer) is in
+        let b : a ≡ Answer.Refused Refusal.Sizes = o .answer ∙ ap (λ (r : Outcome). r .answer) is in
         let e : told a (siteOf xs' ls') ≡ opened (Line.Site n J L) =
         ap (λ (b : Answer). told b (siteOf xs' ls')) b
         ∙ sym (pick-false _ _ _ (ap (λ (t : Bool). t && leb J 32 && leb L 8) s)) in
@@ -233,14 +223,9 @@ module _ (n J L : ℕ) (xs ls xs' ls' : List ℕ) (a : Answer) (w : FreshMade n 
 
     pub open-made : (ltb 32 J || ltb 8 L) ≡ false → siteWords 5 32 ≤ length xs
         → linksWords 5 32 8 ≤ length ls → Answers (opened (Line.Site n J L)) xs ls xs' ls' a
-    open-made h hs hl = go (or-no (ltb 32 J) (ltb 8 L) h) (decide (sizesForm n J L))
-      where
-        go : (ltb 32 J ≡ false) × (ltb 8 L ≡ false)
-            → Or (sizesForm n J L ≡ true) (sizesForm n J L ≡ false)
-            → Answers (opened (Line.Site n J L)) xs ls xs' ls' a
-        go small (Or.left s) =
-            open-good (ltb-false 32 J (small .0)) (ltb-false 8 L (small .1)) hs hl s
-        go small (Or.right s) = open-bad s
+    open-made h hs hl = let small = or-no (ltb 32 J) (ltb 8 L) h in
+        either (sizesForm n J L)
+        (open-good (ltb-false 32 J (small .0)) (ltb-false 8 L (small .1)) hs hl) open-bad
 
 pub open-first : (l : Line) (n J L : ℕ) {xs ls xs' ls' : List ℕ} {a : Answer}
     → l ≡ Line.Site n J L → Answers (opened (Line.Site n J L)) xs ls xs' ls' a

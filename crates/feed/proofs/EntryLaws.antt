@@ -1,7 +1,7 @@
 -- Laws of the entries: what a refusal leaves, and what words and room that suit the state are.
 use Prim.Native.Nat.{ℕ, _<_, _≤_}
 use mathlib.Core.Path.{_≡_, refl, ap, sym, _∙_}
-use mathlib.Core.Bool.{true, false, _&&_}
+use mathlib.Core.Bool.{Bool, true, false, _&&_}
 use mathlib.Core.List.{List}
 use lib.Dec.{leb}
 use lib.ListN.{length}
@@ -9,7 +9,7 @@ use borrow.Author.Tests.{le-leb, lt-leb, leb-true}
 use Rattle.rules.specs.Answers.{isRefusal}
 use Rattle.rules.specs.declared.model.Answer.{Answer}
 use Rattle.rules.specs.declared.model.Refusal.{Refusal}
-use Rattle.laws.proofs.Logic.{Or, decide, and-yes, both-no}
+use Rattle.laws.proofs.Logic.{and-yes, both-no}
 use Rattle.memory.specs.Memory.{siteWords, linksWords}
 use Rattle.site.proofs.AfterLaws.{no-needs, need-met, need-not}
 use Rattle.print.specs.Text.{Wrote}
@@ -20,11 +20,15 @@ use Rattle.feed.specs.Entries.{hasRoom, pieceAnswer, PieceFed, endAnswer
 use Rattle.feed.specs.declared.state.Fed.{Fed}
 use Rattle.feed.specs.declared.state.Feed.{Feed}
 
+-- by a test's answer
+pub either : {P : Type 0} (b : Bool) → (b ≡ true → P) → (b ≡ false → P) → P
+either true f g = f refl
+either false f g = g refl
+
 -- ---- a piece
 
 refused-piece : (f : Feed) (piece xs ls x : List ℕ) (why : Refusal)
-    → Answer.Refused why ≡ pieceAnswer (f .stage) xs ls x
-    → PieceFed f piece xs ls xs ls x x
+    → Answer.Refused why ≡ pieceAnswer (f .stage) xs ls x → PieceFed f piece xs ls xs ls x x
     (record { answer = Answer.Refused why; feed = f; took = 0; at = 0 })
 refused-piece f piece xs ls x why e = record {
   answer = e;
@@ -40,14 +44,12 @@ refused-piece f piece xs ls x why e = record {
 }
 
 module _ (f : Feed) (piece xs ls x : List ℕ) where
-  pub not-formed : formed (f .stage) xs ls ≡ false
-      → PieceFed f piece xs ls xs ls x x
+  pub not-formed : formed (f .stage) xs ls ≡ false → PieceFed f piece xs ls xs ls x x
       (record { answer = Answer.Refused Refusal.Form; feed = f; took = 0; at = 0 })
   unfolding pieceAnswer
   not-formed e = refused-piece f piece xs ls x Refusal.Form (sym (need-not _ _ _ _ _ e))
 
-  pub no-room : formed (f .stage) xs ls ≡ true
-      → hasRoom (length xs) (length ls) (length x) ≡ false
+  pub no-room : formed (f .stage) xs ls ≡ true → hasRoom (length xs) (length ls) (length x) ≡ false
       → PieceFed f piece xs ls xs ls x x
       (record { answer = Answer.Refused Refusal.Buffer; feed = f; took = 0; at = 0 })
   unfolding pieceAnswer
@@ -83,12 +85,8 @@ unfolding endAnswer
 end-no x e = need-not _ _ _ _ _ e
 
 pub end-room : (x : List ℕ) → isRefusal (endAnswer x) ≡ false → answerMost ≤ length x
-end-room x a = go (decide (leb answerMost (length x)))
-  where
-    go : Or (leb answerMost (length x) ≡ true) (leb answerMost (length x) ≡ false)
-        → answerMost ≤ length x
-    go (Or.left e) = leb-true answerMost (length x) e
-    go (Or.right e) = absurd (both-no (ap isRefusal (end-no x e)) a)
+end-room x a = either (leb answerMost (length x)) (leb-true answerMost (length x))
+    (λ e. absurd (both-no (ap isRefusal (end-no x e)) a))
 
 pub end-short : (f : Feed) (x : List ℕ) → length x < answerMost
     → EndSaid f x x (record { answer = Answer.Refused Refusal.Buffer; at = 0 })
@@ -98,8 +96,7 @@ end-short f x h = record {
   kept = λ a. (refl, refl);
 }
 
-pub end-said : (f : Feed) (x y : List ℕ) (at : ℕ) → answerMost ≤ length x
-    → ((xs ls : List ℕ)
+pub end-said : (f : Feed) (x y : List ℕ) (at : ℕ) → answerMost ≤ length x → ((xs ls : List ℕ)
     → Wrote answerMost x y 0 at (endText courseText (feedingOf f xs ls)))
     → EndSaid f x y (record { answer = Answer.Done; at = at })
 unfolding endAnswer

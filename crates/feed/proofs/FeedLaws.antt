@@ -43,29 +43,23 @@ take-on xs i e h =
 take-line : (xs : List ℕ) (i e : ℕ) → i ≤ e → e < length xs → getD xs e 0 ≡ 10
     → take (e + 1) xs ≡ take i xs ++ (part xs i (e - i) ++ (10 ∷ []))
 take-line xs i e h k t =
-    take-on xs i (e + 1) (omega arith)
-    ∙ ap (λ (l : List ℕ). take i xs ++ l)
+    take-on xs i (e + 1) (omega arith) ∙ ap (λ (l : List ℕ). take i xs ++ l)
     (part-more xs i e h k ∙ ap (λ (b : ℕ). part xs i (e - i) ++ (b ∷ [])) t)
 
 drop-on : (xs : List ℕ) (i e : ℕ) → i ≤ e → drop i xs ≡ part xs i (e - i) ++ drop e xs
 drop-on xs i e h =
     let q : i + (e - i) ≡ e = omega arith in
-    sym (take-append-drop (e - i) (drop i xs))
-    ∙ ap (λ (l : List ℕ). part xs i (e - i) ++ l)
+    sym (take-append-drop (e - i) (drop i xs)) ∙ ap (λ (l : List ℕ). part xs i (e - i) ++ l)
     (drop-drop (e - i) i xs ∙ ap (λ (j : ℕ). drop j xs) q)
 
 drop-line : (xs : List ℕ) (i e : ℕ) → i ≤ e → e < length xs → getD xs e 0 ≡ 10
     → drop i xs ≡ part xs i (e - i) ++ (10 ∷ drop (e + 1) xs)
 drop-line xs i e h k t =
-    drop-on xs i e h
-    ∙ ap (λ (l : List ℕ). part xs i (e - i) ++ l)
-    (drop-cons xs e 0 k
-    ∙ (ap (λ (b : ℕ). b ∷ drop (suc e) xs) t
-    ∙ ap (λ (j : ℕ). 10 ∷ drop j xs) (sym (add-one e))))
+    drop-on xs i e h ∙ ap (λ (l : List ℕ). part xs i (e - i) ++ l) (drop-cons xs e 0 k
+    ∙ (ap (λ (b : ℕ). b ∷ drop (suc e) xs) t ∙ ap (λ (j : ℕ). 10 ∷ drop j xs) (sym (add-one e))))
 
 part-length : (xs : List ℕ) (i e : ℕ) → i ≤ e → e ≤ length xs → length (part xs i (e - i)) ≡ e - i
-part-length xs i e h k =
-    length-take-le (e - i) (drop i xs) (rw length-drop (omega arith))
+part-length xs i e h k = length-take-le (e - i) (drop i xs) (rw length-drop (omega arith))
 
 -- ---- how much is taken
 
@@ -90,9 +84,7 @@ plain-taken (b ∷ p) q r s e =
 
 -- a newline is where there is room, and is not where there is none
 line-taken : (p q : List ℕ) (r : ℕ) (s : Feeding Course) → length (s .held) ≤ 65
-    → plain p ≡ true → answerMost ≤ r
-    → taken r s (p ++ (10 ∷ q))
-    ≡ length p + suc
+    → plain p ≡ true → answerMost ≤ r → taken r s (p ++ (10 ∷ q)) ≡ length p + suc
     (taken (r - length (courseText (s .run) (readLine (hold (s .held) p))))
     (feedNext courseNext s (p ++ (10 ∷ []))) q)
 unfolding taken byteText feedNext
@@ -102,11 +94,9 @@ line-taken p q r s few e h =
     pick-true _ _ _ (eq-eqb 10 10 refl)
     ∙ ap (λ (u : Feeding Course). courseText (u .run) (readLine (u .held)))
     (plain-next courseNext courseText p s few e) in
-    plain-taken p (10 ∷ q) r s e
-    ∙ ap (λ (n : ℕ). length p + n)
+    plain-taken p (10 ∷ q) r s e ∙ ap (λ (n : ℕ). length p + n)
     (pick-false _ _ _ (ap (λ (c : Bool). eqb 10 10 && c) (le-ltb r answerMost h))
-    ∙ (ap (λ (l : List ℕ). suc (taken (r - length l) (byteNext courseNext t 10) q)) text
-    ∙ ap
+    ∙ (ap (λ (l : List ℕ). suc (taken (r - length l) (byteNext courseNext t 10) q)) text ∙ ap
     (λ (u : Feeding Course).
     suc (taken (r - length (courseText (s .run) (readLine (hold (s .held) p)))) u q))
     (sym (next-append courseNext courseText s p (10 ∷ [])))))
@@ -115,15 +105,12 @@ full-taken : (p q : List ℕ) (r : ℕ) (s : Feeding Course) → plain p ≡ tru
     → taken r s (p ++ (10 ∷ q)) ≡ length p
 unfolding taken
 full-taken p q r s e h =
-    plain-taken p (10 ∷ q) r s e
-    ∙ (ap (λ (n : ℕ). length p + n)
-    (pick-true _ _ _ (ap (λ (c : Bool). eqb 10 10 && c) (lt-ltb r answerMost h)))
-    ∙ omega arith)
+    plain-taken p (10 ∷ q) r s e ∙ (ap (λ (n : ℕ). length p + n)
+    (pick-true _ _ _ (ap (λ (c : Bool). eqb 10 10 && c) (lt-ltb r answerMost h))) ∙ omega arith)
 
 all-taken : (p : List ℕ) (r : ℕ) (s : Feeding Course) → plain p ≡ true → taken r s p ≡ length p
 unfolding taken
-all-taken p r s e =
-    ap (taken r s) (sym (append-nil p)) ∙ (plain-taken p [] r s e ∙ omega arith)
+all-taken p r s e = ap (taken r s) (sym (append-nil p)) ∙ (plain-taken p [] r s e ∙ omega arith)
 
 -- ---- the loop
 
@@ -175,10 +162,8 @@ pub kept-more : (s : Feeding Course) (piece xs₀ ls₀ xs ls xs' ls' : List ℕ
     → e < n → answerMost ≤ length x - at → Kept s piece xs₀ ls₀ xs ls x y n i e g at
     → Turns (answered courseNext (holding (feedingOf g xs ls) (part piece i (e - i))))
     (lineText (runOf (g .stage) (g .k) (siteOf xs ls))
-    (readLine (hold (take (g .len) (g .line)) (part piece i (e - i)))))
-    xs ls xs' ls' y z at t
-    → LineEnd piece (e + 1) n e'
-    → Kept s piece xs₀ ls₀ xs' ls' x z n (e + 1) e' (t .feed) (t .at)
+    (readLine (hold (take (g .len) (g .line)) (part piece i (e - i))))) xs ls xs' ls' y z at t
+    → LineEnd piece (e + 1) n e' → Kept s piece xs₀ ls₀ xs' ls' x z n (e + 1) e' (t .feed) (t .at)
 kept-more s piece xs₀ ls₀ xs ls xs' ls' {x} {y} {z} n i e e' g {at} t short all l free k w more =
     let p = part piece i (e - i) in
     let q = feedNext courseNext s (take i piece) in
@@ -194,34 +179,24 @@ kept-more s piece xs₀ ls₀ xs ls xs' ls' {x} {y} {z} n i e e' g {at} t short 
     ap (λ (u : Feeding Course). length (courseText (u .run) (readLine (hold (u .held) p))))
     (k .next) in
     let less : length x - at - length (courseText (q .run) (readLine (hold (q .held) p)))
-    ≡ length x - t .at =
-    omega (arith, w .wrote .end, text) in
-    let rest : taken (length x - at) q (drop i piece)
-    ≡ length p + suc
+    ≡ length x - t .at = omega (arith, w .wrote .end, text) in
+    let rest : taken (length x - at) q (drop i piece) ≡ length p + suc
     (taken (length x - t .at) (feedNext courseNext s (take (e + 1) piece)) (drop (e + 1) piece)) =
     ap (taken (length x - at) q)
     (drop-line piece i e (k .end .from) (omega arith) (k .end .newline l))
-    ∙ (line-taken p (drop (e + 1) piece) (length x - at) q few (k .end .plain) free
-    ∙ (ap
+    ∙ (line-taken p (drop (e + 1) piece) (length x - at) q few (k .end .plain) free ∙ (ap
     (λ (r : ℕ).
-    length p + suc (taken r (feedNext courseNext q (p ++ (10 ∷ []))) (drop (e + 1) piece)))
-    less
-    ∙ ap
-    (λ (u : Feeding Course). length p + suc (taken (length x - t .at) u (drop (e + 1) piece)))
+    length p + suc (taken r (feedNext courseNext q (p ++ (10 ∷ []))) (drop (e + 1) piece))) less
+    ∙ ap (λ (u : Feeding Course). length p + suc (taken (length x - t .at) u (drop (e + 1) piece)))
     join)) in
     record {
       end = more;
       next =
-          w .next
-          ∙ (ap (λ (u : Feeding Course). answered courseNext (holding u p)) (k .next)
+          w .next ∙ (ap (λ (u : Feeding Course). answered courseNext (holding u p)) (k .next)
           ∙ (sym (line-next courseNext courseText p q few (k .end .plain)) ∙ join));
       wrote =
-          spelled
-          (ap
-          (λ (u : Feeding Course).
-          feedText courseNext courseText s (take i piece)
-          ++ courseText (u .run) (readLine (hold (u .held) p)))
-          (k .next)
+          spelled (ap (λ (u : Feeding Course). feedText courseNext courseText s (take i piece)
+          ++ courseText (u .run) (readLine (hold (u .held) p))) (k .next)
           ∙ (ap (λ (u : List ℕ). feedText courseNext courseText s (take i piece) ++ u)
           (sym (line-text courseNext courseText p q few (k .end .plain)))
           ∙ (sym (text-append courseNext courseText s (take i piece) (p ++ (10 ∷ [])))
@@ -266,20 +241,15 @@ took-is s piece xs₀ ls₀ xs ls {x} {y} n i e g {at} all stop k =
         sym (ap (λ (b : Bool). b && leb answerMost (length y - at)) h) ∙ stop in
         let full : length x - at < answerMost =
         omega (arith, leb-false answerMost (length y - at) no, k .wrote .room) in
-        sum (k .left)
-        (ap (taken (length x - at) q)
+        sum (k .left) (ap (taken (length x - at) q)
         (drop-line piece i e (k .end .from) (omega arith) (k .end .newline l))
         ∙ full-taken p (drop (e + 1) piece) (length x - at) q (k .end .plain) full)
         long (k .end .from)
-    go false h =
-        let l : n ≤ e = ltb-false e n h in
+    go false h = let l : n ≤ e = ltb-false e n h in
         let none : drop e piece ≡ [] = drop-of-length-le piece {i = e} (omega arith) in
-        sum (k .left)
-        (ap (taken (length x - at) q)
-        (drop-on piece i e (k .end .from)
+        sum (k .left) (ap (taken (length x - at) q) (drop-on piece i e (k .end .from)
         ∙ (ap (λ (t : List ℕ). p ++ t) none ∙ append-nil p))
-        ∙ all-taken p (length x - at) q (k .end .plain))
-        long (k .end .from)
+        ∙ all-taken p (length x - at) q (k .end .plain)) long (k .end .from)
 
 pub kept-all : (f : Feed) (piece xs₀ ls₀ xs ls : List ℕ) {x y : List ℕ} (n i e : ℕ) (g h : Feed)
     {at : ℕ} → length (take (f .len) (f .line)) ≤ 65 → n ≡ length piece
@@ -294,8 +264,7 @@ kept-all f piece xs₀ ls₀ xs ls {x} {y} n i e g h {at} short all stop k w =
     let few : length (q .held) ≤ 65 = feed-held courseNext courseText (take i piece) s short in
     let cut : take e piece ≡ take i piece ++ p = take-on piece i e (k .end .from) in
     let text : feedText courseNext courseText s (take e piece)
-    ≡ feedText courseNext courseText s (take i piece) =
-    ap (feedText courseNext courseText s) cut
+    ≡ feedText courseNext courseText s (take i piece) = ap (feedText courseNext courseText s) cut
     ∙ (text-append courseNext courseText s (take i piece) p
     ∙ (ap (λ (u : List ℕ). feedText courseNext courseText s (take i piece) ++ u)
     (plain-text courseNext courseText p q (k .end .plain))
@@ -306,8 +275,7 @@ kept-all f piece xs₀ ls₀ xs ls {x} {y} n i e g h {at} short all stop k w =
       answer = refl;
       took = sym (took-is s piece xs₀ ls₀ xs ls n i e g all stop k);
       next =
-          w .next xs ls
-          ∙ (ap (λ (u : Feeding Course). holding u p) (k .next)
+          w .next xs ls ∙ (ap (λ (u : Feeding Course). holding u p) (k .next)
           ∙ (sym (plain-next courseNext courseText p q few (k .end .plain))
           ∙ (sym (next-append courseNext courseText s (take i piece) p)
           ∙ ap (feedNext courseNext s) (sym cut))));
@@ -325,10 +293,8 @@ pub end-none : (f : Feed) (xs ls x : List ℕ) → f .len ≡ 0
     → Wrote answerMost x x 0 0 (endText courseText (feedingOf f xs ls))
 unfolding endText
 end-none f xs ls x e =
-    spelled
-    (sym (pick-true _ _ _
-    (eq-eqb (length (take (f .len) (f .line))) 0 (rw length-take (omega arith)))))
-    nothing
+    spelled (sym (pick-true _ _ _
+    (eq-eqb (length (take (f .len) (f .line))) 0 (rw length-take (omega arith))))) nothing
 
 end-line : (f : Feed) (xs ls : List ℕ) → length (f .line) ≡ 65 → (f .len ≡ 0 → ⊥)
     → endText courseText (feedingOf f xs ls)
@@ -356,10 +322,8 @@ end-some : (f : Feed) (xs ls : List ℕ) {x y : List ℕ} {p : ℕ} (t : Stage) 
     → length (f .line) ≡ 65 → (f .len ≡ 0 → ⊥) → Wrote answerMost x y 0 p (endedText t (f .k))
     → Wrote answerMost x y 0 p (endText courseText (feedingOf f xs ls))
 end-some f xs ls t d e h w =
-    spelled
-    (ap (λ (u : Stage). endedText u (f .k)) (sym d)
-    ∙ (ended-is (f .stage) (f .k) xs ls ∙ sym (end-line f xs ls e h)))
-    w
+    spelled (ap (λ (u : Stage). endedText u (f .k)) (sym d)
+    ∙ (ended-is (f .stage) (f .k) xs ls ∙ sym (end-line f xs ls e h))) w
 
 pub end-first : (f : Feed) (xs ls : List ℕ) {x y : List ℕ} {p : ℕ} → f .stage ≡ Stage.First
     → length (f .line) ≡ 65 → (f .len ≡ 0 → ⊥) → Wrote 50 x y 0 p (refusedText 1 11)

@@ -26,13 +26,11 @@ part-more xs i e h k =
     let one : e + 1 - i ≡ suc (e - i) = omega arith in
     let at : i + (e - i) ≡ e = omega arith in
     let room : e - i < length (drop i xs) = rw length-drop (omega arith) in
-    ap (λ (j : ℕ). part xs i j) one
-    ∙ (take-suc (drop i xs) (e - i) 0 room
+    ap (λ (j : ℕ). part xs i j) one ∙ (take-suc (drop i xs) (e - i) 0 room
     ∙ ap (λ (x : ℕ). part xs i (e - i) ++ (x ∷ []))
     (getD-drop i xs (e - i) 0 ∙ ap (λ (j : ℕ). getD xs j 0) at))
 
-plain-snoc : (p : List ℕ) (b : ℕ) → plain p ≡ true → (b ≡ 10 → ⊥)
-    → plain (p ++ (b ∷ [])) ≡ true
+plain-snoc : (p : List ℕ) (b : ℕ) → plain p ≡ true → (b ≡ 10 → ⊥) → plain (p ++ (b ∷ [])) ≡ true
 unfolding plain each
 plain-snoc [] b e h = rw (ne-eqb b 10 h) refl
 plain-snoc (a ∷ p) b e h =
@@ -84,8 +82,7 @@ held-is line xs next len n i e m full en em h k p =
     let room : m ≤ length d = rw length-drop (omega arith) in
     let front : length (take n line) ≡ n = length-take-le n line (omega arith) in
     let all : n + (65 - n) ≡ 65 = omega arith in
-    ap (λ (l : List ℕ). take (n + m) l) p
-    ∙ (take-paste line n d m (omega arith) room
+    ap (λ (l : List ℕ). take (n + m) l) p ∙ (take-paste line n d m (omega arith) room
     ∙ (ap (λ (l : List ℕ). take n line ++ l)
     (sym (take-min-by d (65 - n) (e - i) m (ltb (e - i) (65 - n)) refl em))
     ∙ (sym (take-append-add (take n line) (take (e - i) d) (65 - n))

@@ -71,8 +71,7 @@ unfolding played
 played-few s (Line.Site n J L) f = tt
 played-few s (Line.Call c) f =
     let z = sizes-step s c in
-    told-few (step s c .answer) (step s c .next)
-    (record {
+    told-few (step s c .answer) (step s c .next) (record {
       boxes = omega (arith, z .n, f .boxes);
       loads = omega (arith, z .J, f .loads);
       mails = omega (arith, z .L, f .mails);
@@ -109,22 +108,14 @@ run-sized : (stage : Stage) (k : ℕ) (xs ls : List ℕ) → FewRun (runOf stage
     → Sized stage xs
 unfolding siteOf
 run-sized Stage.First k xs ls f = tt
-run-sized Stage.Going k xs ls f = record {
-  boxes = f .boxes;
-  loads = f .loads;
-  mails = f .mails;
-}
+run-sized Stage.Going k xs ls f = record { boxes = f .boxes; loads = f .loads; mails = f .mails }
 run-sized Stage.Ended k xs ls f = tt
 
 sized-run : (stage : Stage) (k : ℕ) (xs ls : List ℕ) → Sized stage xs
     → FewRun (runOf stage k (siteOf xs ls))
 unfolding siteOf
 sized-run Stage.First k xs ls f = tt
-sized-run Stage.Going k xs ls f = record {
-  boxes = f .boxes;
-  loads = f .loads;
-  mails = f .mails;
-}
+sized-run Stage.Going k xs ls f = record { boxes = f .boxes; loads = f .loads; mails = f .mails }
 sized-run Stage.Ended k xs ls f = tt
 
 pub begins-sized : (f : Feed) (xs : List ℕ) → Begins f → Sized (f .stage) xs
@@ -136,7 +127,6 @@ pub fed-sized : (f g : Feed) (p xs ls xs' ls' : List ℕ)
     → Sized (f .stage) xs → Sized (g .stage) xs'
 fed-sized f g p xs ls xs' ls' e h =
     let few : Course → Type 0 = λ c. FewRun (c .run) in
-    run-sized (g .stage) (g .k) xs' ls'
-    (subst (λ (s : Feeding Course). few (s .run)) (sym e)
+    run-sized (g .stage) (g .k) xs' ls' (subst (λ (s : Feeding Course). few (s .run)) (sym e)
     (bytes-keep courseNext few (λ c l. line-few (c .run) l) (feedingOf f xs ls) p
     (sized-run (f .stage) (f .k) xs ls h)))

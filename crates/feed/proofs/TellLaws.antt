@@ -44,23 +44,19 @@ pub lasts-more : (xs : List ℕ) (w i : ℕ) {a b c : List ℕ} {at p q : ℕ} (
     → Wrote (21 * (i + 1)) a c at q (spaced (lastsAt xs w (i + 1)))
 lasts-more xs w i r e u v =
     let x = getD xs (i * w + 9) 0 in
-    spelled
-    (ap (λ (j : ℕ). spaced (lastsAt xs w i) ++ (32 ∷ decimal (getD xs (j + 9) 0))) e
+    spelled (ap (λ (j : ℕ). spaced (lastsAt xs w i) ++ (32 ∷ decimal (getD xs (j + 9) 0))) e
     ∙ (ap (λ (t : List ℕ). spaced (lastsAt xs w i) ++ t) (sym (spaced-one x))
-    ∙ (sym (spaced-append (lastsAt xs w i) (x ∷ []))
-    ∙ (ap spaced (sym (last-more xs w i))
+    ∙ (sym (spaced-append (lastsAt xs w i) (x ∷ [])) ∙ (ap spaced (sym (last-more xs w i))
     ∙ ap (λ (j : ℕ). spaced (lastsAt xs w j)) (sym (add-one i))))))
     (at-most (omega arith) (then u v))
 
 -- ---- they are the lasts of the boxes
 
-map-same : (n : ℕ) (f g : ℕ → ℕ) → ((b : ℕ) → In b n → f b ≡ g b)
-    → map f (upTo n) ≡ map g (upTo n)
+map-same : (n : ℕ) (f g : ℕ → ℕ) → ((b : ℕ) → In b n → f b ≡ g b) → map f (upTo n) ≡ map g (upTo n)
 unfolding upTo
 map-same zero f g same = refl
 map-same (suc n) f g same =
-    map-append f (upTo n) (suc n ∷ [])
-    ∙ (ap (λ (t : List ℕ). t ++ (f (suc n) ∷ []))
+    map-append f (upTo n) (suc n ∷ []) ∙ (ap (λ (t : List ℕ). t ++ (f (suc n) ∷ []))
     (map-same n f g (λ b h. same b (h .0, omega (arith, h .1))))
     ∙ (ap (λ (x : ℕ). map g (upTo n) ++ (x ∷ [])) (same (suc n) (omega arith, omega arith))
     ∙ sym (map-append g (upTo n) (suc n ∷ []))))
@@ -77,8 +73,7 @@ pub lasts-are : (xs : List ℕ)
     → lastsAt xs (headWords + getD xs 1 0) (getD xs 0 0) ≡ lasts (siteOf xs [])
 unfolding siteOf
 lasts-are xs =
-    map-same (getD xs 0 0)
-    (λ b. getD xs ((b - 1) * (headWords + getD xs 1 0) + 9) 0)
+    map-same (getD xs 0 0) (λ b. getD xs ((b - 1) * (headWords + getD xs 1 0) + 9) 0)
     (λ b. boxIn (getD xs 0 0) (getD xs 1 0) xs b .head .kept .last)
     (λ b h. sym (last-is (getD xs 0 0) (getD xs 1 0) b xs h))
 
@@ -98,8 +93,7 @@ rows-fit xs n j e f w =
     (subst (λ (x : ℕ). 5 + getD xs 0 0 * (20 + x) ≤ length xs) (sym f) (w .rows))
 
 pub done-is : (xs : List ℕ) (k n j : ℕ) {a b : List ℕ} {at p : ℕ} → n ≡ getD xs 0 0
-    → j ≡ getD xs 1 0 → n ≤ 5
-    → Wrote (20 + (21 + (21 * n + 1))) a b at p
+    → j ≡ getD xs 1 0 → n ≤ 5 → Wrote (20 + (21 + (21 * n + 1))) a b at p
     (decimal k ++ ((32 ∷ decimal
     (getD xs 3 0)) ++ (spaced (lastsAt xs (headWords + j) n) ++ (10 ∷ []))))
     → Wrote answerMost a b at p (doneText k (siteOf xs [] .epoch) (lasts (siteOf xs [])))

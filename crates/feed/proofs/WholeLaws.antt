@@ -12,7 +12,7 @@ use Rattle.rules.specs.Pick.{pick-false}
 use Rattle.rules.specs.Site.{Site}
 use Rattle.rules.specs.Answers.{isRefusal}
 use Rattle.rules.specs.declared.model.Answer.{Answer}
-use Rattle.laws.proofs.Logic.{Or, decide, pick-elim}
+use Rattle.laws.proofs.Logic.{pick-elim}
 use Rattle.memory.specs.Memory.{siteOf}
 use Rattle.lines.specs.declared.Line.{Line}
 use Rattle.trace.specs.Feeding.{Feeding, byteNext, byteText, feedNext, feedText, endText}
@@ -26,7 +26,7 @@ use Rattle.feed.specs.Whole.{Went, Whole}
 use Rattle.feed.specs.declared.state.End.{End}
 use Rattle.feed.specs.declared.state.Fed.{Fed}
 use Rattle.feed.specs.declared.state.Feed.{Feed}
-use Rattle.feed.proofs.EntryLaws.{end-room}
+use Rattle.feed.proofs.EntryLaws.{either, end-room}
 
 -- ---- the site beside the run changes no text
 
@@ -37,8 +37,7 @@ course-texts [] c = refl
 course-texts (l ∷ ls) c =
     ap (λ (t : List ℕ). lineText (c .run) l ++ t) (course-texts ls (courseNext c l))
 
-course-replay : (s : Site) (input : List ℕ)
-    → feedText courseNext courseText (begun s) input
+course-replay : (s : Site) (input : List ℕ) → feedText courseNext courseText (begun s) input
     ++ endText courseText (feedNext courseNext (begun s) input) ≡ replay input
 unfolding replay
 course-replay s input =
@@ -72,19 +71,14 @@ since-fed {input} {output} {f} {xs} {ls} {piece} {xs'} {ls'} {before} {after} {g
     record {
       site = w .site;
       next =
-          v .next
-          ∙ (ap (λ (q : Feeding Course). feedNext courseNext q p) (w .next)
+          v .next ∙ (ap (λ (q : Feeding Course). feedNext courseNext q p) (w .next)
           ∙ sym (next-append courseNext courseText s input p));
       text =
           ap (λ (t : List ℕ). output ++ t)
-          (front before after _ (g .at) (v .bytes) (v .end) (v .fits))
-          ∙ (ap
-          (λ (t : List ℕ). t ++ feedText courseNext courseText (feedingOf f xs ls) p)
-          (w .text)
-          ∙ (ap
-          (λ (q : Feeding Course).
-          feedText courseNext courseText s input ++ feedText courseNext courseText q p)
-          (w .next)
+          (front before after _ (g .at) (v .bytes) (v .end) (v .fits)) ∙ (ap
+          (λ (t : List ℕ). t ++ feedText courseNext courseText (feedingOf f xs ls) p) (w .text)
+          ∙ (ap (λ (q : Feeding Course).
+          feedText courseNext courseText s input ++ feedText courseNext courseText q p) (w .next)
           ∙ sym (text-append courseNext courseText s input p)));
     }
 
@@ -105,21 +99,16 @@ since-unfed {input} {output} {f} {xs} {ls} {xs'} {ls'} {before} {after} piece {g
     ap (λ (n : ℕ). output ++ take n after) (u .end) ∙ append-nil output in
     record {
       site = w .site;
-      next =
-          unfed-is u ∙ (w .next ∙ ap (feedNext courseNext (begun (w .site))) (sym i));
+      next = unfed-is u ∙ (w .next ∙ ap (feedNext courseNext (begun (w .site))) (sym i));
       text = o ∙ (w .text ∙ ap (feedText courseNext courseText (begun (w .site))) (sym i));
     }
 
 since-piece : {input output : List ℕ} {f : Feed} {xs ls piece xs' ls' before after : List ℕ}
     {g : Fed} → Since input output f xs ls → PieceFed f piece xs ls xs' ls' before after g
     → Since (input ++ take (g .took) piece) (output ++ take (g .at) after) (g .feed) xs' ls'
-since-piece {input} {output} {f} {xs} {ls} {piece} {xs'} {ls'} {before} {after} {g} w v =
-    go (decide (isRefusal (g .answer)))
-  where
-    go : Or (isRefusal (g .answer) ≡ true) (isRefusal (g .answer) ≡ false)
-        → Since (input ++ take (g .took) piece) (output ++ take (g .at) after) (g .feed) xs' ls'
-    go (Or.right e) = since-fed w (v .fed e)
-    go (Or.left e) = since-unfed piece w (v .kept e)
+since-piece {piece = piece} {g = g} w v =
+    either (isRefusal (g .answer)) (λ e. since-unfed piece w (v .kept e))
+    (λ e. since-fed w (v .fed e))
 
 since : {input output : List ℕ} {f : Feed} {xs ls : List ℕ} → Went input output f xs ls
     → Since input output f xs ls
@@ -137,12 +126,9 @@ whole = record {
       let room = end-room before (subst (λ (b : Answer). isRefusal b ≡ false) (v .answer) a) in
       ap (λ (u : List ℕ). output ++ u)
       (front before after t (e .at) (s .bytes) (omega (arith, s .end))
-      (omega (arith, s .few, s .room, room)))
-      ∙ (ap (λ (u : List ℕ). u ++ t) (z .text)
-      ∙ (ap
+      (omega (arith, s .few, s .room, room))) ∙ (ap (λ (u : List ℕ). u ++ t) (z .text) ∙ (ap
       (λ (q : Feeding Course).
-      feedText courseNext courseText (begun (z .site)) input ++ endText courseText q)
-      (z .next)
+      feedText courseNext courseText (begun (z .site)) input ++ endText courseText q) (z .next)
       ∙ course-replay (z .site) input));
 }
 
@@ -154,10 +140,7 @@ taken-part [] r s = omega arith
 taken-part (b ∷ p) r s =
     pick-elim (λ (n : ℕ). n ≤ length (b ∷ p)) (eqb b 10 && ltb r answerMost) (λ e. omega arith)
     (λ e.
-    omega (
-      arith,
-      taken-part p (r - length (byteText courseText s b)) (byteNext courseNext s b),
-    ))
+    omega (arith, taken-part p (r - length (byteText courseText s b)) (byteNext courseNext s b)))
 
 and-false : (b : Bool) → (b && false) ≡ false
 and-false true = refl
@@ -174,24 +157,16 @@ taken-some (b ∷ p) r s h l =
 
 pub piece-fits : {f : Feed} {piece xs ls xs' ls' x y : List ℕ} {g : Fed}
     → PieceFed f piece xs ls xs' ls' x y g → (g .at ≤ length y) × (g .took ≤ length piece)
-piece-fits {f} {piece} {xs} {ls} {xs'} {ls'} {x} {y} {g} w = go (decide (isRefusal (g .answer)))
-  where
-    go : Or (isRefusal (g .answer) ≡ true) (isRefusal (g .answer) ≡ false)
-        → (g .at ≤ length y) × (g .took ≤ length piece)
-    go (Or.right e) =
-        let v = w .fed e in
-        (v .fits, omega (arith, v .took, taken-part piece (length x) (feedingOf f xs ls)))
-    go (Or.left e) = let v = w .kept e in (omega (arith, v .end), omega (arith, v .took))
+piece-fits {f} {piece} {xs} {ls} {x = x} {g = g} w = either (isRefusal (g .answer))
+    (λ e. let v = w .kept e in (omega (arith, v .end), omega (arith, v .took)))
+    (λ e. let v = w .fed e in
+    (v .fits, omega (arith, v .took, taken-part piece (length x) (feedingOf f xs ls))))
 
 pub end-fits : {f : Feed} {x y : List ℕ} {e : End} → EndSaid f x y e → e .at ≤ length y
-end-fits {f} {x} {y} {e} w = go (decide (isRefusal (e .answer)))
-  where
-    go : Or (isRefusal (e .answer) ≡ true) (isRefusal (e .answer) ≡ false) → e .at ≤ length y
-    go (Or.right h) =
-        let v = w .said h [] [] in
-        let room = end-room x (subst (λ (b : Answer). isRefusal b ≡ false) (w .answer) h) in
-        omega (arith, v .few, v .room, room)
-    go (Or.left h) = omega (arith, w .kept h .1)
+end-fits {x = x} {e = e} w = either (isRefusal (e .answer)) (λ h. omega (arith, w .kept h .1))
+    (λ h. let v = w .said h [] [] in
+    let room = end-room x (subst (λ (b : Answer). isRefusal b ≡ false) (w .answer) h) in
+    omega (arith, v .few, v .room, room))
 
 -- ---- one result: what two results of a call can differ in says nothing
 
@@ -206,59 +181,41 @@ pub record Same (xs ls x : List ℕ) (g : Fed) (ys ms y : List ℕ) (h : Fed) : 
 pub once : {f : Feed} {piece xs ls xs' ls' ys ms x y z : List ℕ} {g h : Fed}
     → PieceFed f piece xs ls xs' ls' x y g → PieceFed f piece xs ls ys ms x z h
     → Same xs' ls' y g ys ms z h
-once {f} {piece} {xs} {ls} {xs'} {ls'} {ys} {ms} {x} {y} {z} {g} {h} v w =
-    go (decide (isRefusal (g .answer)))
-  where
-    a : g .answer ≡ h .answer
-    a = v .answer ∙ sym (w .answer)
-
-    go : Or (isRefusal (g .answer) ≡ true) (isRefusal (g .answer) ≡ false)
-        → Same xs' ls' y g ys ms z h
-    go (Or.right e) =
-        let p = v .fed e in
-        let q = w .fed (subst (λ (b : Answer). isRefusal b ≡ false) a e) in
-        let s = feedingOf f xs ls in
-        let t : g .took ≡ h .took = p .took ∙ sym (q .took) in
-        record {
-          answer = a;
-          took = t;
-          end =
-              p .end
-              ∙ (ap (λ (n : ℕ). length (feedText courseNext courseText s (take n piece))) t
-              ∙ sym (q .end));
-          bytes =
-              p .bytes
-              ∙ (ap (λ (n : ℕ). sets x 0 (feedText courseNext courseText s (take n piece))) t
-              ∙ sym (q .bytes));
-          next =
-              p .next
-              ∙ (ap (λ (n : ℕ). feedNext courseNext s (take n piece)) t ∙ sym (q .next));
-        }
-    go (Or.left e) =
-        let p = v .kept e in
-        let q = w .kept (subst (λ (b : Answer). isRefusal b ≡ true) a e) in
-        record {
-          answer = a;
-          took = p .took ∙ sym (q .took);
-          end = p .end ∙ sym (q .end);
-          bytes = p .bytes ∙ sym (q .bytes);
-          next = unfed-is p ∙ sym (unfed-is q);
-        }
+once {f} {piece} {xs} {ls} {x = x} {g = g} {h} v w =
+    let a : g .answer ≡ h .answer = v .answer ∙ sym (w .answer) in
+    let such : (t : Bool) → isRefusal (g .answer) ≡ t → isRefusal (h .answer) ≡ t =
+    λ t e. subst (λ (b : Answer). isRefusal b ≡ t) a e in
+    either (isRefusal (g .answer)) (λ e.
+    let p = v .kept e in
+    let q = w .kept (such true e) in
+    record {
+      answer = a;
+      took = p .took ∙ sym (q .took);
+      end = p .end ∙ sym (q .end);
+      bytes = p .bytes ∙ sym (q .bytes);
+      next = unfed-is p ∙ sym (unfed-is q);
+    }) (λ e.
+    let p = v .fed e in
+    let q = w .fed (such false e) in
+    let s = feedingOf f xs ls in
+    let t : g .took ≡ h .took = p .took ∙ sym (q .took) in
+    let text : ℕ → List ℕ = λ n. feedText courseNext courseText s (take n piece) in
+    record {
+      answer = a;
+      took = t;
+      end = p .end ∙ ap (λ (n : ℕ). length (text n)) t ∙ sym (q .end);
+      bytes = p .bytes ∙ ap (λ (n : ℕ). sets x 0 (text n)) t ∙ sym (q .bytes);
+      next = p .next ∙ ap (λ (n : ℕ). feedNext courseNext s (take n piece)) t ∙ sym (q .next);
+    })
 
 pub end-once : {f : Feed} {x y z : List ℕ} {d e : End} → EndSaid f x y d → EndSaid f x z e
     → (d .answer ≡ e .answer) × (d .at ≡ e .at) × (y ≡ z)
-end-once {f} {x} {y} {z} {d} {e} v w = go (decide (isRefusal (d .answer)))
-  where
-    a : d .answer ≡ e .answer
-    a = v .answer ∙ sym (w .answer)
-
-    go : Or (isRefusal (d .answer) ≡ true) (isRefusal (d .answer) ≡ false)
-        → (d .answer ≡ e .answer) × (d .at ≡ e .at) × (y ≡ z)
-    go (Or.right h) =
-        let p = v .said h [] [] in
-        let q = w .said (subst (λ (b : Answer). isRefusal b ≡ false) a h) [] [] in
-        (a, p .end ∙ sym (q .end), p .bytes ∙ sym (q .bytes))
-    go (Or.left h) =
-        let p = v .kept h in
-        let q = w .kept (subst (λ (b : Answer). isRefusal b ≡ true) a h) in
-        (a, p .1 ∙ sym (q .1), p .0 ∙ sym (q .0))
+end-once {d = d} {e} v w =
+    let a : d .answer ≡ e .answer = v .answer ∙ sym (w .answer) in
+    either (isRefusal (d .answer)) (λ h.
+    let p = v .kept h in
+    let q = w .kept (subst (λ (b : Answer). isRefusal b ≡ true) a h) in
+    (a, p .1 ∙ sym (q .1), p .0 ∙ sym (q .0))) (λ h.
+    let p = v .said h [] [] in
+    let q = w .said (subst (λ (b : Answer). isRefusal b ≡ false) a h) [] [] in
+    (a, p .end ∙ sym (q .end), p .bytes ∙ sym (q .bytes)))

@@ -15,6 +15,8 @@ use crate::held::read_held;
 use crate::settle::finish;
 use crate::settle::keep;
 use crate::state::Feed;
+use crate::state::MOST_J;
+use crate::state::MOST_L;
 use crate::state::Stage;
 use crate::state::Turn;
 use lines::Line;
@@ -28,7 +30,7 @@ fn open_site(site: &mut [u64], links: &mut [u64], n: u32, j: u32, l: u32) -> Ans
         ⌜ Answers (opened (Lined.Site n j l)) (now (site .entry)) (now (links .entry))
         (now (site .exit)) (now (links .exit)) a ⌝ }
 {
-    if (32 < j) | (8 < l) {
+    if (MOST_J < j) | (MOST_L < l) {
         return Answer::Refused(Refusal::Sizes);
     }
     site::fresh(site, links, n, j, l)

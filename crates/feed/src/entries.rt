@@ -6,6 +6,9 @@ use crate::piece::feed_formed;
 use crate::state::End;
 use crate::state::Fed;
 use crate::state::Feed;
+use crate::state::LINKS_WORDS;
+use crate::state::LONGEST_ANSWER;
+use crate::state::SITE_WORDS;
 use crate::state::Stage;
 use crate::tell::put_end;
 use rules::model::Answer;
@@ -49,7 +52,7 @@ fn is_formed(stage: Stage, site: &[u64], links: &[u64]) -> bool
 fn has_room(site: usize, links: usize, out: usize) -> bool
     ensures { λ r. ⌜ r ≡ hasRoom site links out ⌝ }
 {
-    (265 <= site) & (5960 <= links) & (147 <= out)
+    (SITE_WORDS <= site) & (LINKS_WORDS <= links) & (LONGEST_ANSWER <= out)
 }
 
 // Feeds as much of the piece as out has room for; the caller feeds the rest next.
@@ -82,7 +85,7 @@ pub fn feed_piece(f: Feed, piece: &[u8], site: &mut [u64], links: &mut [u64], ou
 pub fn feed_end(f: Feed, out: &mut [u8]) -> End
     ensures { λ e. ⌜ EndSaid f (now (out .entry)) (now (out .exit)) e ⌝ }
 {
-    if out.len() < 147 {
+    if out.len() < LONGEST_ANSWER {
         return End {
             answer: Answer::Refused(Refusal::Buffer),
             at: 0,

@@ -6,6 +6,7 @@ use crate::held::line_end;
 use crate::settle::keep;
 use crate::state::Fed;
 use crate::state::Feed;
+use crate::state::LONGEST_ANSWER;
 use rules::model::Answer;
 
 // Feeds as much of the piece as out has room for: up to its end, or to a newline whose answer might
@@ -27,7 +28,7 @@ pub fn feed_formed(
     let mut at = 0;
     let mut i = 0;
     let mut e = line_end(piece, 0, n);
-    while (e < n) & (147 <= out.len() - at) {
+    while (e < n) & (LONGEST_ANSWER <= out.len() - at) {
         let t = answer_line(g, piece, i, e, site, links, out, at);
         g = t.feed;
         at = t.at;

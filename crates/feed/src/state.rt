@@ -1,6 +1,23 @@
 // The state of a feeding between two pieces, and what the feeding gives back.
 use rules::model::Answer;
 
+// A trace's site has at most five boxes, "here J at most 32, L at most 8".
+const BOXES: usize = 5;
+
+pub const MOST_J: u32 = 32;
+
+pub const MOST_L: u32 = 8;
+
+// Words enough for every such site.
+pub const SITE_WORDS: usize = memory::GENERAL + BOXES * (row::HEAD + MOST_J as usize);
+
+const LINK_WORDS: usize = 2 + MOST_L as usize * (letter::HEAD + MOST_J as usize);
+
+pub const LINKS_WORDS: usize = BOXES * (BOXES - 1) * LINK_WORDS;
+
+// The longest answer to a line.
+pub const LONGEST_ANSWER: usize = 147;
+
 // No line yet, lines on a site, or the end of the run.
 pub enum Stage {
     First,

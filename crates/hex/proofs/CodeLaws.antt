@@ -12,44 +12,18 @@ use borrow.Author.Tests.{eqb-true, eqb-false}
 use Rattle.print.specs.Text.{Wrote}
 use Rattle.print.proofs.WriteLaws.{then, nothing, spelled, at-most}
 use Rattle.hex.specs.declared.Hexed.{Hexed}
-use Rattle.hex.specs.Hex.{
-  digit,
-  digitsOf,
-  hexOf,
-  small,
-  smalls,
-  Bytes,
-  HexIs,
-  read,
-  long,
-  bad,
-  valueOf,
-  Tells,
-  Digits,
-  Paired,
-  NoBytes,
-}
-use Rattle.hex.proofs.HexLaws.{
-  digit-value,
-  small-below,
-  small-at,
-  small-keeps,
-  smalls-length,
-  digits-append,
-  digits-length,
-  digits-back,
-  bytes-digits,
-  digits-bytes,
-  no-bytes,
-}
+use Rattle.hex.specs.Hex.{digit, digitsOf, hexOf, small, smalls, Bytes, HexIs, read, long}
+use Rattle.hex.specs.Hex.{bad, valueOf, Tells, Digits, Paired, NoBytes}
+use Rattle.hex.proofs.HexLaws.{digit-value, small-below, small-at, small-keeps}
+use Rattle.hex.proofs.HexLaws.{smalls-length, digits-append, digits-length, digits-back}
+use Rattle.hex.proofs.HexLaws.{bytes-digits, digits-bytes, no-bytes}
 
 two : {a b c d : ℕ} → a ≡ b → c ≡ d → a ∷ c ∷ [] ≡ b ∷ d ∷ []
 two e f = λ i. e i ∷ f i ∷ []
 
 -- ---- writing
 
-pub pair-wrote : (b x y : ℕ) {i j k : ℕ} {o p q : List ℕ} → x ≡ digit (b / 16)
-    → y ≡ digit (b % 16)
+pub pair-wrote : (b x y : ℕ) {i j k : ℕ} {o p q : List ℕ} → x ≡ digit (b / 16) → y ≡ digit (b % 16)
     → Wrote 1 o p i j (x ∷ []) → Wrote 1 p q j k (y ∷ []) → Wrote 2 o q i k (digitsOf (b ∷ []))
 unfolding digitsOf
 pair-wrote b x y e f u v = spelled (two e f) (then u v)
@@ -64,17 +38,13 @@ pub digits-more : (src : List ℕ) (i : ℕ) {o p q : List ℕ} {at j k : ℕ} �
     → Wrote 2 p q j k (digitsOf (getD src i 0 ∷ []))
     → Wrote (2 * (i + 1)) o q at k (digitsOf (take (i + 1) src))
 digits-more src i h u v =
-    at-most (omega arith)
-    (spelled
-    (sym (digits-append (take i src) (getD src i 0 ∷ []))
-    ∙ ap digitsOf (sym (rw add-one (take-suc src i 0 h))))
-    (then u v))
+    at-most (omega arith) (spelled (sym (digits-append (take i src) (getD src i 0 ∷ []))
+    ∙ ap digitsOf (sym (rw add-one (take-suc src i 0 h)))) (then u v))
 
 pub digits-all : (src : List ℕ) (i : ℕ) {o p : List ℕ} {at j : ℕ} → length src ≤ i
     → i ≤ length src → Wrote (2 * i) o p at j (digitsOf (take i src))
     → Wrote (2 * length src) o p at j (digitsOf src)
-digits-all src i h k w =
-    at-most (omega arith) (spelled (ap digitsOf (take-all i src h)) w)
+digits-all src i h k w = at-most (omega arith) (spelled (ap digitsOf (take-all i src h)) w)
 
 pub hex-none : (src : List ℕ) {o p : List ℕ} {at j : ℕ} → length src ≡ 0
     → Wrote 1 o p at j (45 ∷ []) → Wrote (2 * length src + 1) o p at j (hexOf src)
@@ -103,8 +73,7 @@ take-two : (text : List ℕ) (k : ℕ) → k + 1 < length text
 take-two text k h =
     let e : k + 2 ≡ suc (k + 1) = omega arith in
     let f : k + 1 ≡ suc k = omega arith in
-    ap (λ (n : ℕ). take n text) e
-    ∙ take-suc text (k + 1) 0 h
+    ap (λ (n : ℕ). take n text) e ∙ take-suc text (k + 1) 0 h
     ∙ ap (λ (n : ℕ). take n text ++ (getD text (k + 1) 0 ∷ [])) f
     ∙ ap (λ (l : List ℕ). l ++ (getD text (k + 1) 0 ∷ [])) (take-suc text k 0 (omega arith))
     ∙ append-assoc (take k text) (getD text k 0 ∷ []) (getD text (k + 1) 0 ∷ [])
@@ -126,12 +95,10 @@ got-more text out i x y w d h e f g =
     let n : 2 * (i + 1) ≡ 2 * i + 2 = omega arith in
     let s : take (i + 1) (set out i (x * 16 + y)) ≡ take i out ++ ((x * 16 + y) ∷ []) =
     rw add-one (take-suc-set out i (x * 16 + y) h) in
-    ap digitsOf s
-    ∙ digits-append (take i out) ((x * 16 + y) ∷ [])
+    ap digitsOf s ∙ digits-append (take i out) ((x * 16 + y) ∷ [])
     ∙ ap (λ (l : List ℕ). l ++ digitsOf ((x * 16 + y) ∷ [])) g
     ∙ ap (λ (l : List ℕ). take (2 * i) text ++ l) (two u v)
-    ∙ sym (take-two text (2 * i) (omega arith))
-    ∙ ap (λ (k : ℕ). take k text) (sym n)
+    ∙ sym (take-two text (2 * i) (omega arith)) ∙ ap (λ (k : ℕ). take k text) (sym n)
 
 pub got-all : (text out : List ℕ) (i : ℕ) → length text ≡ 2 * length out → length out ≤ i
     → digitsOf (take i out) ≡ take (2 * i) text → digitsOf out ≡ text
@@ -175,8 +142,7 @@ read-none text o h = read [] no-bytes (omega arith) (sym (h .dash))
 
 pub pairs-fill : (text o : List ℕ) (k : ℕ) → Paired (smalls text) → k ≡ length text / 2
     → k ≤ length o → length text ≡ 2 * length (take k o)
-pairs-fill text o k p m h =
-    omega (arith, p .even, smalls-length text, length-take-le k o h)
+pairs-fill text o k p m h = omega (arith, p .even, smalls-length text, length-take-le k o h)
 
 -- a text that is neither `-` nor pairs of digits
 some-paired : (b : ℕ) (bs : List ℕ) → Bytes (b ∷ bs) → Paired (digitsOf (b ∷ bs))
@@ -195,8 +161,7 @@ read-bad text o h k = bad go
 -- pairs of digits for more bytes than there is room for
 long-bytes : (text o bs : List ℕ) → Paired (smalls text) → length o < length text / 2
     → digitsOf bs ≡ smalls text → HexIs text o Hexed.Long o
-long-bytes text o [] p l e =
-    absurd (omega (arith, p .some, ap length e, digits-length []))
+long-bytes text o [] p l e = absurd (omega (arith, p .some, ap length e, digits-length []))
 long-bytes text o (b ∷ bs) p l e =
     long (b ∷ bs) (digits-bytes (b ∷ bs) (subst Digits (sym e) (p .digits)))
     (omega (arith, ap length e, digits-length (b ∷ bs), smalls-length text)) e
@@ -215,5 +180,4 @@ read-all text o (b ∷ bs) n k p m f l e =
     omega (arith, ap length e, digits-length (b ∷ bs), smalls-length text, p .even) in
     subst (λ (x : ℕ). HexIs text o (Hexed.Length n) ((b ∷ bs) ++ drop x o)) (sym f)
     (subst (λ (x : ℕ). HexIs text o (Hexed.Length x) ((b ∷ bs) ++ drop x o)) (sym g)
-    (read (b ∷ bs) (digits-bytes (b ∷ bs) (subst Digits (sym e) (p .digits)))
-    (omega arith) e))
+    (read (b ∷ bs) (digits-bytes (b ∷ bs) (subst Digits (sym e) (p .digits))) (omega arith) e))

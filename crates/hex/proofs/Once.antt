@@ -11,20 +11,9 @@ use borrow.Author.Tests.{ltb-true, ltb-false}
 use Rattle.hex.specs.declared.Hexed.{Hexed}
 use Rattle.hex.specs.Hex.{digit, digitsOf, hexOf, small, smalls, Bytes, HexIs, valueOf}
 use Rattle.hex.specs.Hex.{read, long, bad}
-use Rattle.hex.proofs.HexLaws.{
-  low-digit,
-  high-digit,
-  value-digit,
-  value-below,
-  small-below,
-  small-above,
-  small-at,
-  smalls-length,
-  digits-length,
-  bytes-head,
-  bytes-tail,
-  bytes-digits,
-}
+use Rattle.hex.proofs.HexLaws.{low-digit, high-digit, value-digit, value-below, small-below}
+use Rattle.hex.proofs.HexLaws.{small-above, small-at, smalls-length, digits-length}
+use Rattle.hex.proofs.HexLaws.{bytes-head, bytes-tail, bytes-digits}
 
 digit-same : (d e : ℕ) → d < 16 → e < 16 → digit d ≡ digit e → d ≡ e
 digit-same d e h k p = sym (value-digit d h) ∙ ap valueOf p ∙ value-digit e k
@@ -75,9 +64,7 @@ pub no-space : (bs text : List ℕ) → Bytes bs → hexOf bs ≡ smalls text �
     → k < length text → getD text k 0 ≡ 32 → ⊥
 no-space bs text h w k l e =
     spaceless bs h k (omega (arith, ap length w, smalls-length text))
-    (ap (λ (t : List ℕ). getD t k 0) w
-    ∙ small-at text k
-    ∙ ap small e
+    (ap (λ (t : List ℕ). getD t k 0) w ∙ small-at text k ∙ ap small e
     ∙ small-below 32 (omega arith))
 
 -- a digit that is written is small

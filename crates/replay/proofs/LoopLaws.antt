@@ -45,8 +45,7 @@ rest piece i = take-all (length piece - i) (drop i piece) (rw length-drop (omega
 
 -- some more of it is fed at each turn, and never more than is left
 pub goes-on : (piece xs ls xs' ls' x y : List ℕ) (i : ℕ) (g : Feed) (t : Fed) → i < length piece
-    → answerMost ≤ length x
-    → Feeds g (take (length piece - i) (drop i piece)) xs ls xs' ls' x y t
+    → answerMost ≤ length x → Feeds g (take (length piece - i) (drop i piece)) xs ls xs' ls' x y t
     → (0 < t .took) × (i + t .took ≤ length piece)
 goes-on piece xs ls xs' ls' x y i g t l room w =
     let s = feedingOf g xs ls in
@@ -68,18 +67,15 @@ kept-more s piece xs₀ ls₀ xs ls xs' ls' {x} {y} {z} i g t l room k w =
     record {
       within = goes-on piece xs ls xs' ls' y z i g t l room w .1;
       next =
-          w .next
-          ∙ (ap (λ (u : List ℕ). feedNext courseNext (feedingOf g xs ls) (take (t .took) u))
-          (rest piece i)
-          ∙ (ap (λ (u : Feeding Course). feedNext courseNext u p) (k .next)
+          w .next ∙ (ap (λ (u : List ℕ). feedNext courseNext (feedingOf g xs ls) (take (t .took) u))
+          (rest piece i) ∙ (ap (λ (u : Feeding Course). feedNext courseNext u p) (k .next)
           ∙ (sym (next-append courseNext courseText s (take i piece) p)
           ∙ ap (feedNext courseNext s) (sym (take-add i (t .took) piece)))));
       lent = w .lent;
       site = w .site ∙ k .site;
       links = w .links ∙ k .links;
       out =
-          ap length (w .bytes)
-          ∙ (length-sets y 0
+          ap length (w .bytes) ∙ (length-sets y 0
           (feedText courseNext courseText (feedingOf g xs ls)
           (take (t .took) (take (length piece - i) (drop i piece))))
           ∙ k .out);

@@ -2,6 +2,9 @@
 //
 // With the argument `report` it tells at its end, on descriptor 3, how it went: 0 read to its end,
 // 1 refused, 3 input or output failed. With `report image` the site's image goes to descriptor 4.
+use feed::state::LINKS_WORDS;
+use feed::state::SITE_WORDS;
+
 mod run;
 mod site_image;
 mod tell;
@@ -18,8 +21,8 @@ fn finish(status: u8, site: &[u64], links: &[u64], out: &mut [u8]) -> u8 {
 }
 
 fn main() {
-    let mut site = [0u64; 265];
-    let mut links = [0u64; 5960];
+    let mut site = [0u64; SITE_WORDS];
+    let mut links = [0u64; LINKS_WORDS];
     let mut input = io::large_buffer();
     let mut out = io::large_buffer();
     let status = run::run(&mut site, &mut links, &mut input, &mut out);

@@ -2,6 +2,9 @@
 // whole, into buffers of different lengths, and writes what it says: the same each time.
 ghost use mathlib.Core.Path.{_≡_};
 ghost use Prim.Native.Nat.{min};
+use feed::state::LINKS_WORDS;
+use feed::state::LONGEST_ANSWER;
+use feed::state::SITE_WORDS;
 use libc::STDIN_FILENO;
 use libc::STDOUT_FILENO;
 
@@ -44,11 +47,11 @@ fn feed_cuts(input: &[u8], site: &mut [u64], links: &mut [u64], out: &mut [u8], 
 }
 
 fn main() {
-    let mut site = [0u64; 265];
-    let mut links = [0u64; 5960];
+    let mut site = [0u64; SITE_WORDS];
+    let mut links = [0u64; LINKS_WORDS];
     let mut input = io::large_buffer();
     let mut out = io::large_buffer();
-    let mut small = [0u8; 147];
+    let mut small = [0u8; LONGEST_ANSWER];
     let n = io::read_full(STDIN_FILENO, &mut input);
     feed_cuts(&input[..n], &mut site, &mut links, &mut out, &mut small);
 }

@@ -2,6 +2,22 @@
 use crate::marks;
 use std::num::wrapping_add_usize;
 
+// The general words, and where the sizes stand among them.
+const N: usize = 0;
+
+const J: usize = 1;
+
+const L: usize = 2;
+
+const GENERAL: usize = 5;
+
+// What stands before the records of a box and of a mail, and before the mails of a link.
+const ROW_HEAD: usize = 20;
+
+const PLACE_HEAD: usize = 5;
+
+const LINK_HEAD: usize = 2;
+
 fn get(words: &[u64], at: usize) -> usize {
     if at < words.len() {
         return words[at] as usize;
@@ -20,25 +36,25 @@ fn many(k: usize, width: usize) -> usize {
     sum
 }
 
-// 5 general words, and a row of 20 + J for each box.
+// The general words, and a row for each box.
 fn site_end(n: usize, j: usize) -> usize {
-    wrapping_add_usize(5, many(n, wrapping_add_usize(20, j)))
+    wrapping_add_usize(GENERAL, many(n, wrapping_add_usize(ROW_HEAD, j)))
 }
 
-// 2 words and L places of 5 + J for each ordered pair of different boxes.
+// A link of L places for each ordered pair of different boxes.
 fn links_end(n: usize, j: usize, l: usize) -> usize {
     if n < 1 {
         return 0;
     }
-    let link = wrapping_add_usize(2, many(l, wrapping_add_usize(5, j)));
+    let link = wrapping_add_usize(LINK_HEAD, many(l, wrapping_add_usize(PLACE_HEAD, j)));
     many(n, many(n - 1, link))
 }
 
 // The words past those of the site that they hold are as they were.
 pub(crate) fn rest_kept(site: &[u64], links: &[u64]) -> bool {
-    let n = get(site, 0);
-    let j = get(site, 1);
-    let l = get(site, 2);
+    let n = get(site, N);
+    let j = get(site, J);
+    let l = get(site, L);
     if 5 < n {
         return false;
     }

@@ -4,6 +4,12 @@ use crate::lent;
 use crate::lent::Lent;
 use crate::see;
 use crate::show;
+use crate::spots::EPOCH;
+use crate::spots::J;
+use crate::spots::L;
+use crate::spots::N;
+use crate::spots::PRESENT;
+use crate::spots::ROW_HEAD;
 use crate::spots::get;
 use crate::spots::row_at;
 use own::Sent;
@@ -21,11 +27,11 @@ fn short(x: u64) -> u32 {
 
 fn setting(site: &[u64], me: u32) -> Setting {
     Setting {
-        n: short(get(site, 0)),
-        j: short(get(site, 1)),
-        l: short(get(site, 2)),
-        epoch: short(get(site, 3)),
-        present: short(get(site, 4)),
+        n: short(get(site, N)),
+        j: short(get(site, J)),
+        l: short(get(site, L)),
+        epoch: short(get(site, EPOCH)),
+        present: short(get(site, PRESENT)),
         me,
     }
 }
@@ -51,7 +57,7 @@ fn row_end(a: usize, j: u32, most: usize) -> usize
     requires { ⌜ a ≤ most ⌝ }
     ensures { λ r. ⌜ (a ≤ r) × (r ≤ most) ⌝ }
 {
-    let width = 20 + j as usize;
+    let width = ROW_HEAD + j as usize;
     if width < most - a {
         return a + width;
     }

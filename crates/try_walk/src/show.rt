@@ -1,5 +1,7 @@
 // What is written of a line.
 use crate::lent::Lent;
+use crate::spots::EPOCH;
+use crate::spots::LAST;
 use crate::spots::get;
 use crate::spots::row_at;
 use libc::STDOUT_FILENO;
@@ -58,7 +60,7 @@ fn boxes(n: u32) -> u64 {
 // The epoch, and the last agreed number of each box.
 pub(crate) fn standing(z: Lent, site: &[u64]) {
     text(b" | ");
-    number(get(site, 3));
+    number(get(site, EPOCH));
     text(b" |");
     let n = boxes(z.n);
     let mut c = 0;
@@ -70,5 +72,5 @@ pub(crate) fn standing(z: Lent, site: &[u64]) {
 }
 
 fn last_at(j: u32, c: u64) -> usize {
-    std::num::wrapping_add_usize(row_at(j, c), 4)
+    std::num::wrapping_add_usize(row_at(j, c), LAST)
 }

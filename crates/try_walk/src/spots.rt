@@ -2,6 +2,36 @@
 use std::num::wrapping_add_u64;
 use std::num::wrapping_add_usize;
 
+// The general words, and where they stand.
+pub(crate) const N: usize = 0;
+
+pub(crate) const J: usize = 1;
+
+pub(crate) const L: usize = 2;
+
+pub(crate) const EPOCH: usize = 3;
+
+pub(crate) const PRESENT: usize = 4;
+
+pub(crate) const GENERAL: usize = 5;
+
+// A box's row: its last agreed number, its count of records, and its words before these.
+pub(crate) const LAST: usize = 4;
+
+pub(crate) const ROW_COUNT: usize = 19;
+
+pub(crate) const ROW_HEAD: usize = 20;
+
+// A place of a mail: its count of records, and its words before these.
+pub(crate) const PLACE_COUNT: usize = 4;
+
+pub(crate) const PLACE_HEAD: usize = 5;
+
+// A link: its first place, its count of mails, and its words before the places.
+pub(crate) const LINK_COUNT: usize = 1;
+
+pub(crate) const LINK_HEAD: usize = 2;
+
 pub(crate) fn get(words: &[u64], at: usize) -> u64 {
     if at < words.len() {
         return words[at];
@@ -51,16 +81,16 @@ fn less_two(k: u64) -> usize {
     (k - 2) as usize
 }
 
-// The row of box c: 5 general words and the rows of the boxes before it.
+// The row of box c: behind the general words and the rows of the boxes before it.
 pub(crate) fn row_at(j: u32, c: u64) -> usize {
-    let width = wrapping_add_usize(20, j as usize);
-    wrapping_add_usize(5, many(less_one(c), width))
+    let width = wrapping_add_usize(ROW_HEAD, j as usize);
+    wrapping_add_usize(GENERAL, many(less_one(c), width))
 }
 
 // The row of the link from a to b: the links of the senders before a, those of a to boxes before b.
 pub(crate) fn link_at(n: u32, j: u32, l: u32, a: u64, b: u64) -> usize {
-    let place = wrapping_add_usize(5, j as usize);
-    let width = wrapping_add_usize(2, many(l as usize, place));
+    let place = wrapping_add_usize(PLACE_HEAD, j as usize);
+    let width = wrapping_add_usize(LINK_HEAD, many(l as usize, place));
     let own = if b < a { less_one(b) } else { less_two(b) };
     let before = many(less_one(a), less_one(n as u64));
     many(wrapping_add_usize(before, own), width)
@@ -79,7 +109,7 @@ pub(crate) fn after(p: usize, l: usize) -> usize {
 // one mail less.
 pub(crate) fn hand_over(links: &mut [u64], at: usize, l: u32) {
     let first = after(get(links, at) as usize, l as usize);
-    let count = wrapping_add_usize(at, 1);
+    let count = wrapping_add_usize(at, LINK_COUNT);
     let left = less_one(get(links, count));
     put(links, at, first as u64);
     put(links, count, left as u64);

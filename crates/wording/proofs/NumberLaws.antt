@@ -37,8 +37,7 @@ one x c =
     let b : fromEnd (x ++ t) 2 ≡ 48 + c = near-end x t 2 (omega arith) (omega arith) in
     rw (a, b) (pick-false _ _ _ refl ∙ omega arith)
 
-two : (x : List ℕ) (d e : ℕ) → d < 10
-    → codeOf (x ++ ((48 + d) ∷ (48 + e) ∷ 10 ∷ [])) ≡ d * 10 + e
+two : (x : List ℕ) (d e : ℕ) → d < 10 → codeOf (x ++ ((48 + d) ∷ (48 + e) ∷ 10 ∷ [])) ≡ d * 10 + e
 unfolding codeOf
 two x d e h =
     let t : List ℕ = (48 + d) ∷ (48 + e) ∷ 10 ∷ [] in

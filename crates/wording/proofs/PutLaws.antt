@@ -21,8 +21,7 @@ front k s = go (ltb k (length s)) refl
         let l = ltb-true k (length s) e in
         let q : min (length s) k ≡ k = omega arith in
         ap (λ (i : ℕ). take i s) q
-    go false e =
-        let l = ltb-false k (length s) e in
+    go false e = let l = ltb-false k (length s) e in
         take-all (min (length s) k) s (omega arith) ∙ sym (take-all k s (omega arith))
 
 pub put-is : (o p s : List ℕ) (at a n r : ℕ) → a ≡ min at (length o)

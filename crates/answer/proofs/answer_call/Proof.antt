@@ -1,4 +1,3 @@
--- `answer::answer_call` meets its contract.
 use native.Mathlib.Omega.{arith}
 use Rattle.answer.proofs.CallLaws.{call-within, told-call}
 use borrow.Author.Needs.{needs}
@@ -21,8 +20,6 @@ returns c =
     told-call (at-call-on-image .call-on-image .ensures) (start .pre .0) (at-tell .tell .ensures)
 
 pub answer-call-spec : {M : Type 1} → statement M
-answer-call-spec =
-    tie.close
-    (tie.spec
-    (λ c κs. search needs) tell-requires (λ c. search needs) (λ c. search needs)
-    (λ c. search needs) (λ c. search needs) returns)
+answer-call-spec = tie.close (tie.spec
+    (λ c κs. search needs) tell-requires (λ c. search needs) (λ c. search needs) (λ c. search needs)
+    (λ c. search needs) returns)

@@ -1,4 +1,3 @@
--- `hex::all_digits` meets its contract.
 use Prim.Native.Nat.{ℕ, _≤_, _<_, _-_}
 use native.Mathlib.Omega.{arith}
 use lib.ListN.{length, getD}
@@ -16,17 +15,13 @@ Inv-loop text i₀ i = (i ≤ length text) × ((k : ℕ) → k < i → valueOf (
 abbrev μ-loop : tie.MeasureT-loop
 μ-loop text i₀ i = length text - i
 
-loop-holds : tie.Need-loop-holds Inv-loop μ-loop
-loop-holds c = (omega arith, λ k h. absurd (omega arith))
-
 returns : tie.Need-returns Inv-loop μ-loop
 returns c =
     let at-loop-test = c .before .before .before in
     let at-loop = at-loop-test .before in
     let text = at-loop .before .before .args .text .now in
     let i = at-loop .loop .i in
-    λ d.
-    omega (
+    λ d. omega (
       arith,
       d .each i (omega (arith, smalls-length text)),
       digit-read text i _ (c .before .value .ensures .0),
@@ -48,8 +43,6 @@ returns-2 c =
     record { each = λ k h. at-loop .loop .inv .1 k (omega (arith, smalls-length text)) }
 
 pub all-digits-spec : {M : Type 1} → statement M
-all-digits-spec =
-    tie.close
-    (tie.spec
-    Inv-loop μ-loop loop-holds (λ c. search needs) (λ c κs. search needs) returns
-    (λ c. search needs) (λ c. search needs) loop-again returns-2)
+all-digits-spec = tie.close (tie.spec
+    Inv-loop μ-loop (λ c. (omega arith, λ k h. absurd (omega arith))) (λ c. search needs)
+    (λ c κs. search needs) returns (λ c. search needs) (λ c. search needs) loop-again returns-2)

@@ -1,18 +1,10 @@
--- `hex::digit` meets its contract.
 use mathlib.Core.Path.{sym}
 use Rattle.hex.proofs.HexLaws.{low-digit, high-digit}
 use borrow.Author.Needs.{needs}
 use Rattle.hex.proofs.digit.Statement.{statement}
 use Rattle.hex.proofs.digit.Tie as tie
 
-returns : tie.Need-returns
-returns c = sym (low-digit _ (c .if1 .taken))
-
-returns-2 : tie.Need-returns-2
-returns-2 c = sym (high-digit _ (c .if1 .left))
-
 pub digit-spec : {M : Type 1} → statement M
-digit-spec =
-    tie.close
-    (tie.spec
-    (λ c. search needs) (λ c. search needs) returns returns-2)
+digit-spec = tie.close (tie.spec
+    (λ c. search needs) (λ c. search needs) (λ c. sym (low-digit _ (c .if1 .taken)))
+    (λ c. sym (high-digit _ (c .if1 .left))))

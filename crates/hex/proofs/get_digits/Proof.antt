@@ -1,4 +1,3 @@
--- `hex::get_digits` meets its contract.
 use Prim.Native.Nat.{_≤_, _-_, _+_, _*_}
 use mathlib.Core.Path.{_≡_, refl, _∙_}
 use native.Mathlib.Omega.{arith}
@@ -73,9 +72,7 @@ returns c =
     (omega (arith, smalls-length text)) (omega arith) (c .before .loop .inv .2)
 
 pub get-digits-spec : {M : Type 1} → statement M
-get-digits-spec =
-    tie.close
-    (tie.spec
+get-digits-spec = tie.close (tie.spec
     Inv-loop μ-loop loop-holds (λ c. search needs) (λ c. search needs) (λ c κs. search needs)
     (λ c. search needs) (λ c. search needs) (λ c. search needs) (λ c κs. search needs) mul-out
     add-out (λ c. search needs) (λ c. search needs) (λ c. search needs) loop-again

@@ -1,4 +1,3 @@
--- `hex::is_no_bytes` meets its contract.
 use mathlib.Core.Path.{ap, sym, _∙_}
 use lib.ListN.{length}
 use Rattle.hex.proofs.HexLaws.{smalls-length}
@@ -15,7 +14,4 @@ returns-2 : tie.Need-returns-2
 returns-2 c = is-dash ((c .before .before) .args .text .now) (c .before .if1 .left)
 
 pub is-no-bytes-spec : {M : Type 1} → statement M
-is-no-bytes-spec =
-    tie.close
-    (tie.spec
-    returns (λ c. search needs) returns-2)
+is-no-bytes-spec = tie.close (tie.spec returns (λ c. search needs) returns-2)

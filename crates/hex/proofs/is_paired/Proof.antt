@@ -1,4 +1,3 @@
--- `hex::is_paired` meets its contract.
 use Rattle.hex.proofs.CodeLaws.{paired-when, pairs-some, pairs-even}
 use borrow.Author.Needs.{needs}
 use Rattle.hex.proofs.is_paired.Statement.{statement}
@@ -16,7 +15,4 @@ returns-3 c =
     (c .before .before .if1 .left) (c .before .if2 .left) (c .all-digits .ensures)
 
 pub is-paired-spec : {M : Type 1} → statement M
-is-paired-spec =
-    tie.close
-    (tie.spec
-    returns returns-2 (λ c κs. search needs) returns-3)
+is-paired-spec = tie.close (tie.spec returns returns-2 (λ c κs. search needs) returns-3)

@@ -1,4 +1,3 @@
--- `hex::put_digits` meets its contract.
 use Prim.Native.Nat.{_≤_, _-_, _*_}
 use native.Mathlib.Omega.{arith}
 use lib.ListN.{length, take}
@@ -29,15 +28,10 @@ loop-again c =
           (at-put-pair .put-pair .ensures),
     )
 
-same-length : tie.Need-same-length Inv-loop μ-loop
-same-length c = c .before .loop .inv .1 .room
-
 returns : tie.Need-returns Inv-loop μ-loop
 returns c = digits-all _ _ (c .loop-test .left) (c .before .loop .inv .0) (c .before .loop .inv .1)
 
 pub put-digits-spec : {M : Type 1} → statement M
-put-digits-spec =
-    tie.close
-    (tie.spec
+put-digits-spec = tie.close (tie.spec
     Inv-loop μ-loop loop-holds (λ c. search needs) (λ c κs. search needs) (λ c. search needs)
-    (λ c. search needs) loop-again same-length returns)
+    (λ c. search needs) loop-again (λ c. c .before .loop .inv .1 .room) returns)

@@ -1,4 +1,3 @@
--- `hex::put_hex` meets its contract.
 use Rattle.hex.proofs.CodeLaws.{hex-none, hex-some}
 use borrow.Author.Needs.{needs}
 use Rattle.hex.proofs.put_hex.Statement.{statement}
@@ -14,8 +13,6 @@ returns-2 c =
     (c .before .before .before .before .if1 .left) (c .before .before .put-digits .ensures)
 
 pub put-hex-spec : {M : Type 1} → statement M
-put-hex-spec =
-    tie.close
-    (tie.spec
+put-hex-spec = tie.close (tie.spec
     (λ c κs. search needs) (λ c. search needs) returns (λ c κs. search needs) (λ c. search needs)
     returns-2)

@@ -1,4 +1,3 @@
--- `hex::put_pair` meets its contract.
 use Rattle.hex.proofs.CodeLaws.{pair-wrote}
 use borrow.Author.Needs.{needs}
 use Rattle.hex.proofs.put_pair.Statement.{statement}
@@ -14,8 +13,6 @@ returns c =
     (at-put-byte .put-byte .ensures) (at-put-byte2 .put-byte2 .ensures)
 
 pub put-pair-spec : {M : Type 1} → statement M
-put-pair-spec =
-    tie.close
-    (tie.spec
+put-pair-spec = tie.close (tie.spec
     (λ c κs. search needs) (λ c κs. search needs) (λ c κs. search needs) (λ c κs. search needs)
     (λ c. search needs) returns)

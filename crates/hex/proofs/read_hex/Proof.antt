@@ -1,4 +1,3 @@
--- `hex::read_hex` meets its contract.
 use Prim.Native.Nat.{_-_, _/_}
 use lib.ListN.{length}
 use borrow.Author.Tests.{not-true, not-false}
@@ -26,8 +25,7 @@ returns-3 : tie.Need-returns-3
 returns-3 c =
     let at-if2 = c .before in
     let at-is-paired = at-if2 .before in
-    read-long _ _ _
-    (tells-yes (at-is-paired .is-paired .result)
+    read-long _ _ _ (tells-yes (at-is-paired .is-paired .result)
     (not-false (at-is-paired .is-paired .result) (at-if2 .if2 .left))
     (at-is-paired .is-paired .ensures)) refl (c .if3 .taken)
 
@@ -52,15 +50,12 @@ returns-4 c =
     let at-is-paired = at-if2 .before in
     let start = at-is-paired .before .before .before .before .before in
     let text = start .args .text .now in
-    read-all _ _ _ _ (length text / 2 - 0)
-    (tells-yes (at-is-paired .is-paired .result)
+    read-all _ _ _ _ (length text / 2 - 0) (tells-yes (at-is-paired .is-paired .result)
     (not-false (at-is-paired .is-paired .result) (at-if2 .if2 .left))
     (at-is-paired .is-paired .ensures)) refl (omega arith) (at-if3 .if3 .left)
     (at-get-digits .get-digits .ensures)
 
 pub read-hex-spec : {M : Type 1} → statement M
-read-hex-spec =
-    tie.close
-    (tie.spec
+read-hex-spec = tie.close (tie.spec
     (λ c κs. search needs) returns (λ c κs. search needs) returns-2 returns-3 (λ c. search needs)
     (λ c. search needs) (λ c. search needs) get-digits-requires (λ c. search needs) returns-4)

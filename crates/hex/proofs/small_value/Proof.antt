@@ -1,4 +1,3 @@
--- `hex::small_value` meets its contract.
 use mathlib.Core.Path.{sym}
 use native.Mathlib.Omega.{arith}
 use Rattle.hex.proofs.HexLaws.{value-below, value-low, value-between, value-high}
@@ -6,9 +5,6 @@ use Rattle.hex.proofs.HexLaws.{value-above}
 use borrow.Author.Needs.{needs}
 use Rattle.hex.proofs.small_value.Statement.{statement}
 use Rattle.hex.proofs.small_value.Tie as tie
-
-returns : tie.Need-returns
-returns c = (sym (value-below _ (c .if1 .taken)), omega arith)
 
 returns-2 : tie.Need-returns-2
 returns-2 c = (sym (value-low _ (c .before .if1 .left) (c .if2 .taken)), omega arith)
@@ -19,11 +15,7 @@ returns-3 c = (sym (value-between _ (c .before .if2 .left) (c .if3 .taken)), ome
 returns-4 : tie.Need-returns-4
 returns-4 c = (sym (value-high _ (c .before .if3 .left) (c .if4 .taken)), omega arith)
 
-returns-5 : tie.Need-returns-5
-returns-5 c = (sym (value-above _ (c .if4 .left)), omega arith)
-
 pub small-value-spec : {M : Type 1} → statement M
-small-value-spec =
-    tie.close
-    (tie.spec
-    returns returns-2 returns-3 (λ c. search needs) returns-4 returns-5)
+small-value-spec = tie.close (tie.spec
+    (λ c. (sym (value-below _ (c .if1 .taken)), omega arith)) returns-2 returns-3
+    (λ c. search needs) returns-4 (λ c. (sym (value-above _ (c .if4 .left)), omega arith)))

@@ -1,4 +1,3 @@
--- `hex::value` meets its contract.
 use mathlib.Core.Path.{ap, _∙_}
 use Rattle.hex.specs.Hex.{valueOf}
 use borrow.Author.Needs.{needs}
@@ -11,7 +10,4 @@ returns c =
     (kept .0 ∙ ap valueOf (c .before .small .ensures), kept .1)
 
 pub value-spec : {M : Type 1} → statement M
-value-spec =
-    tie.close
-    (tie.spec
-    (λ c κs. search needs) (λ c κs. search needs) returns)
+value-spec = tie.close (tie.spec (λ c κs. search needs) (λ c κs. search needs) returns)

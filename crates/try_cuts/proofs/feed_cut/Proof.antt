@@ -1,4 +1,3 @@
--- `try_cuts::feed_cut` meets its contract.
 use Prim.Native.Nat.{ℕ, _+_, _-_, _≤_}
 use mathlib.Core.Path.{_≡_, refl, sym, _∙_}
 use mathlib.Core.List.{List}
@@ -21,19 +20,10 @@ Inv-loop input size site₀ links₀ out₀ n f₀ i₀ site links out f i =
 abbrev μ-loop : tie.MeasureT-loop
 μ-loop input size site₀ links₀ out₀ n f₀ i₀ site links out f i = n - i
 
-loop-holds : tie.Need-loop-holds Inv-loop μ-loop
-loop-holds c = (omega arith, refl, refl, refl, refl)
-
-sub-least : tie.Need-sub-least Inv-loop μ-loop
-sub-least c = omega arith
-
 add-e : tie.Need-add-e Inv-loop μ-loop
 add-e c =
     let start = c .before .before .before .before .before .before .before .before in
     omega (arith, c .least .ensures, start .good .0 .0)
-
-sub-feed-piece : tie.Need-sub-feed-piece Inv-loop μ-loop
-sub-feed-piece c = omega arith
 
 part-feed-piece-end : tie.Need-part-feed-piece-end Inv-loop μ-loop
 part-feed-piece-end c =
@@ -131,9 +121,6 @@ loop-again c =
       at-out .out .given ∙ at-loop .loop .inv .4,
     )
 
-slice-reshare-prefix-write-all-2 : tie.Need-slice-reshare-prefix-write-all-2 Inv-loop μ-loop
-slice-reshare-prefix-write-all-2 c = end-fits (c .before .before .feed-end .ensures)
-
 slice-aggregate-write-all-2 : tie.Need-slice-aggregate-write-all-2 Inv-loop μ-loop
 slice-aggregate-write-all-2 c =
     sym (length-take-le _ _ (end-fits (c .before .before .before .feed-end .ensures)))
@@ -150,12 +137,11 @@ same-length-6 c =
     ∙ c .before .before .before .before .before .before .before .loop .inv .4
 
 pub feed-cut-spec : {M : Type 1} → statement M
-feed-cut-spec =
-    tie.close
-    (tie.spec
-    Inv-loop μ-loop (λ c κs. search needs) loop-holds sub-least (λ c κs. search needs) add-e
-    sub-feed-piece (λ c. search needs) part-feed-piece-end (λ c κs. search needs)
-    slice-reshare-prefix-write-all slice-aggregate-write-all (λ c κs. search needs) same-length
-    same-length-2 same-length-3 (λ c. search needs) add-i loop-less loop-again
-    (λ c κs. search needs) slice-reshare-prefix-write-all-2 slice-aggregate-write-all-2
+feed-cut-spec = tie.close (tie.spec
+    Inv-loop μ-loop (λ c κs. search needs) (λ c. (omega arith, refl, refl, refl, refl))
+    (λ c. omega arith) (λ c κs. search needs) add-e (λ c. omega arith) (λ c. search needs)
+    part-feed-piece-end (λ c κs. search needs) slice-reshare-prefix-write-all
+    slice-aggregate-write-all (λ c κs. search needs) same-length same-length-2 same-length-3
+    (λ c. search needs) add-i loop-less loop-again (λ c κs. search needs)
+    (λ c. end-fits (c .before .before .feed-end .ensures)) slice-aggregate-write-all-2
     (λ c κs. search needs) same-length-4 same-length-5 same-length-6 (λ c. search needs))

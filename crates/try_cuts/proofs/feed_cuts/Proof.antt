@@ -1,4 +1,3 @@
--- `try_cuts::feed_cuts` meets its contract.
 use mathlib.Core.Path.{_∙_}
 use borrow.Author.Needs.{needs}
 use Rattle.try_cuts.proofs.feed_cuts.Statement.{statement}
@@ -48,9 +47,7 @@ same-length-3 c =
     ∙ (o4 .out4 .given ∙ (o3 .out3 .given ∙ (o2 .out2 .given ∙ o1 .out .given))))
 
 pub feed-cuts-spec : {M : Type 1} → statement M
-feed-cuts-spec =
-    tie.close
-    (tie.spec
+feed-cuts-spec = tie.close (tie.spec
     (λ c κs. search needs) (λ c κs. search needs) (λ c κs. search needs) (λ c κs. search needs)
     (λ c κs. search needs) (λ c κs. search needs) (λ c κs. search needs) same-length same-length-2
     same-length-3 (λ c. search needs) (λ c. search needs))

@@ -1,4 +1,3 @@
--- `answer::ask::ask` meets its contract.
 use Rattle.answer.proofs.AskLaws.{found-is, no-space-asks-nothing, not-served-asks-nothing}
 use Rattle.answer.proofs.AskLaws.{rest-all, asked-so}
 use Prim.Native.Nat.{_+_, _-_}
@@ -42,9 +41,7 @@ returns-3 c =
     (at-read-hex .read-hex .ensures) (c .found .ensures)
 
 pub ask-spec : {M : Type 1} → statement M
-ask-spec =
-    tie.close
-    (tie.spec
+ask-spec = tie.close (tie.spec
     (λ c κs. search needs) returns (λ c. search needs) (λ c. search needs) (λ c. search needs)
     (λ c. search needs) (λ c κs. search needs) (λ c κs. search needs) returns-2 (λ c. search needs)
     (λ c. search needs) (λ c. search needs) (λ c κs. search needs) (λ c κs. search needs)

@@ -1,4 +1,3 @@
--- `answer::call::call_formed` meets its contract.
 use mathlib.Core.Path.{sym, _∙_}
 use Rattle.answer.proofs.CallLaws.{put-served, put-refused}
 use borrow.Author.Needs.{needs}
@@ -28,8 +27,6 @@ returns-2 c =
     (at-put .put .ensures)
 
 pub call-formed-spec : {M : Type 1} → statement M
-call-formed-spec =
-    tie.close
-    (tie.spec
+call-formed-spec = tie.close (tie.spec
     (λ c κs. search needs) (λ c κs. search needs) (λ c. search needs) (λ c. search needs) returns
     put-requires (λ c. search needs) (λ c. search needs) (λ c. search needs) returns-2)

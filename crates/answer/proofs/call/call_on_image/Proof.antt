@@ -1,4 +1,3 @@
--- `answer::call::call_on_image` meets its contract.
 use mathlib.Core.Path.{sym, _∙_}
 use borrow.Author.Tests.{not-true, not-false}
 use Rattle.answer.specs.Calls.{too-long}
@@ -6,9 +5,6 @@ use Rattle.answer.proofs.CallLaws.{call-unserved}
 use borrow.Author.Needs.{needs}
 use Rattle.answer.proofs.call.call_on_image.Statement.{statement}
 use Rattle.answer.proofs.call.call_on_image.Tie as tie
-
-returns : tie.Need-returns
-returns c = too-long (c .if1 .taken)
 
 returns-2 : tie.Need-returns-2
 returns-2 c =
@@ -25,8 +21,6 @@ call-served-requires c κs =
     )
 
 pub call-on-image-spec : {M : Type 1} → statement M
-call-on-image-spec =
-    tie.close
-    (tie.spec
-    returns (λ c κs. search needs) returns-2 call-served-requires (λ c. search needs)
-    (λ c. search needs) (λ c. search needs) (λ c. search needs))
+call-on-image-spec = tie.close (tie.spec
+    (λ c. too-long (c .if1 .taken)) (λ c κs. search needs) returns-2 call-served-requires
+    (λ c. search needs) (λ c. search needs) (λ c. search needs) (λ c. search needs))

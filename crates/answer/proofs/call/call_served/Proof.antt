@@ -1,4 +1,3 @@
--- `answer::call::call_served` meets its contract.
 use mathlib.Core.Path.{sym, _∙_}
 use Rattle.answer.proofs.CallLaws.{read-front, read-done, call-some, call-short, call-none}
 use borrow.Author.Needs.{needs}
@@ -48,9 +47,7 @@ returns-3 c =
     (λ e. c .if2 .left (at-answer-number .answer-number .ensures ∙ e))
 
 pub call-served-spec : {M : Type 1} → statement M
-call-served-spec =
-    tie.close
-    (tie.spec
+call-served-spec = tie.close (tie.spec
     (λ c. search needs) (λ c. search needs) (λ c. search needs) (λ c κs. search needs)
     (λ c κs. search needs) call-formed-requires (λ c. search needs) (λ c. search needs)
     (λ c. search needs) returns (λ c. search needs) (λ c. search needs) (λ c. search needs)

@@ -1,4 +1,3 @@
--- `answer::call::fresh_image` meets its contract.
 use mathlib.Core.Path.{sym, _∙_}
 use Rattle.answer.proofs.CallLaws.{fresh-formed, fresh-made, fresh-short, fresh-refused}
 use borrow.Author.Needs.{needs}
@@ -38,9 +37,7 @@ returns-3 c =
     (λ e. c .if2 .left (at-answer-number .answer-number .ensures ∙ e))
 
 pub fresh-image-spec : {M : Type 1} → statement M
-fresh-image-spec =
-    tie.close
-    (tie.spec
+fresh-image-spec = tie.close (tie.spec
     (λ c κs. search needs) (λ c κs. search needs) put-requires (λ c. search needs)
     (λ c. search needs) (λ c. search needs) returns (λ c. search needs) (λ c. search needs)
     returns-2 (λ c. search needs) (λ c. search needs) returns-3)

@@ -1,4 +1,3 @@
--- `answer::call::put` meets its contract.
 use Rattle.answer.proofs.CallLaws.{put-done, put-short}
 use borrow.Author.Needs.{needs}
 use Rattle.answer.proofs.call.put.Statement.{statement}
@@ -16,8 +15,6 @@ returns-2 c =
     put-short _ (at-write-formed .write-formed .ensures) (start .pre) (c .enum-told .given .1)
 
 pub put-spec : {M : Type 1} → statement M
-put-spec =
-    tie.close
-    (tie.spec
+put-spec = tie.close (tie.spec
     (λ c κs. search needs) (λ c. search needs) (λ c. search needs) (λ c. search needs) returns
     (λ c. search needs) returns-2)

@@ -1,4 +1,3 @@
--- `answer::hold::hold` meets its contract.
 use borrow.Author.Needs.{needs}
 use Prim.Native.Nat.{_≤_, _-_}
 use mathlib.Core.Path.{_≡_, refl, _∙_}
@@ -23,9 +22,6 @@ loop-holds c =
       refl,
       paste-zero (start .args .line .now) (c .before .least .result) (start .args .piece .now),
     )
-
-shared-slice-read-line : tie.Need-shared-slice-read-line Inv-loop μ-loop
-shared-slice-read-line c = omega (arith, c .before .before .before .least2 .ensures)
 
 add-line : tie.Need-add-line Inv-loop μ-loop
 add-line c =
@@ -56,9 +52,6 @@ add-result : tie.Need-add-result Inv-loop μ-loop
 add-result c =
     omega (arith, c .before .before .before .least .ensures, c .before .before .least2 .ensures)
 
-same-length : tie.Need-same-length Inv-loop μ-loop
-same-length c = c .before .loop .inv .1
-
 returns : tie.Need-returns Inv-loop μ-loop
 returns c =
     let at-least2 = c .before .before in
@@ -70,9 +63,8 @@ returns c =
     (c .before .loop .inv .0) (c .before .loop .inv .2)
 
 pub hold-spec : {M : Type 1} → statement M
-hold-spec =
-    tie.close
-    (tie.spec
+hold-spec = tie.close (tie.spec
     Inv-loop μ-loop (λ c κs. search needs) (λ c. search needs) (λ c κs. search needs) loop-holds
-    shared-slice-read-line add-line slice-write-line (λ c. search needs) (λ c. search needs)
-    loop-again add-result same-length returns)
+    (λ c. omega (arith, c .before .before .before .least2 .ensures)) add-line slice-write-line
+    (λ c. search needs) (λ c. search needs) loop-again add-result (λ c. c .before .loop .inv .1)
+    returns)

@@ -1,4 +1,3 @@
--- `answer::serve::serve` meets its contract.
 use Rattle.answer.proofs.ServeLaws.{stepped, held, unasked}
 use mathlib.Core.Path.{refl}
 use borrow.Author.Needs.{needs}
@@ -23,9 +22,7 @@ returns-4 : tie.Need-returns-4
 returns-4 c = unasked (c .enum-told2 .given .1) refl (c .before .before .before .before .pre)
 
 pub serve-spec : {M : Type 1} → statement M
-serve-spec =
-    tie.close
-    (tie.spec
+serve-spec = tie.close (tie.spec
     (λ c. search needs) (λ c. search needs) (λ c κs. search needs) (λ c. search needs)
     (λ c κs. search needs) (λ c. search needs) returns (λ c. search needs) (λ c. search needs)
     returns-2 (λ c. search needs) (λ c. search needs) returns-3 returns-4)

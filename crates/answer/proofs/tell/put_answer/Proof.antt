@@ -1,4 +1,3 @@
--- `answer::tell::put_answer` meets its contract.
 use mathlib.Core.Path.{sym, _∙_}
 use native.Mathlib.Omega.{arith}
 use Rattle.answer.proofs.TellLaws.{refusal-wrote, image-wrote}
@@ -24,12 +23,7 @@ put-image-requires c κs =
     let at-is-refusal = c .before .before in
     (omega arith, sym (at-is-refusal .is-refusal .ensures) ∙ c .before .if1 .left)
 
-returns-2 : tie.Need-returns-2
-returns-2 c = image-wrote _ _ (c .before .before .put-image .ensures)
-
 pub put-answer-spec : {M : Type 1} → statement M
-put-answer-spec =
-    tie.close
-    (tie.spec
+put-answer-spec = tie.close (tie.spec
     (λ c κs. search needs) put-refusal-requires (λ c. search needs) returns put-image-requires
-    (λ c. search needs) returns-2)
+    (λ c. search needs) (λ c. image-wrote _ _ (c .before .before .put-image .ensures)))

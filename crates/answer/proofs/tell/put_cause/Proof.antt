@@ -1,4 +1,3 @@
--- `answer::tell::put_cause` meets its contract.
 use native.Mathlib.Omega.{arith}
 use Rattle.answer.proofs.TellLaws.{cause-wrote}
 use borrow.Author.Needs.{needs}
@@ -22,9 +21,7 @@ returns-4 c = cause-wrote (c .before .before .before .before .before .enum-told4
     arith) (c .before .before .put-bytes4 .ensures)
 
 pub put-cause-spec : {M : Type 1} → statement M
-put-cause-spec =
-    tie.close
-    (tie.spec
+put-cause-spec = tie.close (tie.spec
     (λ c. search needs) (λ c. search needs) (λ c κs. search needs) (λ c. search needs)
     (λ c. search needs) (λ c κs. search needs) (λ c. search needs) (λ c. search needs)
     (λ c κs. search needs) (λ c. search needs) (λ c. search needs) (λ c κs. search needs)

@@ -1,4 +1,3 @@
--- `answer::tell::put_discarded` meets its contract.
 use Rattle.print.proofs.WriteLaws.{then}
 use borrow.Author.Needs.{needs}
 use Rattle.answer.proofs.tell.put_discarded.Statement.{statement}
@@ -10,7 +9,5 @@ returns c =
     (c .before .before .put-cause .ensures)
 
 pub put-discarded-spec : {M : Type 1} → statement M
-put-discarded-spec =
-    tie.close
-    (tie.spec
+put-discarded-spec = tie.close (tie.spec
     (λ c. search needs) (λ c κs. search needs) (λ c κs. search needs) (λ c. search needs) returns)

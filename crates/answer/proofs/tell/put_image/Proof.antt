@@ -1,4 +1,3 @@
--- `answer::tell::put_image` meets its contract.
 use native.Mathlib.Omega.{arith}
 use Rattle.print.proofs.WriteLaws.{then, spelled, at-most}
 use Rattle.answer.proofs.TellLaws.{image-text}
@@ -12,14 +11,11 @@ returns c =
     let at-put-hex = at-put-byte .before .before .before .before in
     let at-put-word = at-put-hex .before .before .before .before in
     let start = at-put-word .before .before .before .before in
-    at-most (omega arith)
-    (spelled (image-text _ _ (start .pre .1))
+    at-most (omega arith) (spelled (image-text _ _ (start .pre .1))
     (then (at-put-word .put-word .ensures)
     (then (at-put-hex .put-hex .ensures) (at-put-byte .put-byte .ensures))))
 
 pub put-image-spec : {M : Type 1} → statement M
-put-image-spec =
-    tie.close
-    (tie.spec
+put-image-spec = tie.close (tie.spec
     (λ c κs. search needs) (λ c κs. search needs) (λ c κs. search needs) (λ c. search needs)
     returns)

@@ -1,4 +1,3 @@
--- `answer::tell::put_refusal` meets its contract.
 use mathlib.Core.Path.{ap}
 use Rattle.print.specs.Decimal.{decimal}
 use Rattle.print.proofs.WriteLaws.{then, spelled}
@@ -14,15 +13,11 @@ returns c =
     let at-answer-number = at-put-decimal .before .before in
     let at-put-word = at-answer-number .before .before .before in
     let start = at-put-word .before .before .before in
-    spelled (refusal-text _ _ (start .pre .1))
-    (then (at-put-word .put-word .ensures)
-    (then
+    spelled (refusal-text _ _ (start .pre .1)) (then (at-put-word .put-word .ensures) (then
     (spelled (ap decimal (at-answer-number .answer-number .ensures))
     (at-put-decimal .put-decimal .ensures)) (at-put-byte .put-byte .ensures)))
 
 pub put-refusal-spec : {M : Type 1} → statement M
-put-refusal-spec =
-    tie.close
-    (tie.spec
+put-refusal-spec = tie.close (tie.spec
     (λ c κs. search needs) (λ c κs. search needs) (λ c. search needs) (λ c κs. search needs)
     (λ c κs. search needs) (λ c. search needs) returns)

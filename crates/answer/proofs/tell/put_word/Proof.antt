@@ -1,4 +1,3 @@
--- `answer::tell::put_word` meets its contract.
 use native.Mathlib.Omega.{arith}
 use Rattle.answer.proofs.TellLaws.{word-wrote}
 use borrow.Author.Needs.{needs}
@@ -23,9 +22,7 @@ returns-4 c = word-wrote (c .before .before .before .before .before .enum-told3 
     arith) (c .before .before .put-bytes3 .ensures)
 
 pub put-word-spec : {M : Type 1} → statement M
-put-word-spec =
-    tie.close
-    (tie.spec
+put-word-spec = tie.close (tie.spec
     (λ c. search needs) (λ c. search needs) (λ c κs. search needs) (λ c. search needs)
     (λ c. search needs) (λ c κs. search needs) (λ c. search needs) (λ c κs. search needs)
     (λ c. search needs) (λ c. search needs) (λ c κs. search needs) (λ c. search needs) returns

@@ -1,4 +1,3 @@
--- `answer::tell::tell` meets its contract.
 use Prim.Native.Nat.{_-_}
 use native.Mathlib.Omega.{arith}
 use Rattle.answer.proofs.TellLaws.{came-within, part-length, told-came, told-none}
@@ -29,12 +28,8 @@ returns c =
     (came-within (start .pre .0) (at-c .c .given .1)) (start .pre .1)
     (at-put-answer .put-answer .ensures)
 
-returns-2 : tie.Need-returns-2
-returns-2 c = told-none _ (c .enum-told .given .1)
-
 pub tell-spec : {M : Type 1} → statement M
-tell-spec =
-    tie.close
-    (tie.spec
+tell-spec = tie.close (tie.spec
     (λ c. search needs) (λ c. search needs) (λ c. search needs) part-put-answer-end
-    put-answer-requires (λ c. search needs) (λ c. search needs) returns returns-2)
+    put-answer-requires (λ c. search needs) (λ c. search needs) returns
+    (λ c. told-none _ (c .enum-told .given .1)))

@@ -1,4 +1,3 @@
--- `apply::buffers::serve_large` meets its contract.
 use Rattle.apply.proofs.RoomLaws.{job-call}
 use borrow.Author.Needs.{needs}
 use Rattle.apply.proofs.buffers.serve_large.Statement.{statement}
@@ -11,9 +10,7 @@ call-rest-requires c κs =
     (job-call (start .pre) (at-job2 .job2 .given .1), (search needs, search needs))
 
 pub serve-large-spec : {M : Type 1} → statement M
-serve-large-spec =
-    tie.close
-    (tie.spec
+serve-large-spec = tie.close (tie.spec
     (λ c κs. search needs) (λ c κs. search needs) (λ c. search needs) (λ c. search needs)
     (λ c. search needs) (λ c. search needs) (λ c κs. search needs) (λ c. search needs)
     (λ c. search needs) (λ c. search needs) (λ c. search needs) call-rest-requires

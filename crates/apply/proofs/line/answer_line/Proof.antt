@@ -1,4 +1,3 @@
--- `apply::line::answer_line` meets its contract.
 use Rattle.apply.proofs.RoomLaws.{too-long}
 use borrow.Author.Needs.{needs}
 use Rattle.apply.proofs.line.answer_line.Statement.{statement}
@@ -14,9 +13,7 @@ refuse-image-requires c κs =
     (c .before .enum-told .given .1)
 
 pub answer-line-spec : {M : Type 1} → statement M
-answer-line-spec =
-    tie.close
-    (tie.spec
+answer-line-spec = tie.close (tie.spec
     (λ c κs. search needs) (λ c. search needs) (λ c κs. search needs) (λ c. search needs)
     (λ c. search needs) (λ c. search needs) (λ c κs. search needs) (λ c. search needs)
     refuse-image-requires (λ c. search needs) (λ c. search needs) (λ c. search needs)

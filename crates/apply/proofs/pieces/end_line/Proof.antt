@@ -1,4 +1,3 @@
--- `apply::pieces::end_line` meets its contract.
 use Rattle.laws.proofs.Logic.{and-yes}
 use borrow.Author.Needs.{needs}
 use Rattle.apply.proofs.pieces.end_line.Statement.{statement}
@@ -10,9 +9,7 @@ refuse-long-requires c κs =
     (and-yes (c .before .before .before .before .before .before .args .last) _ (c .if1 .taken) .0)
 
 pub end-line-spec : {M : Type 1} → statement M
-end-line-spec =
-    tie.close
-    (tie.spec
+end-line-spec = tie.close (tie.spec
     refuse-long-requires (λ c. search needs) (λ c. search needs) (λ c. search needs)
     (λ c. search needs) (λ c κs. search needs) (λ c. search needs) (λ c. search needs)
     (λ c. search needs) (λ c. search needs) (λ c. search needs))

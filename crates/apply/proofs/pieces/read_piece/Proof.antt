@@ -1,4 +1,3 @@
--- `apply::pieces::read_piece` meets its contract.
 use Rattle.streams.proofs.GotLaws.{counted}
 use borrow.Author.Needs.{needs}
 use Rattle.apply.proofs.pieces.read_piece.Statement.{statement}
@@ -15,9 +14,7 @@ take-piece-requires c κs =
     .before .before .before .before .before .before .before .before .before .pre
 
 pub read-piece-spec : {M : Type 1} → statement M
-read-piece-spec =
-    tie.close
-    (tie.spec
+read-piece-spec = tie.close (tie.spec
     (λ c κs. search needs) (λ c. search needs) (λ c. search needs) (λ c. search needs)
     part-take-piece-end take-piece-requires (λ c. search needs) (λ c κs. search needs)
     (λ c. search needs) (λ c κs. search needs) (λ c. search needs) (λ c. search needs)

@@ -1,11 +1,7 @@
--- `apply::pieces::serve_from` meets its contract.
 use Rattle.apply.proofs.RoomLaws.{room-as, line-as}
 use borrow.Author.Needs.{needs}
 use Rattle.apply.proofs.pieces.serve_from.Statement.{statement}
 use Rattle.apply.proofs.pieces.serve_from.Tie as tie
-
-returns : tie.Need-returns
-returns c = tt
 
 serve-requires : tie.Need-serve-requires
 serve-requires c κs =
@@ -20,14 +16,9 @@ serve-requires c κs =
           (at-take-piece .take-piece .kept .1 .1 .1 .1 .1 .1 .1 .0) (start .pre .1),
     )
 
-returns-2 : tie.Need-returns-2
-returns-2 c = tt
-
 pub serve-from-spec : {M : Type 1} → statement M
-serve-from-spec =
-    tie.close
-    (tie.spec
+serve-from-spec = tie.close (tie.spec
     (λ c κs. search needs) (λ c κs. search needs) (λ c. search needs) (λ c. search needs)
-    (λ c. search needs) (λ c. search needs) (λ c. search needs) returns serve-requires
+    (λ c. search needs) (λ c. search needs) (λ c. search needs) (λ c. tt) serve-requires
     (λ c. search needs) (λ c. search needs) (λ c. search needs) (λ c. search needs)
-    (λ c. search needs) (λ c. search needs) returns-2)
+    (λ c. search needs) (λ c. search needs) (λ c. tt))

@@ -1,4 +1,3 @@
--- `apply::pieces::serve_rest` meets its contract.
 use Prim.Native.Nat.{_-_}
 use mathlib.Core.Path.{_≡_, refl, _∙_}
 use native.Mathlib.Omega.{arith}
@@ -19,14 +18,9 @@ serve-from-requires c κs =
           (start .pre .1 .1),
     )
 
-returns : tie.Need-returns
-returns c = tt
-
 pub serve-rest-spec : {M : Type 1} → statement M
-serve-rest-spec =
-    tie.close
-    (tie.spec
+serve-rest-spec = tie.close (tie.spec
     (λ c κs. search needs) (λ c κs. search needs) (λ c. search needs) (λ c. search needs)
     (λ c. search needs) (λ c. search needs) serve-from-requires (λ c κs. search needs)
     (λ c. search needs) (λ c. search needs) (λ c. search needs) (λ c. search needs)
-    (λ c. search needs) returns)
+    (λ c. search needs) (λ c. tt))

@@ -1,4 +1,3 @@
--- `apply::pieces::take_part` meets its contract.
 use native.Mathlib.Omega.{arith}
 use Rattle.apply.proofs.HeldLaws.{held-inside}
 use Rattle.apply.proofs.RoomLaws.{line-as}
@@ -16,9 +15,7 @@ end-line-requires c κs =
     )
 
 pub take-part-spec : {M : Type 1} → statement M
-take-part-spec =
-    tie.close
-    (tie.spec
+take-part-spec = tie.close (tie.spec
     (λ c κs. search needs) (λ c. search needs) (λ c κs. search needs) (λ c. search needs)
     (λ c κs. search needs) (λ c κs. search needs) (λ c. search needs) (λ c. search needs)
     end-line-requires (λ c. search needs) (λ c. search needs) (λ c. search needs)

@@ -1,141 +1,62 @@
--- `apply::pieces::take_piece` meets its contract.
 use Prim.Native.Nat.{_≤_, _+_, _-_}
-use mathlib.Core.Path.{_≡_, refl, _∙_}
 use native.Mathlib.Omega.{arith}
 use lib.ListN.{length}
-use Rattle.apply.proofs.RoomLaws.{room-as, line-as}
+use Rattle.apply.proofs.RoomLaws.{room-as, line-as, Same, same, same-on}
 use borrow.Author.Needs.{needs}
 use Rattle.apply.proofs.pieces.take_piece.Statement.{statement}
 use Rattle.apply.proofs.pieces.take_piece.Tie as tie
 
 abbrev Inv-loop : tie.InvT-loop
 Inv-loop piece last line₀ image₀ site₀ links₀ out₀ n r₀ i₀ line image site links out r i =
-    (i ≤ length piece + 1) × (length line ≡ length line₀) × (length image ≡ length image₀)
-    × (length site ≡ length site₀) × (length links ≡ length links₀) × (length out ≡ length out₀)
+    (i ≤ length piece + 1) × Same line₀ image₀ site₀ links₀ out₀ line image site links out
 
 abbrev μ-loop : tie.MeasureT-loop
 μ-loop piece last line₀ image₀ site₀ links₀ out₀ n r₀ i₀ line image site links out r i =
     length piece + 1 - i
 
-loop-holds : tie.Need-loop-holds Inv-loop μ-loop
-loop-holds c = (omega arith, refl, refl, refl, refl, refl)
-
-find-requires : tie.Need-find-requires Inv-loop μ-loop
-find-requires c κs = (omega arith, omega arith)
-
-sub-take-part : tie.Need-sub-take-part Inv-loop μ-loop
-sub-take-part c = omega (arith, c .find .ensures .0, c .find .ensures .1)
-
-part-take-part-start : tie.Need-part-take-part-start Inv-loop μ-loop
-part-take-part-start c = omega (arith, c .find .ensures .0, c .find .ensures .1)
-
-part-take-part-end : tie.Need-part-take-part-end Inv-loop μ-loop
-part-take-part-end c = omega (arith, c .find .ensures .0, c .find .ensures .1)
-
 take-part-requires : tie.Need-take-part-requires Inv-loop μ-loop
 take-part-requires c κs =
     let at-loop = c .before .before .before .before .before .before .before .before in
-    let start = at-loop .before .before .before .before .before .before .before in (
-      line-as (at-loop .loop .inv .1) (start .pre .0),
-      room-as (at-loop .loop .inv .2) (at-loop .loop .inv .3) (at-loop .loop .inv .4)
-          (at-loop .loop .inv .5) (start .pre .1),
+    let start = at-loop .before .before .before .before .before .before .before in
+    let s = at-loop .loop .inv .1 in (
+      line-as (s .line) (start .pre .0),
+      room-as (s .image) (s .site) (s .links) (s .out) (start .pre .1),
     )
 
-same-length : tie.Need-same-length Inv-loop μ-loop
-same-length c =
-    let at-take-part = c .before .before .before .before .before .before .before .before .before
-    .before .before .before .before in
-    let at-find = at-take-part .before .before .before .before .before .before .before in
-    let at-loop = at-find .before .before in
-    at-take-part .take-part .kept .1 .1 .1 .1 .0 ∙ at-loop .loop .inv .1
+-- a part was taken: the slices are as long as at the start
+abbrev part : tie.After-goes-on Inv-loop μ-loop → tie.After-take-part Inv-loop μ-loop
+part c = c .before .before .before .before .before .before .before .before .before .before .before
 
-same-length-2 : tie.Need-same-length-2 Inv-loop μ-loop
-same-length-2 c =
-    let at-take-part = c .before .before .before .before .before .before .before .before .before
-    .before .before .before .before in
-    let at-find = at-take-part .before .before .before .before .before .before .before in
-    let at-loop = at-find .before .before in
-    at-take-part .take-part .kept .1 .1 .1 .1 .1 .0 ∙ at-loop .loop .inv .2
+abbrev found : tie.After-goes-on Inv-loop μ-loop → tie.After-find Inv-loop μ-loop
+found c = part c .before .before .before .before .before .before .before
 
-same-length-3 : tie.Need-same-length-3 Inv-loop μ-loop
-same-length-3 c =
-    let at-take-part = c .before .before .before .before .before .before .before .before .before
-    .before .before .before .before in
-    let at-find = at-take-part .before .before .before .before .before .before .before in
-    let at-loop = at-find .before .before in
-    at-take-part .take-part .kept .1 .1 .1 .1 .1 .1 .0 ∙ at-loop .loop .inv .3
-
-same-length-4 : tie.Need-same-length-4 Inv-loop μ-loop
-same-length-4 c =
-    let at-take-part = c .before .before .before .before .before .before .before .before .before
-    .before .before .before .before in
-    let at-find = at-take-part .before .before .before .before .before .before .before in
-    let at-loop = at-find .before .before in
-    at-take-part .take-part .kept .1 .1 .1 .1 .1 .1 .1 .0 ∙ at-loop .loop .inv .4
-
-same-length-5 : tie.Need-same-length-5 Inv-loop μ-loop
-same-length-5 c =
-    let at-take-part = c .before .before .before .before .before .before .before .before .before
-    .before .before .before .before in
-    let at-find = at-take-part .before .before .before .before .before .before .before in
-    let at-loop = at-find .before .before in
-    at-take-part .take-part .kept .1 .1 .1 .1 .1 .1 .1 .1 .0 ∙ at-loop .loop .inv .5
-
-returns : tie.Need-returns Inv-loop μ-loop
-returns c = tt
+kept : (c : tie.After-goes-on Inv-loop μ-loop) →
+    let a = found c .before .before .before .before .before .before .before .before .before .args in
+    let p = part c .take-part .last .1 .1 .1 .1 in
+    Same (a .line .now) (a .image .now) (a .site .now) (a .links .now) (a .out .now)
+    (p .0) (p .1 .0) (p .1 .1 .0) (p .1 .1 .1 .0) (p .1 .1 .1 .1 .0)
+kept c =
+    let k = part c .take-part .kept .1 .1 .1 .1 in
+    same-on (found c .before .before .loop .inv .1)
+    (k .0) (k .1 .0) (k .1 .1 .0) (k .1 .1 .1 .0) (k .1 .1 .1 .1 .0)
 
 add-i : tie.Need-add-i Inv-loop μ-loop
 add-i c =
-    let at-take-part = c .before .before .before .before .before .before .before .before .before
-    .before .before .before in
-    let at-find = at-take-part .before .before .before .before .before .before .before in
+    let at-find = found (c .before) in
     let start = at-find .before .before .before .before .before .before .before .before .before in
     omega (arith, at-find .find .ensures .1, start .good)
 
-loop-less : tie.Need-loop-less Inv-loop μ-loop
-loop-less c =
-    let at-take-part = c .before .before .before .before .before .before .before .before .before
-    .before .before .before in
-    let at-find = at-take-part .before .before .before .before .before .before .before in
-    omega (arith, at-find .find .ensures .0)
-
-loop-again : tie.Need-loop-again Inv-loop μ-loop
-loop-again c =
-    let at-take-part = c .before .before .before .before .before .before .before .before .before
-    .before .before .before in
-    let at-find = at-take-part .before .before .before .before .before .before .before in
-    let at-loop = at-find .before .before in (
-      omega (arith, at-find .find .ensures .1),
-      at-take-part .take-part .kept .1 .1 .1 .1 .0 ∙ at-loop .loop .inv .1,
-      at-take-part .take-part .kept .1 .1 .1 .1 .1 .0 ∙ at-loop .loop .inv .2,
-      at-take-part .take-part .kept .1 .1 .1 .1 .1 .1 .0 ∙ at-loop .loop .inv .3,
-      at-take-part .take-part .kept .1 .1 .1 .1 .1 .1 .1 .0 ∙ at-loop .loop .inv .4,
-      at-take-part .take-part .kept .1 .1 .1 .1 .1 .1 .1 .1 .0 ∙ at-loop .loop .inv .5,
-    )
-
-same-length-6 : tie.Need-same-length-6 Inv-loop μ-loop
-same-length-6 c = c .before .loop .inv .1
-
-same-length-7 : tie.Need-same-length-7 Inv-loop μ-loop
-same-length-7 c = c .before .loop .inv .2
-
-same-length-8 : tie.Need-same-length-8 Inv-loop μ-loop
-same-length-8 c = c .before .loop .inv .3
-
-same-length-9 : tie.Need-same-length-9 Inv-loop μ-loop
-same-length-9 c = c .before .loop .inv .4
-
-same-length-10 : tie.Need-same-length-10 Inv-loop μ-loop
-same-length-10 c = c .before .loop .inv .5
-
-returns-2 : tie.Need-returns-2 Inv-loop μ-loop
-returns-2 c = tt
-
 pub take-piece-spec : {M : Type 1} → statement M
-take-piece-spec =
-    tie.close
-    (tie.spec
-    Inv-loop μ-loop loop-holds find-requires sub-take-part part-take-part-start part-take-part-end
-    take-part-requires (λ c κs. search needs) (λ c κs. search needs) same-length same-length-2
-    same-length-3 same-length-4 same-length-5 returns add-i loop-less loop-again same-length-6
-    same-length-7 same-length-8 same-length-9 same-length-10 returns-2)
+take-piece-spec = tie.close (tie.spec
+    Inv-loop μ-loop (λ c. (omega arith, same)) (λ c κs. (omega arith, omega arith))
+    (λ c. omega (arith, c .find .ensures .0, c .find .ensures .1))
+    (λ c. omega (arith, c .find .ensures .0, c .find .ensures .1))
+    (λ c. omega (arith, c .find .ensures .0, c .find .ensures .1)) take-part-requires
+    (λ c κs. search needs) (λ c κs. search needs) (λ c. kept (c .before .before) .line)
+    (λ c. kept (c .before .before) .image) (λ c. kept (c .before .before) .site)
+    (λ c. kept (c .before .before) .links) (λ c. kept (c .before .before) .out) (λ c. tt) add-i
+    (λ c. omega (arith, found (c .before) .find .ensures .0))
+    (λ c. (omega (arith, found (c .before) .find .ensures .1), kept (c .before)))
+    (λ c. c .before .loop .inv .1 .line) (λ c. c .before .loop .inv .1 .image)
+    (λ c. c .before .loop .inv .1 .site) (λ c. c .before .loop .inv .1 .links)
+    (λ c. c .before .loop .inv .1 .out) (λ c. tt))

@@ -1,18 +1,9 @@
--- `apply::raw::call_as_asked` meets its contract.
 use Rattle.apply.proofs.RoomLaws.{read-range}
 use borrow.Author.Needs.{needs}
 use Rattle.apply.proofs.raw.call_as_asked.Statement.{statement}
 use Rattle.apply.proofs.raw.call_as_asked.Tie as tie
 
-call-small-requires : tie.Need-call-small-requires
-call-small-requires c κs = read-range _ (c .before .before .before .read-line .ensures)
-
-returns : tie.Need-returns
-returns c = tt
-
 pub call-as-asked-spec : {M : Type 1} → statement M
-call-as-asked-spec =
-    tie.close
-    (tie.spec
-    (λ c κs. search needs) call-small-requires (λ c. search needs) (λ c. search needs)
-    (λ c. search needs) returns)
+call-as-asked-spec = tie.close (tie.spec
+    (λ c κs. search needs) (λ c κs. read-range _ (c .before .before .before .read-line .ensures))
+    (λ c. search needs) (λ c. search needs) (λ c. search needs) (λ c. tt))

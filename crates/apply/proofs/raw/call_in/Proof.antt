@@ -1,4 +1,3 @@
--- `apply::raw::call_in` meets its contract.
 use Rattle.apply.proofs.RoomLaws.{on-larger, on-status, fresh-fits}
 use borrow.Author.Needs.{needs}
 use Rattle.apply.proofs.raw.call_in.Statement.{statement}
@@ -10,15 +9,11 @@ returns c =
     on-larger _ _ (c .come .result)
     (λ k p. fresh-fits (at-fresh-image .fresh-image .ensures) (p .1)) (c .come .ensures)
 
-returns-4 : tie.Need-returns-4
-returns-4 c = on-status _ (c .refuse-unreadable .ensures)
-
 pub call-in-spec : {M : Type 1} → statement M
-call-in-spec =
-    tie.close
-    (tie.spec
+call-in-spec = tie.close (tie.spec
     (λ c. search needs) (λ c κs. search needs) (λ c κs. search needs) (λ c. search needs)
     (λ c κs. search needs) (λ c. search needs) (λ c κs. search needs) (λ c. search needs)
     (λ c κs. search needs) (λ c. search needs) (λ c. search needs) (λ c. search needs) returns
     (λ c. search needs) (λ c. search needs) (λ c. search needs) (λ c. search needs)
-    (λ c. search needs) (λ c. search needs) (λ c. search needs) (λ c. search needs) returns-4)
+    (λ c. search needs) (λ c. search needs) (λ c. search needs) (λ c. search needs)
+    (λ c. on-status _ (c .refuse-unreadable .ensures)))

@@ -1,4 +1,3 @@
--- `apply::raw::call_on_input` meets its contract.
 use Rattle.apply.proofs.RoomLaws.{on-larger, on-status, whole-within, call-fits}
 use borrow.Author.Needs.{needs}
 use Rattle.apply.proofs.raw.call_on_input.Statement.{statement}
@@ -10,23 +9,14 @@ returns c =
     let at-k = at-call-on-image .before .before .before .before .before in
     let at-fill = at-k .before .before .before .before in
     let start = at-fill .before .before .before .before .before .before in
-    on-larger _ _ (c .come .result)
-    (λ k p.
-    call-fits (start .pre) (at-fill .fill .kept .0)
+    on-larger _ _ (c .come .result) (λ k p. call-fits (start .pre) (at-fill .fill .kept .0)
     (whole-within _ (at-fill .fill .ensures) (at-k .k .given .1))
     (at-call-on-image .call-on-image .ensures) (p .1)) (c .come .ensures)
 
-returns-2 : tie.Need-returns-2
-returns-2 c = λ a. c .before .before .before .before .fill .kept .0
-
-returns-3 : tie.Need-returns-3
-returns-3 c = on-status _ (c .failed .ensures)
-
 pub call-on-input-spec : {M : Type 1} → statement M
-call-on-input-spec =
-    tie.close
-    (tie.spec
+call-on-input-spec = tie.close (tie.spec
     (λ c κs. search needs) (λ c. search needs) (λ c κs. search needs) (λ c κs. search needs)
     (λ c. search needs) (λ c. search needs) (λ c κs. search needs) (λ c. search needs)
-    (λ c. search needs) (λ c. search needs) returns (λ c. search needs) returns-2
-    (λ c. search needs) returns-3)
+    (λ c. search needs) (λ c. search needs) returns (λ c. search needs)
+    (λ c. λ a. c .before .before .before .before .fill .kept .0) (λ c. search needs)
+    (λ c. on-status _ (c .failed .ensures)))

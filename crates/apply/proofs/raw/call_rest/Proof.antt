@@ -1,4 +1,3 @@
--- `apply::raw::call_rest` meets its contract.
 use lib.ListN.{length}
 use mathlib.Core.Path.{sym, subst}
 use Prim.Native.Nat.{ℕ}
@@ -21,9 +20,7 @@ refuse-image-requires c κs =
     omega (arith, e, at-hold .hold .kept .0, start .pre .1 .0)
 
 pub call-rest-spec : {M : Type 1} → statement M
-call-rest-spec =
-    tie.close
-    (tie.spec
+call-rest-spec = tie.close (tie.spec
     (λ c κs. search needs) (λ c κs. search needs) (λ c. search needs) (λ c. search needs)
     refuse-image-requires (λ c. search needs) (λ c. search needs) (λ c. search needs)
     (λ c. search needs) (λ c. search needs) (λ c. search needs) (λ c. search needs)

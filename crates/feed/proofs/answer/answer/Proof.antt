@@ -1,4 +1,3 @@
--- `feed::answer::answer` meets its contract.
 use native.Mathlib.Omega.{arith}
 use Rattle.feed.proofs.AnswerLaws.{form-rowed, in-time, lent-as, answer-first, answer-going}
 use Rattle.feed.proofs.AnswerLaws.{answer-ended}
@@ -59,9 +58,7 @@ returns-3 c =
     (c .enum-told3 .given .1) (c .before .before .before .before .before .before .before .pre .1)
 
 pub answer-spec : {M : Type 1} → statement M
-answer-spec =
-    tie.close
-    (tie.spec
+answer-spec = tie.close (tie.spec
     (λ c κs. search needs) (λ c. search needs) (λ c κs. search needs) finish-requires
     (λ c. search needs) answer-later-requires finish-requires-2 (λ c. search needs)
     (λ c. search needs) (λ c. search needs) (λ c. search needs) returns (λ c. search needs)

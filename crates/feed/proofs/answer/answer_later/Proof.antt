@@ -1,13 +1,9 @@
--- `feed::answer::answer_later` meets its contract.
 use mathlib.Core.Path.{ap}
 use Rattle.trace.specs.Stops.{plays}
 use Rattle.feed.proofs.EngineLaws.{past-last, called, asked, misplaced}
 use borrow.Author.Needs.{needs}
 use Rattle.feed.proofs.answer.answer_later.Statement.{statement}
 use Rattle.feed.proofs.answer.answer_later.Tie as tie
-
-returns : tie.Need-returns
-returns c = past-last _ _ _ _ (c .if1 .taken)
 
 returns-2 : tie.Need-returns-2
 returns-2 c = misplaced _ _ _ (c .before .before .if1 .left) _ (ap plays (c .enum-told .given .1))
@@ -32,9 +28,8 @@ returns-5 : tie.Need-returns-5
 returns-5 c = misplaced _ _ _ (c .before .before .if1 .left) _ (ap plays (c .enum-told2 .given .1))
 
 pub answer-later-spec : {M : Type 1} → statement M
-answer-later-spec =
-    tie.close
-    (tie.spec
-    returns (λ c. search needs) (λ c. search needs) (λ c κs. search needs) (λ c. search needs)
-    (λ c κs. search needs) (λ c. search needs) returns-2 (λ c. search needs) (λ c. search needs)
-    returns-3 (λ c. search needs) (λ c. search needs) returns-4 returns-5)
+answer-later-spec = tie.close (tie.spec
+    (λ c. past-last _ _ _ _ (c .if1 .taken)) (λ c. search needs) (λ c. search needs)
+    (λ c κs. search needs) (λ c. search needs) (λ c κs. search needs) (λ c. search needs) returns-2
+    (λ c. search needs) (λ c. search needs) returns-3 (λ c. search needs) (λ c. search needs)
+    returns-4 returns-5)

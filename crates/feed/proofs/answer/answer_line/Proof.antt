@@ -1,4 +1,3 @@
--- `feed::answer::answer_line` meets its contract.
 use mathlib.Core.Path.{sym}
 use Rattle.feed.proofs.AnswerLaws.{lent-as, line-turn}
 use borrow.Author.Needs.{needs}
@@ -19,8 +18,6 @@ returns c =
     line-turn (start .args .f) _ _ _ _ _ _ _ (at-keep .keep .ensures) (at-answer .answer .ensures)
 
 pub answer-line-spec : {M : Type 1} → statement M
-answer-line-spec =
-    tie.close
-    (tie.spec
+answer-line-spec = tie.close (tie.spec
     (λ c κs. search needs) answer-requires (λ c. search needs) (λ c. search needs)
     (λ c. search needs) returns)

@@ -1,11 +1,7 @@
--- `feed::entries::feed_end` meets its contract.
 use Rattle.feed.proofs.EntryLaws.{end-short, end-said}
 use borrow.Author.Needs.{needs}
 use Rattle.feed.proofs.entries.feed_end.Statement.{statement}
 use Rattle.feed.proofs.entries.feed_end.Tie as tie
-
-returns : tie.Need-returns
-returns c = end-short _ _ (c .if1 .taken)
 
 returns-2 : tie.Need-returns-2
 returns-2 c =
@@ -13,7 +9,5 @@ returns-2 c =
     (c .before .before .put-end .ensures)
 
 pub feed-end-spec : {M : Type 1} → statement M
-feed-end-spec =
-    tie.close
-    (tie.spec
-    returns (λ c κs. search needs) (λ c. search needs) returns-2)
+feed-end-spec = tie.close (tie.spec
+    (λ c. end-short _ _ (c .if1 .taken)) (λ c κs. search needs) (λ c. search needs) returns-2)

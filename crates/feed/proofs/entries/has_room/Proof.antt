@@ -1,4 +1,3 @@
--- `feed::entries::has_room` meets its contract.
 use mathlib.Core.Path.{refl}
 use Rattle.feed.specs.Entries.{hasRoom}
 use Rattle.feed.proofs.entries.has_room.Statement.{statement}
@@ -9,7 +8,4 @@ unfolding hasRoom
 returns c = refl
 
 pub has-room-spec : {M : Type 1} → statement M
-has-room-spec =
-    tie.close
-    (tie.spec
-    returns)
+has-room-spec = tie.close (tie.spec returns)

@@ -1,4 +1,3 @@
--- `feed::held::hold` meets its contract.
 use Prim.Native.Nat.{_≤_, _-_}
 use mathlib.Core.Path.{_≡_}
 use native.Mathlib.Omega.{arith}
@@ -18,18 +17,6 @@ abbrev μ-loop : tie.MeasureT-loop
 line-length : (s : tie.Start Inv-loop μ-loop) → length (s .args .line) ≡ 65
 line-length s = search tests
 
-least-requires : tie.Need-least-requires Inv-loop μ-loop
-least-requires c κs = search tests
-
-sub-least : tie.Need-sub-least Inv-loop μ-loop
-sub-least c = search tests
-
-sub-least-2 : tie.Need-sub-least-2 Inv-loop μ-loop
-sub-least-2 c = search tests
-
-least-requires-2 : tie.Need-least-requires-2 Inv-loop μ-loop
-least-requires-2 c κs = search tests
-
 loop-holds : tie.Need-loop-holds Inv-loop μ-loop
 loop-holds c =
     let start = c .before .before .before in (
@@ -37,24 +24,6 @@ loop-holds c =
       paste-zero (start .args .line) (c .before .least .result)
           (drop (start .args .i) (start .args .piece .now)),
     )
-
-add-next : tie.Need-add-next Inv-loop μ-loop
-add-next c = search tests
-
-shared-slice-read-next : tie.Need-shared-slice-read-next Inv-loop μ-loop
-shared-slice-read-next c = search tests
-
-add-next-2 : tie.Need-add-next-2 Inv-loop μ-loop
-add-next-2 c = search tests
-
-array-write-next : tie.Need-array-write-next Inv-loop μ-loop
-array-write-next c = search tests
-
-add-j : tie.Need-add-j Inv-loop μ-loop
-add-j c = search tests
-
-loop-less : tie.Need-loop-less Inv-loop μ-loop
-loop-less c = search tests
 
 loop-again : tie.Need-loop-again Inv-loop μ-loop
 loop-again c =
@@ -69,9 +38,6 @@ loop-again c =
           (omega (arith, at-least2 .least2 .ensures)) (at-loop .loop .inv .1),
     )
 
-add-t10 : tie.Need-add-t10 Inv-loop μ-loop
-add-t10 c = search tests
-
 returns : tie.Need-returns Inv-loop μ-loop
 returns c =
     let at-least2 = c .before .before in
@@ -82,8 +48,8 @@ returns c =
     (c .before .loop .inv .0) (c .before .loop .inv .1)
 
 pub hold-spec : {M : Type 1} → statement M
-hold-spec =
-    tie.close
-    (tie.spec
-    Inv-loop μ-loop least-requires sub-least sub-least-2 least-requires-2 loop-holds add-next
-    shared-slice-read-next add-next-2 array-write-next add-j loop-less loop-again add-t10 returns)
+hold-spec = tie.close (tie.spec
+    Inv-loop μ-loop (λ c κs. search tests) (λ c. search tests) (λ c. search tests)
+    (λ c κs. search tests) loop-holds (λ c. search tests) (λ c. search tests) (λ c. search tests)
+    (λ c. search tests) (λ c. search tests) (λ c. search tests) loop-again (λ c. search tests)
+    returns)

@@ -1,4 +1,3 @@
--- `feed::held::line_end` meets its contract.
 use Prim.Native.Nat.{_≤_, _-_}
 use mathlib.Core.Path.{_≡_}
 use mathlib.Core.Bool.{true}
@@ -19,9 +18,6 @@ abbrev μ-loop : tie.MeasureT-loop
 loop-holds : tie.Need-loop-holds Inv-loop μ-loop
 loop-holds c = (omega arith, omega arith, plain-none ((c) .args .piece .now) ((c) .args .i))
 
-shared-slice-read-if1 : tie.Need-shared-slice-read-if1 Inv-loop μ-loop
-shared-slice-read-if1 c = search tests
-
 returns : tie.Need-returns Inv-loop μ-loop
 returns c =
     let at-loop = c .before .before .before in
@@ -31,12 +27,6 @@ returns c =
       plain = at-loop .loop .inv .2;
       newline = λ h. c .if1 .taken;
     }
-
-add-e : tie.Need-add-e Inv-loop μ-loop
-add-e c = search tests
-
-loop-less : tie.Need-loop-less Inv-loop μ-loop
-loop-less c = search tests
 
 loop-again : tie.Need-loop-again Inv-loop μ-loop
 loop-again c =
@@ -55,7 +45,6 @@ returns-2 c = record {
 }
 
 pub line-end-spec : {M : Type 1} → statement M
-line-end-spec =
-    tie.close
-    (tie.spec
-    Inv-loop μ-loop loop-holds shared-slice-read-if1 returns add-e loop-less loop-again returns-2)
+line-end-spec = tie.close (tie.spec
+    Inv-loop μ-loop loop-holds (λ c. search tests) returns (λ c. search tests) (λ c. search tests)
+    loop-again returns-2)

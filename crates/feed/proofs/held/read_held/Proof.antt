@@ -1,4 +1,3 @@
--- `feed::held::read_held` meets its contract.
 use mathlib.Core.Path.{_≡_, _∙_, ap}
 use native.Mathlib.Omega.{arith}
 use lib.ListN.{length}
@@ -24,8 +23,6 @@ returns c =
     ∙ ap readLine (cut-take _ _ 65 _ (omega (arith, line-length start)) (at-least .least .ensures))
 
 pub read-held-spec : {M : Type 1} → statement M
-read-held-spec =
-    tie.close
-    (tie.spec
+read-held-spec = tie.close (tie.spec
     (λ c κs. search needs) (λ c. search needs) slice-aggregate-read-line (λ c κs. search needs)
     returns)

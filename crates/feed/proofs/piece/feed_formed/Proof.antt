@@ -1,10 +1,10 @@
--- `feed::piece::feed_formed` meets its contract.
-use Prim.Native.Nat.{_≤_, _-_}
+use Prim.Native.Nat.{_<_, _≤_, _-_}
 use mathlib.Core.Path.{_≡_, refl}
 use native.Mathlib.Omega.{arith}
 use lib.ListN.{length, take}
 use borrow.Author.Needs.{needs}
 use Rattle.feed.specs.State.{feedingOf}
+use Rattle.feed.specs.Says.{answerMost}
 use Rattle.feed.proofs.FeedLaws.{Kept, short-held, goes-on, kept-none, kept-more, kept-all}
 use Rattle.feed.proofs.piece.feed_formed.Statement.{statement}
 use Rattle.feed.proofs.piece.feed_formed.Tie as tie
@@ -31,52 +31,43 @@ loop-holds c =
 sub-loop : tie.Need-sub-loop Inv-loop μ-loop
 sub-loop c = omega (arith, c .loop .inv .2 .wrote .few, c .loop .inv .2 .wrote .room)
 
+-- a line ends in the piece, and there is room for its answer
+on : (c : tie.In-loop Inv-loop μ-loop) → let l = c .before .loop in
+    (l .e < length (c .before .before .before .before .before .before .before .args .piece .now))
+    × (answerMost ≤ length (l .out) - l .at)
+on c = goes-on _ _ _ (c .loop-test .taken)
+
 answer-line-requires : tie.Need-answer-line-requires Inv-loop μ-loop
 answer-line-requires c κs =
-    let at-loop-test = c .before .before .before in
-    let at-loop = at-loop-test .before in
-    let start = at-loop .before .before .before .before .before .before in
-    let on = goes-on (at-loop .loop .e) (length (start .args .piece .now))
-    (length (at-loop .loop .out) - at-loop .loop .at) (at-loop-test .loop-test .taken) in (
-      at-loop .loop .inv .2 .end .from,
-      omega (arith, at-loop .loop .inv .0, at-loop .loop .inv .2 .end .to),
-      omega (arith, on .1),
-      at-loop .loop .inv .2 .lent,
+    let test = c .before .before .before in
+    let v = test .before .loop .inv in (
+      v .2 .end .from,
+      omega (arith, v .0, v .2 .end .to),
+      omega (arith, on test .1),
+      v .2 .lent,
     )
 
 line-end-requires-2 : tie.Need-line-end-requires-2 Inv-loop μ-loop
 line-end-requires-2 c κs =
     let at-answer-line = c .before .before .before .before .before .before .before in
-    let at-loop-test = at-answer-line .before .before .before .before in
-    let at-loop = at-loop-test .before in
-    let start = at-loop .before .before .before .before .before .before in
-    let on = goes-on (at-loop .loop .e) (length (start .args .piece .now))
-    (length (at-loop .loop .out) - at-loop .loop .at) (at-loop-test .loop-test .taken) in
-    (omega (arith, on .0), omega (arith, at-loop .loop .inv .0))
+    let test = at-answer-line .before .before .before .before in
+    (omega (arith, on test .0), omega (arith, test .before .loop .inv .0))
 
 loop-less : tie.Need-loop-less Inv-loop μ-loop
 loop-less c =
     let at-answer-line = c .before .before .before .before .before .before .before .before in
-    let at-loop-test = at-answer-line .before .before .before .before in
-    let at-loop = at-loop-test .before in
-    let start = at-loop .before .before .before .before .before .before in
-    let on = goes-on (at-loop .loop .e) (length (start .args .piece .now))
-    (length (at-loop .loop .out) - at-loop .loop .at) (at-loop-test .loop-test .taken) in
-    omega (arith, on .0, c .line-end2 .ensures .from, c .line-end2 .ensures .to)
+    let test = at-answer-line .before .before .before .before in
+    omega (arith, on test .0, c .line-end2 .ensures .from, c .line-end2 .ensures .to)
 
 loop-again : tie.Need-loop-again Inv-loop μ-loop
 loop-again c =
     let at-answer-line = c .before .before .before .before .before .before .before .before in
-    let at-loop-test = at-answer-line .before .before .before .before in
-    let at-loop = at-loop-test .before in
-    let start = at-loop .before .before .before .before .before .before in
-    let on = goes-on (at-loop .loop .e) (length (start .args .piece .now))
-    (length (at-loop .loop .out) - at-loop .loop .at) (at-loop-test .loop-test .taken) in (
-      at-loop .loop .inv .0,
-      at-loop .loop .inv .1,
-      kept-more _ _ _ _ _ _ _ _ _ _ _ _ _ (at-answer-line .answer-line .result)
-          (at-loop .loop .inv .1) (at-loop .loop .inv .0) (on .0)
-          (omega (arith, on .1, at-loop .loop .inv .2 .wrote .room)) (at-loop .loop .inv .2)
+    let test = at-answer-line .before .before .before .before in
+    let v = test .before .loop .inv in (
+      v .0,
+      v .1,
+      kept-more _ _ _ _ _ _ _ _ _ _ _ _ _ (at-answer-line .answer-line .result) (v .1) (v .0)
+          (on test .0) (omega (arith, on test .1, v .2 .wrote .room)) (v .2)
           (at-answer-line .answer-line .ensures) (c .line-end2 .ensures),
     )
 
@@ -86,15 +77,6 @@ keep-requires c κs = (
   omega (arith, c .before .loop .inv .0, c .before .loop .inv .2 .end .to),
 )
 
-same-length : tie.Need-same-length Inv-loop μ-loop
-same-length c = c .before .before .loop .inv .2 .site
-
-same-length-2 : tie.Need-same-length-2 Inv-loop μ-loop
-same-length-2 c = c .before .before .loop .inv .2 .links
-
-same-length-3 : tie.Need-same-length-3 Inv-loop μ-loop
-same-length-3 c = c .before .before .loop .inv .2 .wrote .room
-
 returns : tie.Need-returns Inv-loop μ-loop
 returns c =
     let at-loop = c .before .before in
@@ -102,9 +84,8 @@ returns c =
     (c .before .loop-test .left) (at-loop .loop .inv .2) (c .keep .ensures)
 
 pub feed-formed-spec : {M : Type 1} → statement M
-feed-formed-spec =
-    tie.close
-    (tie.spec
+feed-formed-spec = tie.close (tie.spec
     Inv-loop μ-loop (λ c κs. search needs) loop-holds sub-loop answer-line-requires
-    (λ c. search needs) line-end-requires-2 loop-less loop-again keep-requires same-length
-    same-length-2 same-length-3 returns)
+    (λ c. search needs) line-end-requires-2 loop-less loop-again keep-requires
+    (λ c. c .before .before .loop .inv .2 .site) (λ c. c .before .before .loop .inv .2 .links)
+    (λ c. c .before .before .loop .inv .2 .wrote .room) returns)

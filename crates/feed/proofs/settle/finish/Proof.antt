@@ -1,4 +1,3 @@
--- `feed::settle::finish` meets its contract.
 use mathlib.Core.Path.{sym, _∙_}
 use native.Mathlib.Omega.{arith}
 use borrow.Author.Needs.{needs}
@@ -26,8 +25,6 @@ returns-2 c = finish-done _ _ _ _ _ (sym (c .before .before .before .before .bef
     .before .before .before .before .if1 .left))) (c .before .before .before .put-done .ensures)
 
 pub finish-spec : {M : Type 1} → statement M
-finish-spec =
-    tie.close
-    (tie.spec
-    (λ c κs. search needs) (λ c κs. search needs) (λ c κs. search needs) (λ c. search needs)
-    returns put-done-requires (λ c κs. search needs) (λ c. search needs) returns-2)
+finish-spec = tie.close (tie.spec
+    (λ c κs. search needs) (λ c κs. search needs) (λ c κs. search needs) (λ c. search needs) returns
+    put-done-requires (λ c κs. search needs) (λ c. search needs) returns-2)

@@ -1,4 +1,3 @@
--- `feed::settle::keep` meets its contract.
 use mathlib.Core.Path.{refl}
 use borrow.Author.Needs.{needs}
 use Rattle.feed.proofs.AnswerLaws.{keeps-is}
@@ -10,7 +9,4 @@ returns c = keeps-is ((c .before .before .before .before) .args .f) _ _ refl ref
     .ensures)
 
 pub keep-spec : {M : Type 1} → statement M
-keep-spec =
-    tie.close
-    (tie.spec
-    (λ c κs. search needs) returns)
+keep-spec = tie.close (tie.spec (λ c κs. search needs) returns)

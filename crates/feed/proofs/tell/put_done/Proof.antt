@@ -1,4 +1,3 @@
--- `feed::tell::put_done` meets its contract.
 use native.Mathlib.Omega.{arith}
 use borrow.Author.Needs.{needs}
 use Rattle.print.proofs.WriteLaws.{then}
@@ -33,14 +32,11 @@ returns c =
     let start = at-size .before .before .before .before in
     done-is _ _ _ _ (at-size .size .ensures) (at-size2 .size2 .ensures)
     (omega (arith, at-size .size .ensures, start .pre .1 .boxes))
-    (then (at-put-decimal .put-decimal .ensures)
-    (then (at-put-next .put-next .ensures)
+    (then (at-put-decimal .put-decimal .ensures) (then (at-put-next .put-next .ensures)
     (then (at-put-lasts .put-lasts .ensures) (at-put-byte .put-byte .ensures))))
 
 pub put-done-spec : {M : Type 1} → statement M
-put-done-spec =
-    tie.close
-    (tie.spec
+put-done-spec = tie.close (tie.spec
     (λ c. search needs) (λ c κs. search needs) (λ c. search needs) (λ c κs. search needs) add-w
     (λ c κs. search needs) (λ c. search needs) (λ c κs. search needs) put-lasts-requires
     (λ c κs. search needs) (λ c. search needs) returns)

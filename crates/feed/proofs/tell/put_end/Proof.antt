@@ -1,4 +1,3 @@
--- `feed::tell::put_end` meets its contract.
 use mathlib.Core.Path.{_≡_}
 use lib.ListN.{length}
 use borrow.Author.Needs.{needs}
@@ -36,13 +35,10 @@ returns-4 : tie.Need-returns-4
 returns-4 c =
     let at-if1 = c .before .before in
     let start = at-if1 .before .before in
-    λ xs ls.
-    end-ended (start .args .f) xs ls _ (c .enum-told3 .given .1) (line-length start)
+    λ xs ls. end-ended (start .args .f) xs ls _ (c .enum-told3 .given .1) (line-length start)
     (at-if1 .if1 .left)
 
 pub put-end-spec : {M : Type 1} → statement M
-put-end-spec =
-    tie.close
-    (tie.spec
+put-end-spec = tie.close (tie.spec
     returns (λ c. search needs) (λ c κs. search needs) (λ c. search needs) (λ c κs. search needs)
     (λ c. search needs) (λ c. search needs) returns-2 (λ c. search needs) returns-3 returns-4)

@@ -1,4 +1,3 @@
--- `feed::tell::put_lasts` meets its contract.
 use Prim.Native.Nat.{_≤_, _-_, _*_}
 use native.Mathlib.Omega.{arith}
 use Rattle.print.specs.Decimal.{spaced}
@@ -21,27 +20,6 @@ loop-holds c =
     let start = c .before .before in
     (omega arith, lasts-none _ (start .args .site .now) (start .args .w) _)
 
-row-at-requires : tie.Need-row-at-requires Inv-loop μ-loop
-row-at-requires c κs = (omega arith, omega arith)
-
-add-put-next : tie.Need-add-put-next Inv-loop μ-loop
-add-put-next c = search tests
-
-mul-put-next : tie.Need-mul-put-next Inv-loop μ-loop
-mul-put-next c = search tests
-
-shared-slice-read-put-next : tie.Need-shared-slice-read-put-next Inv-loop μ-loop
-shared-slice-read-put-next c = search tests
-
-put-next-requires : tie.Need-put-next-requires Inv-loop μ-loop
-put-next-requires c κs = omega arith
-
-add-i : tie.Need-add-i Inv-loop μ-loop
-add-i c = search tests
-
-loop-less : tie.Need-loop-less Inv-loop μ-loop
-loop-less c = search tests
-
 loop-again : tie.Need-loop-again Inv-loop μ-loop
 loop-again c =
     let at-put-next = c .before .before in
@@ -54,9 +32,6 @@ loop-again c =
           (at-put-next .put-next .ensures),
     )
 
-same-length : tie.Need-same-length Inv-loop μ-loop
-same-length c = c .before .loop .inv .1 .room
-
 returns : tie.Need-returns Inv-loop μ-loop
 returns c =
     let start = c .before .before .before .before in
@@ -64,8 +39,7 @@ returns c =
     (c .before .loop .inv .0) (c .before .loop .inv .1)
 
 pub put-lasts-spec : {M : Type 1} → statement M
-put-lasts-spec =
-    tie.close
-    (tie.spec
-    Inv-loop μ-loop loop-holds row-at-requires add-put-next mul-put-next shared-slice-read-put-next
-    put-next-requires add-i loop-less loop-again same-length returns)
+put-lasts-spec = tie.close (tie.spec
+    Inv-loop μ-loop loop-holds (λ c κs. (omega arith, omega arith)) (λ c. search tests)
+    (λ c. search tests) (λ c. search tests) (λ c κs. omega arith) (λ c. search tests)
+    (λ c. search tests) loop-again (λ c. c .before .loop .inv .1 .room) returns)

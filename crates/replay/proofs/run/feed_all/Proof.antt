@@ -1,4 +1,3 @@
--- `replay::run::feed_all` meets its contract.
 use Prim.Native.Nat.{_≤_, _-_}
 use mathlib.Core.Path.{sym}
 use native.Mathlib.Omega.{arith}
@@ -23,9 +22,6 @@ loop-holds : tie.Need-loop-holds Inv-loop μ-loop
 loop-holds c =
     let start = c .before .before .before .before in
     (start .pre .0, kept-none (start .args .f) _ _ _ _ (start .pre .1))
-
-sub-feed-formed : tie.Need-sub-feed-formed Inv-loop μ-loop
-sub-feed-formed c = c .before .loop .inv .1 .within
 
 feed-formed-requires : tie.Need-feed-formed-requires Inv-loop μ-loop
 feed-formed-requires c κs = c .before .before .before .before .before .loop .inv .1 .lent
@@ -69,8 +65,7 @@ returns c =
     .before .before in
     let at-loop-test = at-feed-formed .before .before .before .before .before in
     let at-loop = at-loop-test .before in
-    kept-cut _ _ _ _ _ _ _
-    (kept-more _ _ _ _ _ _ _ _ (at-loop .loop .i) (at-loop .loop .g)
+    kept-cut _ _ _ _ _ _ _ (kept-more _ _ _ _ _ _ _ _ (at-loop .loop .i) (at-loop .loop .g)
     (at-feed-formed .feed-formed .result) (at-loop-test .loop-test .taken) (at-loop .loop .inv .0)
     (at-loop .loop .inv .1) (at-feed-formed .feed-formed .ensures))
 
@@ -127,25 +122,15 @@ loop-again c =
     (at-loop .loop .inv .1) (at-feed-formed .feed-formed .ensures) in
     (omega (arith, more .out, at-loop .loop .inv .0, at-loop .loop .inv .1 .out), more)
 
-same-length-4 : tie.Need-same-length-4 Inv-loop μ-loop
-same-length-4 c = c .before .loop .inv .1 .site
-
-same-length-5 : tie.Need-same-length-5 Inv-loop μ-loop
-same-length-5 c = c .before .loop .inv .1 .links
-
-same-length-6 : tie.Need-same-length-6 Inv-loop μ-loop
-same-length-6 c = c .before .loop .inv .1 .out
-
 returns-2 : tie.Need-returns-2 Inv-loop μ-loop
 returns-2 c = kept-all _ _ _ _ _ _ _ _ (c .loop-test .left) (c .before .loop .inv .1)
 
 pub feed-all-spec : {M : Type 1} → statement M
-feed-all-spec =
-    tie.close
-    (tie.spec
-    Inv-loop μ-loop loop-holds sub-feed-formed (λ c. search needs) (λ c. search needs)
-    feed-formed-requires slice-reshare-prefix-write slice-aggregate-write (λ c κs. search needs)
-    same-length same-length-2 same-length-3 returns sub-tell-refused (λ c. search needs)
-    (λ c. search needs) slice-reshare-prefix-tell-refused slice-aggregate-tell-refused
-    (λ c κs. search needs) add-i loop-less loop-again same-length-4 same-length-5 same-length-6
-    returns-2)
+feed-all-spec = tie.close (tie.spec
+    Inv-loop μ-loop loop-holds (λ c. c .before .loop .inv .1 .within) (λ c. search needs)
+    (λ c. search needs) feed-formed-requires slice-reshare-prefix-write slice-aggregate-write
+    (λ c κs. search needs) same-length same-length-2 same-length-3 returns sub-tell-refused
+    (λ c. search needs) (λ c. search needs) slice-reshare-prefix-tell-refused
+    slice-aggregate-tell-refused (λ c κs. search needs) add-i loop-less loop-again
+    (λ c. c .before .loop .inv .1 .site) (λ c. c .before .loop .inv .1 .links)
+    (λ c. c .before .loop .inv .1 .out) returns-2)

@@ -1,4 +1,3 @@
--- `replay::run::read_some` meets its contract.
 use Rattle.streams.proofs.GotLaws.{counted}
 use Rattle.replay.proofs.LoopLaws.{lent-of}
 use borrow.Author.Needs.{needs}
@@ -33,9 +32,7 @@ returns-3 c =
     lent-of (c .over2 .ensures) (start .pre .1)
 
 pub read-some-spec : {M : Type 1} → statement M
-read-some-spec =
-    tie.close
-    (tie.spec
+read-some-spec = tie.close (tie.spec
     (λ c κs. search needs) (λ c. search needs) slice-reshare-prefix-feed-all
     slice-aggregate-feed-all (λ c κs. search needs) (λ c κs. search needs) (λ c. search needs)
     (λ c κs. search needs) (λ c κs. search needs) (λ c. search needs) (λ c. search needs)

@@ -1,4 +1,3 @@
--- `replay::run::run` meets its contract.
 use Prim.Native.Nat.{_≤_}
 use mathlib.Core.Path.{_≡_, refl, _∙_}
 use native.Mathlib.Omega.{arith}
@@ -80,22 +79,9 @@ loop-again c =
       at-out .out .given ∙ at-loop .loop .inv .5,
     )
 
-same-length-5 : tie.Need-same-length-5 Inv-loop μ-loop
-same-length-5 c = c .before .loop .inv .2
-
-same-length-6 : tie.Need-same-length-6 Inv-loop μ-loop
-same-length-6 c = c .before .loop .inv .3
-
-same-length-7 : tie.Need-same-length-7 Inv-loop μ-loop
-same-length-7 c = c .before .loop .inv .4
-
-same-length-8 : tie.Need-same-length-8 Inv-loop μ-loop
-same-length-8 c = c .before .loop .inv .5
-
 pub run-spec : {M : Type 1} → statement M
-run-spec =
-    tie.close
-    (tie.spec
+run-spec = tie.close (tie.spec
     Inv-loop μ-loop (λ c κs. search needs) loop-holds read-some-requires same-length same-length-2
     same-length-3 same-length-4 (λ c. search needs) (λ c. search needs) (λ c. search needs)
-    loop-again same-length-5 same-length-6 same-length-7 same-length-8 (λ c. search needs))
+    loop-again (λ c. c .before .loop .inv .2) (λ c. c .before .loop .inv .3)
+    (λ c. c .before .loop .inv .4) (λ c. c .before .loop .inv .5) (λ c. search needs))

@@ -1,4 +1,3 @@
--- `replay::run::write_end` meets its contract.
 use mathlib.Core.Path.{sym}
 use lib.Seq.{length-take-le}
 use Rattle.feed.proofs.WholeLaws.{end-fits}
@@ -6,17 +5,12 @@ use borrow.Author.Needs.{needs}
 use Rattle.replay.proofs.run.write_end.Statement.{statement}
 use Rattle.replay.proofs.run.write_end.Tie as tie
 
-slice-reshare-prefix-write : tie.Need-slice-reshare-prefix-write
-slice-reshare-prefix-write c = end-fits (c .before .before .before .feed-end .ensures)
-
 slice-aggregate-write : tie.Need-slice-aggregate-write
 slice-aggregate-write c =
     sym (length-take-le _ _ (end-fits (c .before .before .before .before .feed-end .ensures)))
 
 pub write-end-spec : {M : Type 1} → statement M
-write-end-spec =
-    tie.close
-    (tie.spec
-    (λ c κs. search needs) (λ c. search needs) (λ c. search needs) slice-reshare-prefix-write
-    slice-aggregate-write (λ c κs. search needs) (λ c. search needs) (λ c. search needs)
-    (λ c κs. search needs) (λ c. search needs) (λ c. search needs))
+write-end-spec = tie.close (tie.spec (λ c κs. search needs) (λ c. search needs) (λ c. search needs)
+    (λ c. end-fits (c .before .before .before .feed-end .ensures)) slice-aggregate-write
+    (λ c κs. search needs) (λ c. search needs) (λ c. search needs) (λ c κs. search needs)
+    (λ c. search needs) (λ c. search needs))

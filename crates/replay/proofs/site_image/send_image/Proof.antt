@@ -1,4 +1,3 @@
--- `replay::site_image::send_image` meets its contract.
 use mathlib.Core.Path.{sym}
 use lib.Seq.{length-take-le}
 use Rattle.replay.proofs.ImageLaws.{image-fits}
@@ -17,9 +16,7 @@ slice-aggregate-send c =
     sym (length-take-le _ _ (image-fits (at-write .write .ensures) (at-n .n .given .1)))
 
 pub send-image-spec : {M : Type 1} → statement M
-send-image-spec =
-    tie.close
-    (tie.spec
+send-image-spec = tie.close (tie.spec
     (λ c κs. search needs) (λ c. search needs) slice-reshare-prefix-send slice-aggregate-send
     (λ c κs. search needs) (λ c. search needs) (λ c. search needs) (λ c. search needs)
     (λ c κs. search needs) (λ c. search needs) (λ c. search needs) (λ c. search needs)

@@ -1,4 +1,3 @@
--- `replay::tell::past_lines` meets its contract.
 use Prim.Native.Nat.{_≤_, _-_}
 use lib.ListN.{length}
 use borrow.Author.Needs.{needs}
@@ -12,8 +11,6 @@ abbrev μ-loop : tie.MeasureT-loop
 μ-loop piece n left₀ i₀ left i = length piece - i
 
 pub past-lines-spec : {M : Type 1} → statement M
-past-lines-spec =
-    tie.close
-    (tie.spec
+past-lines-spec = tie.close (tie.spec
     Inv-loop μ-loop (λ c. search needs) (λ c. search needs) (λ c. search needs) (λ c. search needs)
     (λ c. search needs) (λ c. search needs) (λ c. search needs) (λ c. search needs))

@@ -1,4 +1,3 @@
--- `try_damage::cuts::longer` meets its contract.
 use borrow.Author.Needs.{needs}
 use Prim.Native.Nat.{_-_}
 use lib.ListN.{length}
@@ -15,9 +14,7 @@ abbrev μ-loop : tie.MeasureT-loop
 μ-loop image₀ site₀ links₀ back₀ c₀ b₀ image site links back c b = 256 - b
 
 pub longer-spec : {M : Type 1} → statement M
-longer-spec =
-    tie.close
-    (tie.spec
+longer-spec = tie.close (tie.spec
     Inv-loop μ-loop (λ c κs. search needs) (λ c. search needs) (λ c. search needs)
     (λ c κs. search needs) (λ c κs. search needs) (λ c. search needs) (λ c. search needs)
     (λ c. search needs) (λ c. search needs) (λ c. search needs) (λ c. search needs)

@@ -1,4 +1,3 @@
--- `try_damage::flips::flips` meets its contract.
 use borrow.Author.Needs.{needs}
 use Prim.Native.Nat.{_-_}
 use lib.ListN.{length}
@@ -15,9 +14,7 @@ abbrev μ-loop : tie.MeasureT-loop
 μ-loop image₀ bits site₀ links₀ back₀ c₀ i₀ image site links back c i = length image₀ - i
 
 pub flips-spec : {M : Type 1} → statement M
-flips-spec =
-    tie.close
-    (tie.spec
+flips-spec = tie.close (tie.spec
     Inv-loop μ-loop (λ c κs. search needs) (λ c. search needs) (λ c κs. search needs)
     (λ c κs. search needs) (λ c. search needs) (λ c. search needs) (λ c. search needs)
     (λ c. search needs) (λ c. search needs) (λ c. search needs) (λ c. search needs)

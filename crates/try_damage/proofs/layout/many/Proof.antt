@@ -1,4 +1,3 @@
--- `try_damage::layout::many` meets its contract.
 use borrow.Author.Needs.{needs}
 use Prim.Native.Nat.{_-_}
 use Rattle.try_damage.proofs.layout.many.Statement.{statement}
@@ -11,8 +10,6 @@ abbrev μ-loop : tie.MeasureT-loop
 μ-loop k width sum₀ i₀ sum i = k - i
 
 pub many-spec : {M : Type 1} → statement M
-many-spec =
-    tie.close
-    (tie.spec
+many-spec = tie.close (tie.spec
     Inv-loop μ-loop (λ c. search needs) (λ c κs. search needs) (λ c. search needs)
     (λ c. search needs) (λ c. search needs) (λ c. search needs))

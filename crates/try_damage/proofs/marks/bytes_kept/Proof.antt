@@ -1,4 +1,3 @@
--- `try_damage::marks::bytes_kept` meets its contract.
 use borrow.Author.Needs.{needs}
 use Prim.Native.Nat.{_-_}
 use lib.ListN.{length}
@@ -12,8 +11,6 @@ abbrev μ-loop : tie.MeasureT-loop
 μ-loop bytes from i₀ i = length bytes - i
 
 pub bytes-kept-spec : {M : Type 1} → statement M
-bytes-kept-spec =
-    tie.close
-    (tie.spec
+bytes-kept-spec = tie.close (tie.spec
     Inv-loop μ-loop (λ c. search needs) (λ c. search needs) (λ c. search needs) (λ c. search needs)
     (λ c. search needs) (λ c. search needs) (λ c. search needs))

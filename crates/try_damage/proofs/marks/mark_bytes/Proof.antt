@@ -1,4 +1,3 @@
--- `try_damage::marks::mark_bytes` meets its contract.
 use borrow.Author.Needs.{needs}
 use Prim.Native.Nat.{_-_}
 use lib.ListN.{length}
@@ -13,8 +12,6 @@ abbrev μ-loop : tie.MeasureT-loop
 μ-loop bytes₀ i₀ bytes i = length bytes₀ - i
 
 pub mark-bytes-spec : {M : Type 1} → statement M
-mark-bytes-spec =
-    tie.close
-    (tie.spec
+mark-bytes-spec = tie.close (tie.spec
     Inv-loop μ-loop (λ c. search needs) (λ c. search needs) (λ c. search needs) (λ c. search needs)
     (λ c. search needs) (λ c. search needs) (λ c. search needs))

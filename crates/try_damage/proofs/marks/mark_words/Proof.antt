@@ -1,4 +1,3 @@
--- `try_damage::marks::mark_words` meets its contract.
 use borrow.Author.Needs.{needs}
 use Prim.Native.Nat.{_-_}
 use lib.ListN.{length}
@@ -13,9 +12,7 @@ abbrev μ-loop : tie.MeasureT-loop
 μ-loop words₀ i₀ words i = length words₀ - i
 
 pub mark-words-spec : {M : Type 1} → statement M
-mark-words-spec =
-    tie.close
-    (tie.spec
+mark-words-spec = tie.close (tie.spec
     Inv-loop μ-loop (λ c. search needs) (λ c κs. search needs) (λ c. search needs)
     (λ c. search needs) (λ c. search needs) (λ c. search needs) (λ c. search needs)
     (λ c. search needs) (λ c. search needs))

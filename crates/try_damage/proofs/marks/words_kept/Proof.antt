@@ -1,4 +1,3 @@
--- `try_damage::marks::words_kept` meets its contract.
 use borrow.Author.Needs.{needs}
 use Prim.Native.Nat.{_-_}
 use lib.ListN.{length}
@@ -12,9 +11,7 @@ abbrev μ-loop : tie.MeasureT-loop
 μ-loop words from i₀ i = length words - i
 
 pub words-kept-spec : {M : Type 1} → statement M
-words-kept-spec =
-    tie.close
-    (tie.spec
+words-kept-spec = tie.close (tie.spec
     Inv-loop μ-loop (λ c. search needs) (λ c. search needs) (λ c. search needs)
     (λ c κs. search needs) (λ c. search needs) (λ c. search needs) (λ c. search needs)
     (λ c. search needs) (λ c. search needs))

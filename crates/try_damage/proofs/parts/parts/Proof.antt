@@ -1,4 +1,3 @@
--- `try_damage::parts::parts` meets its contract.
 use borrow.Author.Needs.{needs}
 use Prim.Native.Nat.{_-_}
 use lib.ListN.{length}
@@ -15,9 +14,7 @@ abbrev μ-loop : tie.MeasureT-loop
 μ-loop bytes₀ site₀ links₀ back₀ k₀ bytes site links back k = 9 - k
 
 pub parts-spec : {M : Type 1} → statement M
-parts-spec =
-    tie.close
-    (tie.spec
+parts-spec = tie.close (tie.spec
     Inv-loop μ-loop (λ c. search needs) (λ c κs. search needs) (λ c. search needs)
     (λ c. search needs) (λ c. search needs) (λ c. search needs) (λ c. search needs)
     (λ c. search needs) (λ c. search needs) (λ c. search needs))

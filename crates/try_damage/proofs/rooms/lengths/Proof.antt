@@ -1,4 +1,3 @@
--- `try_damage::rooms::lengths` meets its contract.
 use borrow.Author.Needs.{needs}
 use Prim.Native.Nat.{_-_}
 use lib.ListN.{length}
@@ -13,9 +12,7 @@ abbrev μ-loop : tie.MeasureT-loop
 μ-loop image site links back₀ e c₀ k₀ back c k = e - k
 
 pub lengths-spec : {M : Type 1} → statement M
-lengths-spec =
-    tie.close
-    (tie.spec
+lengths-spec = tie.close (tie.spec
     Inv-loop μ-loop (λ c κs. search needs) (λ c κs. search needs) (λ c. search needs)
     (λ c κs. search needs) (λ c κs. search needs) (λ c. search needs) (λ c. search needs)
     (λ c. search needs) (λ c. search needs) (λ c. search needs))

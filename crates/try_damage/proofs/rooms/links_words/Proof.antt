@@ -1,4 +1,3 @@
--- `try_damage::rooms::links_words` meets its contract.
 use borrow.Author.Needs.{needs}
 use Prim.Native.Nat.{_-_}
 use lib.ListN.{length}
@@ -14,9 +13,7 @@ abbrev μ-loop : tie.MeasureT-loop
 μ-loop image site₀ links₀ back₀ all e c₀ k₀ site links back c k = e - k
 
 pub links-words-spec : {M : Type 1} → statement M
-links-words-spec =
-    tie.close
-    (tie.spec
+links-words-spec = tie.close (tie.spec
     Inv-loop μ-loop (λ c κs. search needs) (λ c κs. search needs) (λ c. search needs)
     (λ c κs. search needs) (λ c κs. search needs) (λ c. search needs) (λ c. search needs)
     (λ c. search needs) (λ c. search needs) (λ c. search needs) (λ c. search needs)

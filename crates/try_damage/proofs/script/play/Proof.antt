@@ -1,4 +1,3 @@
--- `try_damage::script::play` meets its contract.
 use borrow.Author.Needs.{needs}
 use Prim.Native.Nat.{_-_}
 use lib.ListN.{length}
@@ -15,9 +14,7 @@ abbrev μ-loop : tie.MeasureT-loop
 μ-loop text image₀ site₀ links₀ back₀ at₀ image site links back at = length text - at
 
 pub play-spec : {M : Type 1} → statement M
-play-spec =
-    tie.close
-    (tie.spec
+play-spec = tie.close (tie.spec
     Inv-loop μ-loop (λ c. search needs) (λ c κs. search needs) (λ c. search needs)
     (λ c. search needs) (λ c. search needs) (λ c. search needs) (λ c κs. search needs)
     (λ c. search needs) (λ c. search needs) (λ c. search needs) (λ c. search needs)

@@ -1,4 +1,3 @@
--- `try_walk::decimals::numbers_at` meets its contract.
 use borrow.Author.Needs.{needs}
 use Prim.Native.Nat.{_-_}
 use lib.ListN.{length}
@@ -12,9 +11,7 @@ abbrev μ-loop : tie.MeasureT-loop
 μ-loop s at n₀ i₀ n i = length s - i
 
 pub numbers-at-spec : {M : Type 1} → statement M
-numbers-at-spec =
-    tie.close
-    (tie.spec
+numbers-at-spec = tie.close (tie.spec
     Inv-loop μ-loop (λ c. search needs) (λ c. search needs) (λ c κs. search needs)
     (λ c. search needs) (λ c. search needs) (λ c. search needs) (λ c κs. search needs)
     (λ c. search needs))

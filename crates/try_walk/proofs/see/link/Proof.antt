@@ -1,4 +1,3 @@
--- `try_walk::see::link` meets its contract.
 use borrow.Author.Needs.{needs}
 use Prim.Native.Nat.{_-_}
 use Rattle.try_walk.proofs.see.link.Statement.{statement}
@@ -11,9 +10,7 @@ abbrev μ-loop : tie.MeasureT-loop
 μ-loop z links a b at l count p₀ i₀ t11 p i = count - i
 
 pub link-spec : {M : Type 1} → statement M
-link-spec =
-    tie.close
-    (tie.spec
+link-spec = tie.close (tie.spec
     Inv-loop μ-loop (λ c κs. search needs) (λ c. search needs) (λ c κs. search needs)
     (λ c κs. search needs) (λ c κs. search needs) (λ c. search needs) (λ c κs. search needs)
     (λ c κs. search needs) (λ c. search needs) (λ c κs. search needs) (λ c κs. search needs)

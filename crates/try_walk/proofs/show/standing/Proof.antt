@@ -1,4 +1,3 @@
--- `try_walk::show::standing` meets its contract.
 use borrow.Author.Needs.{needs}
 use Prim.Native.Nat.{_-_}
 use Rattle.try_walk.proofs.show.standing.Statement.{statement}
@@ -11,9 +10,7 @@ abbrev μ-loop : tie.MeasureT-loop
 μ-loop z site n c₀ t7 c = n - c
 
 pub standing-spec : {M : Type 1} → statement M
-standing-spec =
-    tie.close
-    (tie.spec
+standing-spec = tie.close (tie.spec
     Inv-loop μ-loop (λ c. search needs) (λ c κs. search needs) (λ c κs. search needs)
     (λ c κs. search needs) (λ c. search needs) (λ c κs. search needs) (λ c. search needs)
     (λ c. search needs) (λ c. search needs) (λ c κs. search needs) (λ c κs. search needs)

@@ -1,4 +1,3 @@
--- `try_walk::show::words` meets its contract.
 use borrow.Author.Needs.{needs}
 use Prim.Native.Nat.{_-_}
 use Rattle.try_walk.proofs.show.words.Statement.{statement}
@@ -11,8 +10,6 @@ abbrev μ-loop : tie.MeasureT-loop
 μ-loop w a e i₀ i = e - i
 
 pub words-spec : {M : Type 1} → statement M
-words-spec =
-    tie.close
-    (tie.spec
+words-spec = tie.close (tie.spec
     Inv-loop μ-loop (λ c. search needs) (λ c κs. search needs) (λ c κs. search needs)
     (λ c. search needs) (λ c. search needs) (λ c. search needs) (λ c. search needs))

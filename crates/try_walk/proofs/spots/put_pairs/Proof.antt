@@ -1,4 +1,3 @@
--- `try_walk::spots::put_pairs` meets its contract.
 use borrow.Author.Needs.{needs}
 use Prim.Native.Nat.{_-_}
 use lib.ListN.{length}
@@ -13,9 +12,7 @@ abbrev μ-loop : tie.MeasureT-loop
 μ-loop words₀ at k pair₀ i₀ words pair i = k - i
 
 pub put-pairs-spec : {M : Type 1} → statement M
-put-pairs-spec =
-    tie.close
-    (tie.spec
+put-pairs-spec = tie.close (tie.spec
     Inv-loop μ-loop (λ c. search needs) (λ c κs. search needs) (λ c κs. search needs)
     (λ c κs. search needs) (λ c. search needs) (λ c. search needs) (λ c. search needs)
     (λ c. search needs) (λ c. search needs))

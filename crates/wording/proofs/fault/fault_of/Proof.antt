@@ -1,4 +1,3 @@
--- `wording::fault::fault_of` meets its contract.
 use Rattle.wording.specs.Fault.{faultOf}
 use borrow.Author.Needs.{needs}
 use Rattle.wording.proofs.fault.fault_of.Statement.{statement}
@@ -35,9 +34,7 @@ returns c =
     )
 
 pub fault-of-spec : {M : Type 1} → statement M
-fault-of-spec =
-    tie.close
-    (tie.spec
+fault-of-spec = tie.close (tie.spec
     (λ c κs. search needs) (λ c κs. search needs) (λ c κs. search needs) (λ c. search needs)
     (λ c κs. search needs) (λ c κs. search needs) (λ c. search needs) (λ c κs. search needs)
     (λ c κs. search needs) (λ c κs. search needs) (λ c κs. search needs) (λ c. search needs)

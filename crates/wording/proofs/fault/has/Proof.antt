@@ -1,4 +1,3 @@
--- `wording::fault::has` meets its contract.
 use Prim.Native.Nat.{_-_}
 use mathlib.Core.Path.{_≡_, refl, sym, _∙_}
 use lib.ListN.{length, drop}
@@ -13,9 +12,6 @@ Inv-loop w s i₀ i = within w (drop i s) ≡ within w s
 
 abbrev μ-loop : tie.MeasureT-loop
 μ-loop w s i₀ i = length s - i
-
-loop-holds : tie.Need-loop-holds Inv-loop μ-loop
-loop-holds c = refl
 
 returns : tie.Need-returns Inv-loop μ-loop
 unfolding within
@@ -35,8 +31,6 @@ unfolding within
 returns-2 c = sym (within-end _ _ _ (c .loop-test .left)) ∙ c .before .loop .inv
 
 pub has-spec : {M : Type 1} → statement M
-has-spec =
-    tie.close
-    (tie.spec
-    Inv-loop μ-loop loop-holds (λ c. search needs) (λ c. search needs) (λ c. search needs)
+has-spec = tie.close (tie.spec
+    Inv-loop μ-loop (λ c. refl) (λ c. search needs) (λ c. search needs) (λ c. search needs)
     (λ c κs. search needs) returns (λ c. search needs) (λ c. search needs) loop-again returns-2)

@@ -1,4 +1,3 @@
--- `wording::fault::is_overspaced` meets its contract.
 use Rattle.wording.specs.Fault.{overspaced}
 use borrow.Author.Needs.{needs}
 use Rattle.wording.proofs.fault.is_overspaced.Statement.{statement}
@@ -14,8 +13,6 @@ returns c =
     )
 
 pub is-overspaced-spec : {M : Type 1} → statement M
-is-overspaced-spec =
-    tie.close
-    (tie.spec
+is-overspaced-spec = tie.close (tie.spec
     (λ c. search needs) (λ c κs. search needs) (λ c κs. search needs) (λ c. search needs)
     (λ c κs. search needs) returns)

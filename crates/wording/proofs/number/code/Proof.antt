@@ -1,4 +1,3 @@
--- `wording::number::code` meets its contract.
 use Rattle.wording.specs.Number.{codeOf}
 use borrow.Author.Needs.{needs}
 use Rattle.wording.proofs.number.code.Statement.{statement}
@@ -16,8 +15,6 @@ returns c =
     )
 
 pub code-spec : {M : Type 1} → statement M
-code-spec =
-    tie.close
-    (tie.spec
+code-spec = tie.close (tie.spec
     (λ c κs. search needs) (λ c κs. search needs) (λ c κs. search needs) (λ c κs. search needs)
     (λ c. search needs) (λ c. search needs) (λ c κs. search needs) returns)

@@ -1,4 +1,3 @@
--- `wording::number::from_end` meets its contract.
 use Rattle.rules.proofs.Tests.{tests}
 use Rattle.wording.specs.Number.{fromEnd}
 use borrow.Author.Needs.{needs}
@@ -18,7 +17,4 @@ unfolding fromEnd
 returns-3 c = search tests
 
 pub from-end-spec : {M : Type 1} → statement M
-from-end-spec =
-    tie.close
-    (tie.spec
-    returns returns-2 (λ c. search needs) returns-3)
+from-end-spec = tie.close (tie.spec returns returns-2 (λ c. search needs) returns-3)

@@ -1,4 +1,3 @@
--- `wording::put::put` meets its contract.
 use mathlib.Core.Path.{sym}
 use native.Mathlib.Omega.{arith}
 use lib.Seq.{length-take-le}
@@ -31,8 +30,6 @@ returns c =
     (n .before .least .ensures) (n .least2 .ensures) (put .put-bytes .ensures)
 
 pub put-spec : {M : Type 1} → statement M
-put-spec =
-    tie.close
-    (tie.spec
+put-spec = tie.close (tie.spec
     (λ c κs. search needs) (λ c. search needs) (λ c κs. search needs) slice-aggregate-put-bytes
     put-bytes-requires (λ c. search needs) returns)
