@@ -38,11 +38,10 @@ enum {
     JOURNAL_EPOCH = 5,     /* stop, return or timeout at epoch 1,000,000 */
     JOURNAL_NEW_PN = 6,    /* the new proposal number would exceed 999,999,999; not within the first
                             * 9,999,999 elections of a fresh site, and its epochs allow 500,000 */
-    JOURNAL_BOOK = 7,      /* no room for the next load: it would need a record beyond J, or its
-                            * number would be above 1,000,000,000 */
+    JOURNAL_BOOK = 7,      /* the next load would need a record beyond J, or pass 1,000,000,000 */
     JOURNAL_LINK = 8,      /* a mail would go onto a full link */
     JOURNAL_BUFFER = 12,   /* too few words or bytes are lent */
-    JOURNAL_UNTRUE = 14,   /* a holds line that is untrue, or of a load that is no longer kept */
+    JOURNAL_UNTRUE = 14,   /* a holds line that is untrue, or of a load no longer kept */
     /* 9 is no longer given and stays unused: a number given back is not given anew. */
     /* A mail that was handed over. */
     JOURNAL_TAKEN = 100,

@@ -27,7 +27,7 @@ pub(crate) fn put_meaning(out: &mut [u8], at: usize, code: u64) -> usize {
         7 => put_words(
             out,
             at,
-            b"no room for the next load: a record beyond J, or a number above 1,000,000,000",
+            b"the next load would need a record beyond J, or pass 1,000,000,000",
         ),
         8 => put_words(
             out,
@@ -41,7 +41,7 @@ pub(crate) fn put_meaning(out: &mut [u8], at: usize, code: u64) -> usize {
         14 => put_words(
             out,
             at,
-            b"a holds line that is untrue, or of a load that box no longer keeps",
+            b"a holds line that is untrue, or of a load no longer kept",
         ),
         _ => at,
     }
