@@ -23,8 +23,8 @@ impl Journal {
     }
 
     /// Demand 3: each box keeps first to last without a hole, neither ever falls, and what it keeps
-    /// is what any box keeps, or kept, as that number; each from one accepted offer, and no offer at
-    /// two numbers.
+    /// is what any box keeps, or kept, as that number; each is from one accepted offer, and none
+    /// fills two numbers.
     pub fn look(&mut self, site: &Site) -> Result<(), String> {
         self.books.resize(site.sizes.n as usize, (1, 0));
         for c in site.numbers() {
@@ -86,8 +86,8 @@ impl Before {
 }
 
 /// What a step's own rule makes visible, beyond demand 3: a record is agreed once all present hold
-/// it, a taken mail leaves no first below its own, a Last leaves no present box behind that is known
-/// to lag, and a leader's new number is the smallest above the old one with its rank.
+/// it, a taken mail leaves no first below its own, a Last leaves no present box behind that is
+/// known to lag, and a leader's new number is the smallest above the old one with its rank.
 pub fn look_at_rule(site: &Site, call: Call, answer: Answer, before: Before) -> Result<(), String> {
     let c = match call {
         Call::Recover(c) | Call::Agree(c) | Call::Deliver(_, c) => c,

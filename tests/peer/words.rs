@@ -3,8 +3,8 @@
 //! `site`: n, J, L, epoch, present set, and a row for each box, its fields in the image's order, with
 //! five peers and room for J records. `links`: for each pair of different boxes, by sender and then
 //! receiver, the place of its head, how many mails it holds, and L places round a ring, each a mail's
-//! fields in the image's order with room for J records; `first` is 0 in the kinds that carry none. Other
-//! words are neither read nor written.
+//! fields in the image's order with room for J records, and a first of 0 in the kinds that carry
+//! none. Other words are neither read nor written.
 
 use crate::faults::Fault;
 use crate::rules::*;
