@@ -6,7 +6,7 @@
 
 #define LONGEST_IMAGE 65536
 /* The longest image after a step: four mails more. */
-#define LONGEST_AFTER (LONGEST_IMAGE + 4 * (20 + 8 * J_MAX))
+#define LONGEST_AFTER (LONGEST_IMAGE + 4 * (24 + 8 * J_MAX))
 
 /* 0, or a refusal. */
 u32 take_image(const u8 *image, u64 length);

@@ -1,17 +1,21 @@
 /* The site image in plain C: its length, writer and reader; and what is by form. */
 #include "plain.h"
 
+/* Whether mail of this kind has its sender's first. */
+static u32 has_first(u32 kind) { return kind == LAST || kind == BEGIN || kind == COMMIT; }
+
 static u64 link_length(const struct link *link, u32 l) {
     u64 length = 4;
     for (u32 i = 0, place = link->first; i < link->count; i++) {
-        length += 20 + 8 * (u64)link->mails[place].count;
+        const struct mail *m = &link->mails[place];
+        length += 20 + 4 * has_first(m->kind) + 8 * (u64)m->count;
         place = place + 1 == l ? 0 : place + 1;
     }
     return length;
 }
 
 static u64 box_length(const struct site *s, u32 c) {
-    return 72 + 4 * s->n + 8 * (u64)s->boxes[c].held;
+    return 76 + 4 * s->n + 8 * (u64)s->boxes[c].held;
 }
 
 static u64 mail_length(const struct site *s) {
@@ -45,9 +49,9 @@ static u8 *put_entry(u8 *p, u64 *offset, u64 length) {
 }
 
 static u8 *put_box(u8 *p, const struct site *s, const struct camera *b) {
-    u32 head[] = {b->leads, b->state, b->phase, b->pn, b->last, b->stored_pn, b->stored_number,
-                  b->best_pn, b->best_number, b->answered, b->accepts};
-    for (u32 i = 0; i < 11; i++) p = put(p, head[i]);
+    u32 head[] = {b->leads, b->state, b->phase, b->pn, b->last, b->first, b->stored_pn,
+                  b->stored_number, b->best_pn, b->best_number, b->answered, b->accepts};
+    for (u32 i = 0; i < 12; i++) p = put(p, head[i]);
     u64 three[] = {b->best, b->waiting, b->agreeing};
     p = put_records(p, three, 3);
     for (u32 k = 0; k < s->n; k++) p = put(p, b->peers[k]);
@@ -58,7 +62,9 @@ static u8 *put_link(u8 *p, const struct link *link, u32 l) {
     p = put(p, link->count);
     for (u32 i = 0, place = link->first; i < link->count; i++) {
         const struct mail *m = &link->mails[place];
-        p = put(put(put(put(put(p, m->kind), m->pn), m->last), m->unagreed_pn), m->count);
+        p = put(put(put(p, m->kind), m->pn), m->last);
+        if (has_first(m->kind)) p = put(p, m->first);
+        p = put(put(p, m->unagreed_pn), m->count);
         p = put_records(p, m->records, m->count);
         place = place + 1 == l ? 0 : place + 1;
     }
@@ -110,7 +116,8 @@ static void get_records(struct rest *r, u64 *records, u32 count) {
 
 static void get_box(struct rest *r, const struct site *s, struct camera *b) {
     b->leads = get(r), b->state = get(r), b->phase = get(r), b->pn = get(r), b->last = get(r);
-    b->stored_pn = get(r), b->stored_number = get(r), b->best_pn = get(r), b->best_number = get(r);
+    b->first = get(r), b->stored_pn = get(r), b->stored_number = get(r);
+    b->best_pn = get(r), b->best_number = get(r);
     b->answered = get(r), b->accepts = get(r);
     get_records(r, &b->best, 1), get_records(r, &b->waiting, 1), get_records(r, &b->agreeing, 1);
     for (u32 k = 0; k < s->n; k++) b->peers[k] = get(r);
@@ -119,7 +126,9 @@ static void get_box(struct rest *r, const struct site *s, struct camera *b) {
 }
 
 static void get_mail(struct rest *r, const struct site *s, struct mail *m) {
-    m->kind = get(r), m->pn = get(r), m->last = get(r), m->unagreed_pn = get(r);
+    m->kind = get(r), m->pn = get(r), m->last = get(r);
+    m->first = has_first(m->kind) ? get(r) : 0;
+    m->unagreed_pn = get(r);
     m->count = get_count(r, s->j);
     get_records(r, m->records, m->count);
 }
@@ -166,29 +175,41 @@ static u32 all_proper(const u64 *records, u32 count) {
     return all;
 }
 
+/* 1, or at most last. */
+static u32 first_by_form(u32 first, u32 last) { return first == 1 || (first && first <= last); }
+
+/* The records from first to last+1, which is a load number. */
+static u32 with_next(u32 first, u32 last, u32 count) {
+    return last < MOST && count == last + 2 - first;
+}
+
 static u32 box_by_form(const struct site *s, u32 c) {
     const struct camera *b = &s->boxes[c];
-    u32 j = s->j, fine = b->leads <= 1 && b->state <= REFRESH && b->phase <= COMMIT_PHASE;
+    u32 fine = b->leads <= 1 && b->state <= REFRESH && b->phase <= COMMIT_PHASE;
     fine &= b->pn <= HIGHEST_PN && b->stored_pn <= HIGHEST_PN && b->best_pn <= HIGHEST_PN;
-    fine &= b->last <= j && b->stored_number <= j && b->best_number <= j && b->held <= j;
+    fine &= b->last <= MOST && b->stored_number <= MOST && b->best_number <= MOST;
+    fine &= first_by_form(b->first, b->last) && b->held <= s->j;
     fine &= !(b->answered >> s->n) && !(b->accepts >> s->n);
     fine &= !b->best || proper(b->best);
     fine &= !b->waiting || proper(b->waiting);
     fine &= !b->agreeing || proper(b->agreeing);
     for (u32 k = 0; k < s->n; k++)
-        fine &= b->peers[k] == UNKNOWN || (k != c && b->peers[k] <= j);
-    return fine && b->held - b->last <= 1 && all_proper(b->records, b->held);
+        fine &= b->peers[k] == UNKNOWN || (k != c && b->peers[k] <= MOST);
+    fine &= b->held == b->last + 1 - b->first || with_next(b->first, b->last, b->held);
+    return fine && all_proper(b->records, b->held);
 }
 
 static u32 mail_by_form(const struct site *s, const struct mail *m) {
-    if (m->pn > HIGHEST_PN || m->last > s->j || m->unagreed_pn > HIGHEST_PN) return 0;
+    if (m->pn > HIGHEST_PN || m->last > MOST || m->unagreed_pn > HIGHEST_PN) return 0;
+    if (has_first(m->kind) && !first_by_form(m->first, m->last)) return 0;
     if (m->count > s->j || !all_proper(m->records, m->count)) return 0;
-    u32 told = m->kind == LAST && m->count == m->last + 1;
+    u32 agreed = m->last + 1 - m->first;
+    u32 told = m->kind == LAST && with_next(m->first, m->last, m->count);
     if (m->unagreed_pn && !told) return 0;
     switch (m->kind) {
-    case LAST: return m->count == m->last || told;
-    case COMMIT: return m->count == m->last;
-    case BEGIN: return m->count == 1 && m->last < s->j;
+    case LAST: return m->count == agreed || told;
+    case COMMIT: return m->count == agreed;
+    case BEGIN: return m->count == 1 && m->last < MOST;
     case LEASE: return m->count == 0 && m->pn == 0;
     case COLLECT:
     case ACCEPT: return m->count == 0;

@@ -50,7 +50,7 @@ static const struct {
     WORD("offer", OFFER, 3),    WORD("propose", PROPOSE, 1), WORD("agree", AGREE, 1),
     WORD("finish", FINISH, 1),  WORD("stop", STOP, 1),       WORD("return", RETURN, 1),
     WORD("timeout", TIMEOUT, 1), WORD("lose", LOSE, 2),      WORD("repeat", REPEAT, 2),
-    WORD("site", SITE, 3),
+    WORD("trim", TRIM, 2),      WORD("site", SITE, 3),
 };
 #define WORD_COUNT (sizeof WORDS / sizeof *WORDS)
 

@@ -8,6 +8,8 @@ static struct camera *at(struct site *s, u32 c) { return &s->boxes[c - 1]; }
 static struct link *link_of(struct site *s, u32 a, u32 b) { return &s->links[a - 1][b - 1]; }
 static u32 others(const struct site *s, u32 c) { return s->present & ~(1u << (c - 1)); }
 
+static u32 kept(const struct camera *b) { return b->last + 1 - b->first; }
+
 static void copy(u64 *to, const u64 *from, u32 count) {
     __builtin_memcpy(to, from, (u64)count * sizeof *to);
 }
@@ -17,6 +19,7 @@ void fresh(struct site *s, u32 n, u32 j, u32 l) {
     for (u32 c = 1; c <= n; c++) {
         struct camera *b = at(s, c);
         __builtin_memset(b, 0, sizeof *b);
+        b->first = 1;
         for (u32 k = 0; k < N_MAX; k++) b->peers[k] = UNKNOWN;
         for (u32 k = 1; k <= n; k++) link_of(s, c, k)->first = link_of(s, c, k)->count = 0;
     }
@@ -28,14 +31,15 @@ static u32 full(struct site *s, u32 c, u32 to) {
     return 0;
 }
 
-static void send(struct site *s, u32 c, u32 to, u32 kind, u32 pn, u32 last, u32 unagreed_pn,
-                 const u64 *records, u32 count) {
+static void send(struct site *s, u32 c, u32 to, u32 kind, u32 pn, u32 last, u32 first,
+                 u32 unagreed_pn, const u64 *records, u32 count) {
     for (u32 k = 1; k <= s->n; k++) {
         if (!has(to, k)) continue;
         struct link *link = link_of(s, c, k);
         u32 place = link->first + link->count;
         struct mail *m = &link->mails[place < s->l ? place : place - s->l];
-        m->kind = kind, m->pn = pn, m->last = last, m->unagreed_pn = unagreed_pn, m->count = count;
+        m->kind = kind, m->pn = pn, m->last = last, m->first = first;
+        m->unagreed_pn = unagreed_pn, m->count = count;
         copy(m->records, records, count);
         link->count++;
     }
@@ -60,19 +64,41 @@ static u32 repeat(struct site *s, struct link *link) {
 }
 
 static void put_unagreed(struct camera *b, u64 r, u32 pn) {
-    b->records[b->last] = r;
-    b->held = b->stored_number = b->last + 1;
+    b->records[kept(b)] = r;
+    b->held = kept(b) + 1;
+    b->stored_number = b->last + 1;
     b->stored_pn = pn;
 }
 
 static u32 unagreed_pn(const struct camera *b) {
-    return b->held > b->last && b->stored_number == b->last + 1 ? b->stored_pn : 0;
+    return b->held > kept(b) && b->stored_number == b->last + 1 ? b->stored_pn : 0;
+}
+
+/* Whether there is room for the number after `last`. */
+static u32 room(const struct site *s, u32 first, u32 last) {
+    return last < MOST && last + 2 - first <= s->j;
+}
+
+/* What stays moves down; `first` is at most last+1. */
+static void raise_first(struct camera *b, u32 first) {
+    if (first <= b->first) return;
+    b->held -= first - b->first;
+    __builtin_memmove(b->records, b->records + (first - b->first), b->held * sizeof *b->records);
+    b->first = first;
 }
 
 static void take_records(struct camera *b, const struct mail *m) {
-    if (m->last <= b->last) return;
-    copy(b->records + b->last, m->records + b->last, m->last - b->last);
-    b->last = b->held = m->last;
+    if (m->last <= b->last) {
+        raise_first(b, m->first);
+        return;
+    }
+    if (m->first > b->last + 1)
+        b->held = 0, b->last = m->first - 1, b->first = m->first;
+    b->held = kept(b);
+    raise_first(b, m->first);
+    copy(b->records + b->held, m->records + (b->last + 1 - m->first), m->last - b->last);
+    b->last = m->last;
+    b->held = kept(b);
 }
 
 static void clear_best(struct camera *b) { b->best_pn = b->best_number = 0, b->best = 0; }
@@ -115,6 +141,12 @@ static u32 timeout(struct site *s, u32 c) {
     return DONE;
 }
 
+static u32 trim(struct site *s, u32 c, struct camera *b, u32 k) {
+    if (s->epoch % 2 || !has(s->present, c) || k <= b->first || k > b->last) return 3;
+    raise_first(b, k);
+    return DONE;
+}
+
 static u32 recover(struct site *s, u32 c, struct camera *b) {
     if (b->phase != ELECTION || b->state != RECOVERING || ones(s->present) <= 1) return 3;
     if (new_pn(b->pn, c) > HIGHEST_PN) return 6;
@@ -128,19 +160,19 @@ static u32 collect(struct site *s, u32 c, struct camera *b) {
     if (full(s, c, others(s, c))) return 8;
     forget_peers(s, b);
     b->answered = 1u << (c - 1);
-    if (b->held > b->last)
-        b->best_pn = unagreed_pn(b), b->best_number = b->last + 1, b->best = b->records[b->last];
+    if (b->held > kept(b))
+        b->best_pn = unagreed_pn(b), b->best_number = b->last + 1, b->best = b->records[kept(b)];
     else
         clear_best(b);
     b->phase = COLLECT_PHASE;
-    send(s, c, others(s, c), COLLECT, b->pn, b->last, 0, 0, 0);
+    send(s, c, others(s, c), COLLECT, b->pn, b->last, 0, 0, 0, 0);
     return DONE;
 }
 
 /* The links to the others have room. */
 static u32 lease(struct site *s, u32 c, struct camera *b) {
     b->state = ACTIVE, b->phase = LEASE_PHASE;
-    send(s, c, others(s, c), LEASE, 0, b->last, 0, 0, 0);
+    send(s, c, others(s, c), LEASE, 0, b->last, 0, 0, 0, 0);
     return DONE;
 }
 
@@ -149,15 +181,17 @@ static u32 start(struct site *s, u32 c, struct camera *b, u64 r) {
     b->agreeing = r;
     b->accepts = 1u << (c - 1);
     b->phase = BEGIN_PHASE;
-    send(s, c, others(s, c), BEGIN, b->pn, b->last, 0, &r, 1);
+    send(s, c, others(s, c), BEGIN, b->pn, b->last, b->first, 0, &r, 1);
     return DONE;
 }
 
 static u32 ready(struct site *s, u32 c, struct camera *b) {
     if (b->phase != COLLECT_PHASE || b->answered != s->present) return 3;
+    u32 starts = b->best_number == b->last + 1 && b->best != 0;
+    if (starts && !room(s, b->first, b->last)) return 7;
     if (full(s, c, others(s, c))) return 8;
     forget_peers(s, b);
-    if (b->best_number != b->last + 1 || b->best == 0) return lease(s, c, b);
+    if (!starts) return lease(s, c, b);
     b->state = UPDATING_PREVIOUS;
     return start(s, c, b, b->best);
 }
@@ -171,7 +205,7 @@ static u32 offer(struct camera *b, u32 left, u32 right) {
 static u32 propose(struct site *s, u32 c, struct camera *b) {
     if (b->state != ACTIVE || (b->phase != LEASE_PHASE && b->phase != ELECTION)) return 3;
     if (!b->waiting) return 3;
-    if (b->last == s->j) return 7;
+    if (!room(s, b->first, b->last)) return 7;
     if (full(s, c, others(s, c))) return 8;
     u64 r = b->waiting;
     b->waiting = 0;
@@ -182,12 +216,12 @@ static u32 propose(struct site *s, u32 c, struct camera *b) {
 static u32 agree(struct site *s, u32 c, struct camera *b) {
     if (b->phase != BEGIN_PHASE) return 3;
     if (b->state != UPDATING && b->state != UPDATING_PREVIOUS) return 3;
-    if ((b->accepts & s->present) != s->present || b->held == b->last) return 3;
+    if ((b->accepts & s->present) != s->present || b->held == kept(b)) return 3;
     if (full(s, c, others(s, c))) return 8;
     b->last++;
     b->agreeing = 0;
     b->state = REFRESH, b->phase = COMMIT_PHASE;
-    send(s, c, others(s, c), COMMIT, b->pn, b->last, 0, b->records, b->last);
+    send(s, c, others(s, c), COMMIT, b->pn, b->last, b->first, 0, b->records, kept(b));
     return DONE;
 }
 
@@ -202,14 +236,16 @@ static u32 on_collect(struct site *s, u32 from, u32 c, struct camera *b, const s
     if (full(s, c, 1u << (from - 1))) return 8;
     b->state = RECOVERING;
     if (m->pn > b->pn) b->pn = m->pn;
-    send(s, c, 1u << (from - 1), LAST, b->pn, b->last, unagreed_pn(b), b->records, b->held);
+    send(s, c, 1u << (from - 1), LAST, b->pn, b->last, b->first, unagreed_pn(b), b->records,
+         b->held);
     return TAKEN;
 }
 
 static u32 hear(struct camera *b, const struct mail *m) {
-    if (m->count == m->last || m->last < b->last) return 0;
+    u32 next = m->last + 1 - m->first;
+    if (m->count == next || m->last < b->last) return 0;
     if (m->last + 1 < b->best_number || m->unagreed_pn < b->best_pn) return 0;
-    b->best_pn = m->unagreed_pn, b->best_number = m->last + 1, b->best = m->records[m->last];
+    b->best_pn = m->unagreed_pn, b->best_number = m->last + 1, b->best = m->records[next];
     return 1;
 }
 
@@ -226,7 +262,7 @@ static u32 on_last(struct site *s, u32 from, u32 c, struct camera *b, const stru
     if (full(s, c, lagging)) return 8;
     b->peers[from - 1] = m->last;
     take_records(b, m);
-    send(s, c, lagging, COMMIT, b->pn, b->last, 0, b->records, b->last);
+    send(s, c, lagging, COMMIT, b->pn, b->last, b->first, 0, b->records, kept(b));
     u32 became = 0;
     if (m->pn > b->pn)
         b->pn = new_pn(m->pn, c), b->phase = SEND_COLLECT;
@@ -240,10 +276,12 @@ static u32 on_begin(struct site *s, u32 from, u32 c, struct camera *b, const str
     if (b->leads) return ROLE;
     if (m->pn != b->pn) return NUMBER;
     if (m->last != b->last) return PLACE;
+    if (!room(s, m->first > b->first ? m->first : b->first, b->last)) return 7;
     if (full(s, c, 1u << (from - 1))) return 8;
+    raise_first(b, m->first);
     put_unagreed(b, m->records[0], m->pn);
     b->state = UPDATING;
-    send(s, c, 1u << (from - 1), ACCEPT, b->pn, b->last, 0, 0, 0);
+    send(s, c, 1u << (from - 1), ACCEPT, b->pn, b->last, 0, 0, 0, 0);
     return TAKEN;
 }
 
@@ -296,6 +334,7 @@ u32 step(struct site *s, u32 call, u32 c, u32 x, u32 y) {
     case STOP: return presence(s, c, 1);
     case RETURN: return presence(s, c, 0);
     case TIMEOUT: return timeout(s, c);
+    case TRIM: return trim(s, c, b, x);
     case LOSE:
         if (x < 1 || x > s->n || x == c) return 2;
         if (!link_of(s, c, x)->count) return 3;
@@ -326,5 +365,5 @@ u32 holds(const struct site *s, u32 c, u32 k, u32 left, u32 right) {
     if (c < 1 || c > s->n) return 2;
     const struct camera *b = &s->boxes[c - 1];
     u64 r = (u64)left << 32 | right;
-    return k >= 1 && k <= b->last && b->records[k - 1] == r ? DONE : 14;
+    return k >= b->first && k <= b->last && b->records[k - b->first] == r ? DONE : 14;
 }

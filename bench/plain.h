@@ -13,6 +13,7 @@
 #define UNKNOWN 4294967295u
 #define HIGHEST_PN 999999999u
 #define LAST_EPOCH 1000000u
+#define MOST 1000000000u
 
 typedef unsigned char u8;
 typedef unsigned int u32;
@@ -22,11 +23,12 @@ enum { RECOVERING, ACTIVE, UPDATING, UPDATING_PREVIOUS, REFRESH };
 enum { ELECTION, SEND_COLLECT, COLLECT_PHASE, LEASE_PHASE, BEGIN_PHASE, COMMIT_PHASE };
 enum { COLLECT = 1, LAST, BEGIN, ACCEPT, COMMIT, LEASE };
 enum { ELECT, RECOVER, COLLECT_CALL, READY, PROPOSE, AGREE, FINISH, STOP, RETURN, TIMEOUT,
-       OFFER, LOSE, REPEAT, DELIVER, HOLDS, SITE };
+       OFFER, TRIM, LOSE, REPEAT, DELIVER, HOLDS, SITE };
 enum { DONE = 0, TAKEN = 100, ROLE, PHASE, NUMBER, PLACE };
 
+/* The records of a mail and of a box are those from `first` on; it is 0 in a mail without one. */
 struct mail {
-    u32 kind, pn, last, unagreed_pn, count;
+    u32 kind, pn, last, first, unagreed_pn, count;
     u64 records[J_MAX];
 };
 
@@ -36,7 +38,7 @@ struct link {
 };
 
 struct camera {
-    u32 leads, state, phase, pn, last, stored_pn, stored_number, best_pn, best_number;
+    u32 leads, state, phase, pn, last, first, stored_pn, stored_number, best_pn, best_number;
     u32 answered, accepts;
     u64 best, waiting, agreeing;
     u32 peers[N_MAX];
