@@ -56,6 +56,7 @@ static u32 journal_call(u32 call, u32 a, u32 b, u32 c) {
     case RETURN: return journal_return(LENT, a);
     case TIMEOUT: return journal_timeout(LENT, a);
     case OFFER: return journal_offer(LENT, a, b, c);
+    case TRIM: return journal_trim(LENT, a, b);
     case LOSE: return journal_lose(LENT, a, b);
     case REPEAT: return journal_repeat(LENT, a, b);
     default: return journal_deliver(LENT, a, b);

@@ -136,7 +136,8 @@ static void fill_links(void) {
             link->first = 0, link->count = a == b ? 0 : site.l;
             for (u32 i = 0; i < link->count; i++) {
                 struct mail *m = &link->mails[i];
-                m->kind = COMMIT, m->pn = 1, m->last = m->count = site.j, m->unagreed_pn = 0;
+                m->kind = COMMIT, m->pn = 1, m->last = m->count = site.j;
+                m->first = 1, m->unagreed_pn = 0;
                 for (u32 k = 0; k < site.j; k++) m->records[k] = site.boxes[a].records[k];
             }
         }

@@ -15,18 +15,26 @@ static u32 n, j, l;
 static const u8 *given;
 static u64 given_length;
 
-#define LENT words, sizeof words / 8, links, sizeof links / 8
-#define ALONE row, 20 + j, letter, 5 + j, &to, n, j, l, (u32)words[3], (u32)words[4]
+/* The words of a row and of a place before their records; the last is how many these are. */
+#define HEAD 21u
+#define ENCLOSED 6u
 
-static u64 *row_of(u32 c) { return words + 5 + (u64)(c - 1) * (20 + j); }
+#define LENT words, sizeof words / 8, links, sizeof links / 8
+#define ALONE row, HEAD + j, letter, ENCLOSED + j, &to, n, j, l, (u32)words[3], (u32)words[4]
+
+static u64 *row_of(u32 c) { return words + 5 + (u64)(c - 1) * (HEAD + j); }
 
 /* The link from a to b: the place of its head, its count, L places. */
 static u64 *link_of(u32 a, u32 b) {
     u32 pair = (a - 1) * (n - 1) + (b < a ? b - 1 : b - 2);
-    return links + (u64)pair * (2 + (u64)l * (5 + j));
+    return links + (u64)pair * (2 + (u64)l * (ENCLOSED + j));
 }
 
-static u64 *place_of(u64 *link, u64 i) { return link + 2 + (link[0] + i) % l * (5 + j); }
+static u64 *place_of(u64 *link, u64 i) { return link + 2 + (link[0] + i) % l * (ENCLOSED + j); }
+
+static void copy_mail(u64 *to, const u64 *from) {
+    __builtin_memcpy(to, from, 8 * (ENCLOSED + from[ENCLOSED - 1]));
+}
 
 static u32 is_box(u32 c) { return c >= 1 && c <= n; }
 
@@ -38,9 +46,9 @@ static u32 settle(u32 c, u32 answer, u32 to) {
     for (u32 k = 1; k <= n; k++) {
         if (!(to >> (k - 1) & 1)) continue;
         u64 *link = link_of(c, k);
-        __builtin_memcpy(place_of(link, link[1]++), letter, 8 * (5 + letter[4]));
+        copy_mail(place_of(link, link[1]++), letter);
     }
-    __builtin_memcpy(row_of(c), row, 8 * (20 + (u64)j));
+    __builtin_memcpy(row_of(c), row, 8 * (HEAD + (u64)j));
     return answer;
 }
 
@@ -49,9 +57,9 @@ static u32 deliver(u32 a, u32 c) {
     if (!is_box(a) || !is_box(c) || a == c) return JOURNAL_BOX;
     u64 *link = link_of(a, c);
     if (!link[1]) return JOURNAL_CONDITION;
-    __builtin_memcpy(row, row_of(c), 8 * (20 + (u64)j));
-    u32 answer = journal_own_mail(row, 20 + j, place_of(link, 0), 5 + j, letter, 5 + j, &to,
-                                  n, j, l, (u32)words[3], (u32)words[4], c, a);
+    __builtin_memcpy(row, row_of(c), 8 * (HEAD + (u64)j));
+    u32 answer = journal_own_mail(row, HEAD + j, place_of(link, 0), ENCLOSED + j, letter,
+                                  ENCLOSED + j, &to, n, j, l, (u32)words[3], (u32)words[4], c, a);
     answer = settle(c, answer, to);
     if (!is_refusal(answer)) link[0] = (link[0] + 1) % l, link[1]--;
     return answer;
@@ -64,14 +72,13 @@ static u32 repeat(u32 a, u32 c) {
     if (!link[1]) return JOURNAL_CONDITION;
     if (link[1] == l) return JOURNAL_LINK;
     link[0] = (link[0] + l - 1) % l, link[1]++;
-    u64 *head = place_of(link, 1);
-    __builtin_memcpy(place_of(link, 0), head, 8 * (5 + head[4]));
+    copy_mail(place_of(link, 0), place_of(link, 1));
     return JOURNAL_DONE;
 }
 
-static u32 lead(const struct line *line) {
+static u32 act(const struct line *line) {
     u32 c = line->a, to = 0, answer;
-    __builtin_memcpy(row, row_of(is_box(c) ? c : 1), 8 * (20 + (u64)j));
+    __builtin_memcpy(row, row_of(is_box(c) ? c : 1), 8 * (HEAD + (u64)j));
     switch (line->call) {
     case RECOVER: answer = journal_own_recover(ALONE, c); break;
     case COLLECT_CALL: answer = journal_own_collect(ALONE, c); break;
@@ -79,6 +86,7 @@ static u32 lead(const struct line *line) {
     case OFFER: answer = journal_own_offer(ALONE, c, line->b, line->c); break;
     case PROPOSE: answer = journal_own_propose(ALONE, c); break;
     case AGREE: answer = journal_own_agree(ALONE, c); break;
+    case TRIM: answer = journal_own_trim(ALONE, c, line->b); break;
     default: answer = journal_own_finish(ALONE, c); break;
     }
     return settle(c, answer, to);
@@ -94,7 +102,7 @@ static u32 by_boxes(const struct line *line) {
     case REPEAT: return repeat(line->a, line->b);
     case HOLDS: return journal_holds(LENT, line->a, line->b, line->c, line->d);
     case DELIVER: return deliver(line->a, line->b);
-    default: return lead(line);
+    default: return act(line);
     }
 }
 
