@@ -2,12 +2,13 @@
 //! the exit status must be the same. What differs, and where the other program dies, is shown in its
 //! shortest form, with its seed.
 
+use crate::faults::Fault;
 use crate::image;
 use crate::other::{Other, Run, Verdict};
-use crate::random::*;
-use crate::rules::Fault;
+use crate::random::Random;
 use crate::shrink::fewest;
 use crate::site::*;
+use crate::texts::*;
 use crate::trace::{self, Said};
 use std::collections::BTreeMap;
 
@@ -16,12 +17,23 @@ fn text(bytes: &[u8]) -> String {
     shown.lines().map(|line| format!("    {line}\n")).collect()
 }
 
-/// How often each answer was given, by its words; to a repeat also by that word.
+/// How often each answer was given, by its words; to a repeat and to a trim, and where there is no
+/// room, also by the call's word.
 #[derive(Default)]
 struct Met(BTreeMap<String, u64>);
 
-/// What a repeat must have been refused with.
-const REPEATS: [&str; 3] = ["repeat refused 2", "repeat refused 3", "repeat refused 8"];
+/// What a repeat and a trim must have been refused with.
+const REFUSED: [&str; 5] = [
+    "repeat refused 2",
+    "repeat refused 3",
+    "repeat refused 8",
+    "trim refused 2",
+    "trim refused 3",
+];
+/// What must have become of a box that was far behind.
+const WHOLE: &str = "book taken whole";
+/// Who must have had no room: a mail and Ready on foreign images alone.
+const FULL: [&str; 3] = ["propose refused 7", "ready refused 7", "mail refused 7"];
 
 impl Met {
     fn count(&mut self, asked: &[u8], answer: &str) {
@@ -32,10 +44,19 @@ impl Met {
             ["done" | "taken", _] => words[0].into(),
             _ => "printed".into(),
         };
-        if asked.starts_with(b"repeat ") {
-            *self.0.entry(format!("repeat {answer}")).or_default() += 1;
+        let asked = asked.split(|byte| *byte == b' ').next().unwrap_or_default();
+        let asked = String::from_utf8_lossy(asked);
+        if matches!(&asked[..], "repeat" | "trim") || answer == "refused 7" {
+            *self.0.entry(format!("{asked} {answer}")).or_default() += 1;
         }
         *self.0.entry(answer).or_default() += 1;
+    }
+
+    /// Whether a box that was far behind took a book whole.
+    fn count_whole(&mut self, before: &Site, after: &Site) {
+        if before.numbers().any(|c| after.at(c).first > before.at(c).last + 1) {
+            *self.0.entry(WHOLE.into()).or_default() += 1;
+        }
     }
 
     fn count_status(&mut self, said: &Said) {
@@ -135,6 +156,19 @@ fn show_replay(other: &Other, seed: u64, expected: &Said, run: &Run) {
     show_difference(&expected, &run);
 }
 
+fn count_whole(met: &mut Met, lines: &[Vec<u8>]) {
+    let mut site = None;
+    for line in lines {
+        let before = site.clone();
+        if trace::replay_line(&mut site, line.strip_suffix(b"\n"), Fault::None).is_err() {
+            break;
+        }
+        if let (Some(before), Some(after)) = (&before, &site) {
+            met.count_whole(before, after);
+        }
+    }
+}
+
 /// Traces, each in a run of its own; then one that reaches the last epoch.
 pub fn replays(other: &Other, seed: u64, count: u64) -> bool {
     let (mut met, mut printed) = (Met::default(), 0);
@@ -146,6 +180,7 @@ pub fn replays(other: &Other, seed: u64, count: u64) -> bool {
             return false;
         }
         met.count_status(&expected);
+        count_whole(&mut met, &lines);
         for (asked, answer) in lines.iter().zip(String::from_utf8_lossy(&expected.text).lines()) {
             met.count(asked, answer);
             printed += 1;
@@ -166,9 +201,16 @@ pub fn replays(other: &Other, seed: u64, count: u64) -> bool {
         }
     }
     println!("{count} traces from seed {seed}, {printed} lines, and one of a million: the same");
-    let statuses = ["printed", "repeat printed", "status 0", "status 1"];
-    let others = [&statuses[..], &REPEATS].concat();
+    let statuses = ["printed", "repeat printed", "trim printed", "status 0", "status 1"];
+    let others = [&statuses[..], &REFUSED, &FULL[..1], &[WHOLE]].concat();
     met.all(&[2, 3, 4, 5, 7, 8, 10, 11, 13, 14], &others)
+}
+
+/// The site by form whose image is a word of the line, its first or its last.
+fn image_of(line: &[u8]) -> Option<Site> {
+    line.trim_ascii_end()
+        .split(|byte| *byte == b' ')
+        .find_map(|word| image::read(&trace::unhex(word)?))
 }
 
 /// What is expected of image steps, and what the other program did.
@@ -255,6 +297,9 @@ pub fn applies(other: &Other, seed: u64, count: u64, longest: usize) -> bool {
             let answer = trace::apply(&[&line[..], b"\n"].concat(), Fault::None);
             let asked = line.splitn(2, |byte| *byte == b' ').nth(1).unwrap_or_default();
             met.count(asked, &String::from_utf8_lossy(&answer.text));
+            if let (Some(before), Some(after)) = (image_of(&line), image_of(&answer.text)) {
+                met.count_whole(&before, &after);
+            }
             if line.len() > 2 * SHORT_IMAGE + 65 && !answer.refused {
                 *met.0.entry("long image".into()).or_default() += 1;
             }
@@ -280,9 +325,9 @@ pub fn applies(other: &Other, seed: u64, count: u64, longest: usize) -> bool {
     }
     println!("{tried} image steps from seed {seed}: the same");
     let causes = ["discarded role", "discarded phase", "discarded number", "discarded place"];
-    let answers = ["done", "taken", "repeat done", "status 0", "status 1"];
+    let answers = ["done", "taken", "repeat done", "trim done", "status 0", "status 1"];
     let long: &[&str] = if longest > SHORT_IMAGE { &["long image"] } else { &[] };
-    let others = [&answers[..], &causes, &REPEATS, long].concat();
+    let others = [&answers[..], &causes, &REFUSED, &FULL, &[WHOLE], long].concat();
     met.all(&[1, 2, 3, 4, 5, 6, 7, 8, 10, 11, 14], &others)
 }
 
@@ -342,10 +387,20 @@ fn simpler_sites(site: &Site) -> Vec<Site> {
         with(&|s| s.at_mut(c).waiting = 0);
         with(&|s| s.at_mut(c).agreeing = 0);
         with(&|s| s.at_mut(c).peers.fill(UNKNOWN));
-        with(&|s| s.at_mut(c).records.truncate(site.at(c).last as usize));
+        with(&|s| s.at_mut(c).records.truncate(site.at(c).kept()));
         with(&|s| {
-            s.at_mut(c).last /= 2;
-            s.at_mut(c).records.truncate(site.at(c).last as usize / 2);
+            let b = s.at_mut(c);
+            b.records.drain(..b.kept().min(1));
+            b.first += 1;
+        });
+        with(&|s| {
+            let b = s.at_mut(c);
+            b.records.pop();
+            b.last = b.last.saturating_sub(1);
+        });
+        with(&|s| {
+            let b = s.at_mut(c);
+            (b.first, b.last) = (1, b.kept() as u32);
         });
     }
     with(&|s| s.epoch = 2 - s.epoch % 2);

@@ -13,7 +13,7 @@ fn put_records(bytes: &mut Vec<u8>, records: &[Record]) {
 fn box_body(b: &Camera) -> Vec<u8> {
     let mut body = vec![];
     put(&mut body, &[b.leads as u32, b.state as u32, b.phase as u32, b.pn, b.last]);
-    put(&mut body, &[b.stored_pn, b.stored_number, b.best.pn, b.best.number]);
+    put(&mut body, &[b.first, b.stored_pn, b.stored_number, b.best.pn, b.best.number]);
     put(&mut body, &[b.answered, b.accepts]);
     put_records(&mut body, &[b.best.record, b.waiting, b.agreeing]);
     put(&mut body, &b.peers);
@@ -27,7 +27,11 @@ fn mail_body(site: &Site) -> Vec<u8> {
     for (a, b) in site.pairs() {
         put(&mut body, &[site.link(a, b).len() as u32]);
         for m in site.link(a, b) {
-            put(&mut body, &[m.kind as u32, m.pn, m.last, m.unagreed_pn, m.records.len() as u32]);
+            put(&mut body, &[m.kind as u32, m.pn, m.last]);
+            if Mail::carries_first(m.kind) {
+                put(&mut body, &[m.first]);
+            }
+            put(&mut body, &[m.unagreed_pn, m.records.len() as u32]);
             put_records(&mut body, &m.records);
         }
     }
@@ -80,6 +84,7 @@ impl Rest<'_> {
         b.phase = *PHASES.get(self.word()? as usize)?;
         b.pn = self.word()?;
         b.last = self.word()?;
+        b.first = self.word()?;
         b.stored_pn = self.word()?;
         b.stored_number = self.word()?;
         b.best.pn = self.word()?;
@@ -95,11 +100,12 @@ impl Rest<'_> {
     }
 
     fn mail(&mut self, sizes: Sizes) -> Option<Mail> {
-        let kind = self.word()?.checked_sub(1)?;
+        let kind = *KINDS.get(self.word()?.checked_sub(1)? as usize)?;
         Some(Mail {
-            kind: *KINDS.get(kind as usize)?,
+            kind,
             pn: self.word()?,
             last: self.word()?,
+            first: if Mail::carries_first(kind) { self.word()? } else { 0 },
             unagreed_pn: self.word()?,
             records: self.records(sizes.j)?,
         })

@@ -15,8 +15,12 @@
 //! the other program may take for one, `longest=BYTES` how long an image may be. `replay` and `apply`
 //! end with 1 where a line was refused.
 
+mod calls;
 mod compare;
 mod damage;
+mod demand;
+mod faults;
+mod foreign;
 mod image;
 mod other;
 mod random;
@@ -24,12 +28,14 @@ mod rules;
 mod script;
 mod shrink;
 mod site;
+mod texts;
 mod trace;
+mod turn;
 mod walk;
 mod words;
 
+use faults::{Fault, Shows, FAULTS};
 use other::Other;
-use rules::{Fault, Shows, FAULTS};
 use std::io::{Read, Write};
 use std::process::ExitCode;
 use std::time::Duration;

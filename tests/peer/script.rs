@@ -11,10 +11,11 @@
 //!     box C, mails A B the words of a box, the mails of a link
 //!     own CALL         the call at its box by itself; its letter is the next that is handed over
 
+use crate::faults::Fault;
 use crate::rules::*;
 use crate::site::*;
 use crate::trace::{read_line, Line};
-use crate::words::{self, Event, Told};
+use crate::words::{self, Event, Told, COUNT, ENCLOSED, LAST, RECORDS};
 
 /// The largest site of the script: its words are there from the beginning.
 const LARGEST: Sizes = Sizes { n: 5, j: 4096, l: 4 };
@@ -59,7 +60,7 @@ fn shown(words: &[u64]) -> String {
 
 /// A place and the records that it holds.
 fn shown_letter(words: &[u64]) -> String {
-    format!(" |{}", shown(&words[..5 + words[4] as usize]))
+    format!(" |{}", shown(&words[..ENCLOSED + words[ENCLOSED - 1] as usize]))
 }
 
 fn put(words: &mut [u64], at: usize, value: u64) {
@@ -109,12 +110,12 @@ impl Stage {
             ("letter", &[k, v]) => put(&mut self.letter, k as usize, v),
             ("book", &[c, k]) => {
                 let row = &mut self.site[row_at(c)..];
-                (row[4], row[19]) = (k, k);
-                (1..=k).for_each(|i| row[19 + i as usize] = i << 32 | i);
+                (row[LAST], row[COUNT]) = (k, k);
+                (1..=k).for_each(|i| row[COUNT + i as usize] = i << 32 | i);
             }
             ("box", &[c]) => {
                 let row = &self.site[row_at(c)..];
-                return format!(" |{}", shown(&row[..20 + row[19] as usize]));
+                return format!(" |{}", shown(&row[..RECORDS + row[COUNT] as usize]));
             }
             ("mails", &[a, b]) => {
                 let link = &self.links[self.sizes.link_at(a as u32, b as u32)..];
@@ -144,7 +145,7 @@ impl Stage {
         };
         let word = |at: usize| site.get(at).copied().unwrap_or_default();
         let boxes = if self.sizes.n <= 5 { self.sizes.n } else { 0 };
-        let lasts: Vec<u64> = (1..=boxes).map(|c| word(self.sizes.row_at(c) + 4)).collect();
+        let lasts: Vec<u64> = (1..=boxes).map(|c| word(self.sizes.row_at(c) + LAST)).collect();
         format!("{came} | {} |{}", word(3), shown(&lasts))
     }
 
@@ -160,7 +161,7 @@ impl Stage {
             }
             Call::Lose(..) | Call::Repeat(..) => return " | no event of a box".into(),
             Call::Deliver(a, b) => (b, Event::Mail(a, letter)),
-            _ => (call.at(), Event::Lead(call)),
+            _ => (call.at(), Event::Act(call)),
         };
         let site = part(&mut self.site, self.lent.site);
         let word = |at: usize| {

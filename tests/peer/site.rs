@@ -8,6 +8,8 @@ pub type Record = u64;
 pub const UNKNOWN: u32 = u32::MAX;
 pub const LAST_EPOCH: u32 = 1_000_000;
 pub const HIGHEST_PN: u32 = 999_999_999;
+/// The last load number.
+pub const MOST: u32 = 1_000_000_000;
 
 #[derive(Clone, Copy, PartialEq, Eq, Debug)]
 pub enum State {
@@ -73,6 +75,8 @@ pub struct Camera {
     pub phase: Phase,
     pub pn: u32,
     pub last: u32,
+    /// The first number that is kept.
+    pub first: u32,
     pub stored_pn: u32,
     pub stored_number: u32,
     pub best: Best,
@@ -82,6 +86,7 @@ pub struct Camera {
     pub waiting: Record,
     pub agreeing: Record,
     pub peers: Vec<u32>,
+    /// The records from first on.
     pub records: Vec<Record>,
 }
 
@@ -90,6 +95,8 @@ pub struct Mail {
     pub kind: Kind,
     pub pn: u32,
     pub last: u32,
+    /// The sender's, in Last, Begin and Commit; 0 in the other kinds.
+    pub first: u32,
     pub unagreed_pn: u32,
     pub records: Vec<Record>,
 }
@@ -120,6 +127,21 @@ pub fn majority(n: u32) -> u32 {
     n / 2 + 1
 }
 
+/// 1 ≤ first ≤ last, and 1 where nothing is agreed.
+fn first_by_form(first: u32, last: u32) -> bool {
+    (1..=last.max(1)).contains(&first)
+}
+
+/// How many numbers first to last are.
+fn span(first: u32, last: u32) -> usize {
+    (last + 1 - first) as usize
+}
+
+/// Whether so many records are those from first to last+1, which is a load number.
+fn with_next(first: u32, last: u32, held: usize) -> bool {
+    last < MOST && held == span(first, last) + 1
+}
+
 pub fn proper(r: Record) -> bool {
     r >> 32 != 0 && r & 0xffff_ffff != 0
 }
@@ -138,6 +160,7 @@ impl Camera {
             phase: Phase::Election,
             pn: 0,
             last: 0,
+            first: 1,
             stored_pn: 0,
             stored_number: 0,
             best: Best::default(),
@@ -150,48 +173,80 @@ impl Camera {
         }
     }
 
-    /// The record at last+1, where it is held.
-    pub fn unagreed(&self) -> Option<Record> {
-        self.records.get(self.last as usize).copied()
+    /// How many numbers are kept, first to last.
+    pub fn kept(&self) -> usize {
+        span(self.first, self.last)
     }
 
-    /// Records 1 to last.
+    /// The record at last+1, where it is held.
+    pub fn unagreed(&self) -> Option<Record> {
+        self.records.get(self.kept()).copied()
+    }
+
+    /// Records first to last.
     pub fn agreed(&self) -> &[Record] {
-        &self.records[..self.last as usize]
+        &self.records[..self.kept()]
+    }
+
+    /// The record that is held as this number, agreed or not.
+    pub fn record(&self, number: u32) -> Option<Record> {
+        self.records.get(number.checked_sub(self.first)? as usize).copied()
+    }
+
+    /// Whether last+1 would need a record beyond J, or pass the last load number.
+    pub fn full(&self, j: u32) -> bool {
+        self.last >= MOST || self.kept() as u32 + 1 > j
     }
 
     /// By form, of what concerns box c alone.
     pub fn by_form(&self, sizes: Sizes, c: u32) -> bool {
         let Sizes { n, j, .. } = sizes;
-        let held = self.records.len() as u32;
+        let held = self.records.len();
+        let numbers = [self.last, self.stored_number, self.best.number];
         [self.pn, self.stored_pn, self.best.pn].iter().all(|pn| *pn <= HIGHEST_PN)
-            && [self.last, self.stored_number, self.best.number].iter().all(|number| *number <= j)
+            && numbers.iter().all(|number| *number <= MOST)
+            && first_by_form(self.first, self.last)
             && [self.answered, self.accepts].iter().all(|set| *set <= everyone(n))
             && [self.best.record, self.waiting, self.agreeing].iter().all(|r| *r == 0 || proper(*r))
             && (1..=n).all(|k| {
                 let last = self.peers[k as usize - 1];
-                last == UNKNOWN || (k != c && last <= j)
+                last == UNKNOWN || (k != c && last <= MOST)
             })
-            && (held == self.last || held == self.last + 1)
-            && held <= j
+            && (held == self.kept() || with_next(self.first, self.last, held))
+            && held <= j as usize
             && self.records.iter().all(|r| proper(*r))
     }
 }
 
 impl Mail {
+    /// How many numbers its sender keeps, first to last.
+    pub fn kept(&self) -> usize {
+        span(self.first, self.last)
+    }
+
+    /// The kinds that carry their sender's first.
+    pub fn carries_first(kind: Kind) -> bool {
+        matches!(kind, Kind::Last | Kind::Begin | Kind::Commit)
+    }
+
     pub fn by_form(&self, j: u32) -> bool {
-        let count = self.records.len() as u32;
-        let told = self.kind == Kind::Last && count.checked_sub(1) == Some(self.last);
+        let first = match Mail::carries_first(self.kind) {
+            true => first_by_form(self.first, self.last),
+            false => self.first == 0,
+        };
+        let count = self.records.len();
+        let told = || self.kind == Kind::Last && with_next(self.first, self.last, count);
         self.pn <= HIGHEST_PN
-            && self.last <= j
+            && self.last <= MOST
+            && first
             && self.unagreed_pn <= HIGHEST_PN
-            && (self.unagreed_pn == 0 || told)
-            && count <= j
+            && (self.unagreed_pn == 0 || told())
+            && count <= j as usize
             && self.records.iter().all(|r| proper(*r))
             && match self.kind {
-                Kind::Last => count == self.last || told,
-                Kind::Commit => count == self.last,
-                Kind::Begin => count == 1 && self.last < j,
+                Kind::Last => count == self.kept() || told(),
+                Kind::Commit => count == self.kept(),
+                Kind::Begin => count == 1 && self.last < MOST,
                 Kind::Lease => count == 0 && self.pn == 0,
                 Kind::Collect | Kind::Accept => count == 0,
             }

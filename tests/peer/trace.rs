@@ -1,5 +1,6 @@
 //! Trace lines, the replayer, and `apply`: one step on an image.
 
+use crate::faults::Fault;
 use crate::image;
 use crate::rules::*;
 use crate::site::*;
@@ -16,7 +17,7 @@ const LONGEST_LINE: usize = 64;
 /// mails with all 4,096 records.
 pub const LONGEST_IMAGE: usize = {
     let (n, j, l) = (5, 4096, 16);
-    4 + 8 * (n + 2) + 20 + n * (72 + 4 * n + 8 * j) + n * (n - 1) * (4 + l * (20 + 8 * j))
+    4 + 8 * (n + 2) + 20 + n * (76 + 4 * n + 8 * j) + n * (n - 1) * (4 + l * (24 + 8 * j))
 };
 
 fn decimal(word: &[u8]) -> Option<u32> {
@@ -51,6 +52,7 @@ pub fn read_line(line: &[u8]) -> Option<Line> {
         (b"stop", &[c]) => Line::Call(Call::Stop(c)),
         (b"return", &[c]) => Line::Call(Call::Return(c)),
         (b"timeout", &[c]) => Line::Call(Call::Timeout(c)),
+        (b"trim", &[c, k]) => Line::Call(Call::Trim(c, k)),
         (b"lose", &[a, b]) => Line::Call(Call::Lose(a, b)),
         (b"repeat", &[a, b]) => Line::Call(Call::Repeat(a, b)),
         (b"mail", &[a, b]) => Line::Call(Call::Deliver(a, b)),
@@ -71,6 +73,7 @@ pub fn call_text(call: Call) -> String {
         Call::Stop(c) => format!("stop {c}"),
         Call::Return(c) => format!("return {c}"),
         Call::Timeout(c) => format!("timeout {c}"),
+        Call::Trim(c, k) => format!("trim {c} {k}"),
         Call::Lose(a, b) => format!("lose {a} {b}"),
         Call::Repeat(a, b) => format!("repeat {a} {b}"),
         Call::Deliver(a, b) => format!("mail {a} {b}"),

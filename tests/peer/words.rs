@@ -3,17 +3,21 @@
 //! `site`: n, J, L, epoch, present set, and a row for each box, its fields in the image's order, with
 //! five peers and room for J records. `links`: for each pair of different boxes, by sender and then
 //! receiver, the place of its head, how many mails it holds, and L places round a ring, each a mail's
-//! fields in the image's order with room for J records. Other words are neither read nor written.
+//! fields in the image's order with room for J records, and a first of 0 in the kinds that carry
+//! none. Other words are neither read nor written.
 
+use crate::faults::Fault;
 use crate::rules::*;
 use crate::site::*;
+use crate::turn::Around;
 use std::collections::VecDeque;
 
 const GENERAL: usize = 5;
-const PEERS: std::ops::Range<usize> = 14..19;
-const COUNT: usize = 19;
-const RECORDS: usize = 20;
-const ENCLOSED: usize = 5;
+pub const LAST: usize = 4;
+const PEERS: std::ops::Range<usize> = 15..20;
+pub const COUNT: usize = 20;
+pub const RECORDS: usize = 21;
+pub const ENCLOSED: usize = 6;
 
 impl Sizes {
     pub fn row_words(self) -> usize {
@@ -67,14 +71,15 @@ fn read_row(words: &[u64], sizes: Sizes) -> Option<Camera> {
         state: *STATES.get(number(words[1])? as usize)?,
         phase: *PHASES.get(number(words[2])? as usize)?,
         pn: number(words[3])?,
-        last: number(words[4])?,
-        stored_pn: number(words[5])?,
-        stored_number: number(words[6])?,
-        best: Best { pn: number(words[7])?, number: number(words[8])?, record: words[11] },
-        answered: number(words[9])?,
-        accepts: number(words[10])?,
-        waiting: words[12],
-        agreeing: words[13],
+        last: number(words[LAST])?,
+        first: number(words[5])?,
+        stored_pn: number(words[6])?,
+        stored_number: number(words[7])?,
+        best: Best { pn: number(words[8])?, number: number(words[9])?, record: words[12] },
+        answered: number(words[10])?,
+        accepts: number(words[11])?,
+        waiting: words[13],
+        agreeing: words[14],
         peers: peers.iter().map(|last| number(*last)).collect::<Option<_>>()?,
         records: words[RECORDS..][..count as usize].to_vec(),
     })
@@ -82,9 +87,9 @@ fn read_row(words: &[u64], sizes: Sizes) -> Option<Camera> {
 
 fn put_row(words: &mut [u64], b: &Camera) {
     let Best { pn, number, record } = b.best;
-    let numbers = [b.leads as u32, b.state as u32, b.phase as u32, b.pn, b.last, b.stored_pn]
+    let numbers = [b.leads as u32, b.state as u32, b.phase as u32, b.pn, b.last, b.first]
         .into_iter()
-        .chain([b.stored_number, pn, number, b.answered, b.accepts]);
+        .chain([b.stored_pn, b.stored_number, pn, number, b.answered, b.accepts]);
     let values = [record, b.waiting, b.agreeing];
     let head = numbers.map(u64::from).chain(values).chain(b.peers.iter().map(|k| *k as u64));
     words.iter_mut().zip(head).for_each(|(word, value)| *word = value);
@@ -95,18 +100,20 @@ fn put_row(words: &mut [u64], b: &Camera) {
 /// The mail that a place holds; None where the words are too few or too large for it.
 fn read_mail(words: &[u64], sizes: Sizes) -> Option<Mail> {
     let words = words.get(..sizes.place_words())?;
-    let count = number(words[4]).filter(|count| *count <= sizes.j)?;
+    let count = number(words[5]).filter(|count| *count <= sizes.j)?;
     Some(Mail {
         kind: *KINDS.get(number(words[0])?.checked_sub(1)? as usize)?,
         pn: number(words[1])?,
         last: number(words[2])?,
-        unagreed_pn: number(words[3])?,
+        first: number(words[3])?,
+        unagreed_pn: number(words[4])?,
         records: words[ENCLOSED..][..count as usize].to_vec(),
     })
 }
 
 fn put_mail(words: &mut [u64], m: &Mail) {
-    let head = [m.kind as u32, m.pn, m.last, m.unagreed_pn, m.records.len() as u32];
+    let count = m.records.len() as u32;
+    let head = [m.kind as u32, m.pn, m.last, m.first, m.unagreed_pn, count];
     let all = head.map(u64::from).into_iter().chain(m.records.iter().copied());
     words.iter_mut().zip(all).for_each(|(word, value)| *word = value);
 }
@@ -228,9 +235,9 @@ pub struct Told {
     pub me: u32,
 }
 
-/// A call of a leader's, or the words of a letter and their sender.
+/// A call of the box's own, or the words of a letter and their sender.
 pub enum Event<'a> {
-    Lead(Call),
+    Act(Call),
     Mail(u32, &'a [u64]),
 }
 
@@ -252,8 +259,8 @@ pub fn alone(
     let around = Around { n: sizes.n, j: sizes.j, epoch, present, fault };
     let is_box = |c: u32| (1..=sizes.n).contains(&c);
     let turn = match event {
-        Event::Lead(_) if !is_box(me) => return Err(2),
-        Event::Lead(call) => own.lead(me, around, call)?,
+        Event::Act(_) if !is_box(me) => return Err(2),
+        Event::Act(call) => own.act(me, around, call)?,
         Event::Mail(from, words) => {
             let mail = read_mail(words, sizes).filter(|m| m.by_form(sizes.j)).ok_or(1u32)?;
             if !is_box(me) || !is_box(from) || from == me {
