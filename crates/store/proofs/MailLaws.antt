@@ -29,9 +29,9 @@ use Rattle.store.specs.Store.{HoldsLetter}
 -- ---- a letter
 
 -- There is room for the number of its kind.
-pub letter-room : {J : ℕ} {src : List ℕ} {at : ℕ} → Has letterBytes (GoodLetter J) src at
+pub letter-room : (J : ℕ) {src : List ℕ} {at : ℕ} → Has letterBytes (GoodLetter J) src at
     → at + 4 ≤ length src
-letter-room x =
+letter-room J x =
     let f = x .found in
     let next = f .stands .next in
     let room = f .stands .room in
