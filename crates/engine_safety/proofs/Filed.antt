@@ -1,8 +1,9 @@
 -- The words hold the site of a run, so what is true of every run is true of them.
-use Prim.Native.Nat.{ℕ}
+use Prim.Native.Nat.{ℕ, _≤_}
 use mathlib.Core.Path.{_≡_, refl, sym, ap, _∙_, subst}
 use mathlib.Core.Bool.{Bool, true, false, _&&_}
-use mathlib.Core.List.{List, [], _∷_}
+use mathlib.Core.List.{List, [], _∷_, _++_}
+use native.Mathlib.Omega.{arith}
 use lib.Dec.{leb}
 use lib.ListN.{length}
 use borrow.Author.Tests.{leb-true, le-leb, eq-eqb}
@@ -103,7 +104,10 @@ told x k l r e =
     let q = and-yes _ _ (p .0) in
     let t = and-yes _ _ (q .0) in
     record {
-      agreed = (leb-true 1 k (t .0), leb-true k (x .head .kept .last) (t .1));
+      agreed = (
+        leb-true (x .head .kept .first) k (t .0),
+        leb-true k (x .head .kept .last) (t .1),
+      );
       left-is = eqb-yes _ _ (q .1);
       right-is = eqb-yes _ _ (p .1);
     }
@@ -113,7 +117,8 @@ unfolding agreedAs
 told-so x k l r t =
     and-both
     (and-both
-    (and-both (le-leb 1 k (t .agreed .0)) (le-leb k (x .head .kept .last) (t .agreed .1)))
+    (and-both (le-leb (x .head .kept .first) k (t .agreed .0))
+    (le-leb k (x .head .kept .last) (t .agreed .1)))
     (eq-eqb _ _ (t .left-is)))
     (eq-eqb _ _ (t .right-is))
 
@@ -158,21 +163,6 @@ module _ {n J L : ℕ} {calls : List Call} {xs ls : List ℕ} (h : Holds n J L c
       held-formed xs ls b k l r (h .form) ∙ holds-true xs ls (h .form) b k l r is
       (told-so _ k l r t)
 
-  pub same-pair : (b d k l r l' r' : ℕ) → holdsOn xs ls b k l r ≡ Answer.Done
-      → holdsOn xs ls d k l' r' ≡ Answer.Done → (l ≡ l') × (r ≡ r')
-  same-pair b d k l r l' r' p q =
-      let t = so-told b k l r p in
-      let u = so-told d k l' r' q in
-      let all = demand-3 .after-run n J L in-range calls in
-      let at : (c : ℕ) → site .box c ≡ run (start n J L) calls .box c =
-      λ c. ap (λ (s : Site). s .box c) (h .site) in
-      let e = ap (λ (x : Box). recordAt x k) (at b)
-      ∙ all .agreement b d k (a-box-of-n b k l r p) (a-box-of-n d k l' r' q)
-      (subst (λ (x : Box). Agreed x k) (at b) (t .agreed))
-      (subst (λ (x : Box). Agreed x k) (at d) (u .agreed))
-      ∙ sym (ap (λ (x : Box). recordAt x k) (at d)) in
-      (sym (t .left-is) ∙ ap leftOf e ∙ u .left-is, sym (t .right-is) ∙ ap rightOf e ∙ u .right-is)
-
   -- what is true of every run's Begins is true of these
   pub begins-served : (a b : ℕ) → In b n → (ahead : List Letter) (y : Letter)
       → BeginComes site a b ahead y → y .head .pn ≡ site .box b .head .kept .pn
@@ -182,25 +172,62 @@ module _ {n J L : ℕ} {calls : List Call} {xs ls : List ℕ} (h : Holds n J L c
       → BeginComes s a b ahead y → y .head .pn ≡ s .box b .head .kept .pn)
       (sym (h .site)) (begins .promised n J L in-range calls)
 
+-- two true holds lines of one number, the second after further calls
+pub same-pair : {n J L : ℕ} {calls further : List Call} {xs ls xs' ls' : List ℕ}
+    (h : Holds n J L calls xs ls) (h' : Holds n J L (further ++ calls) xs' ls')
+    (b d k l r l' r' : ℕ) → holdsOn xs ls b k l r ≡ Answer.Done
+    → holdsOn xs' ls' d k l' r' ≡ Answer.Done → (l ≡ l') × (r ≡ r')
+same-pair {n} {J} {L} {calls} {further} h h' b d k l r l' r' p q =
+    let t = so-told h b k l r p in
+    let u = so-told h' d k l' r' q in
+    let at = ap (λ (s : Site). s .box b) (h .site) in
+    let at' = ap (λ (s : Site). s .box d) (h' .site) in
+    let e = ap (λ (x : Box). recordAt x k) at
+    ∙ sym (demand-3 .over-time n J L (in-range h) calls further b d k
+    (a-box-of-n h b k l r p) (a-box-of-n h' d k l' r' q)
+    (subst (λ (x : Box). Agreed x k) at (t .agreed))
+    (subst (λ (x : Box). Agreed x k) at' (u .agreed)))
+    ∙ sym (ap (λ (x : Box). recordAt x k) at') in
+    (sym (t .left-is) ∙ ap leftOf e ∙ u .left-is, sym (t .right-is) ∙ ap rightOf e ∙ u .right-is)
+
+-- neither first nor last falls at a call of `step` on words by form
+falls-not : {xs ls xs' ls' : List ℕ} {a : Answer} (d : Call) → memoryForm xs ls ≡ true
+    → After (stepOn xs ls d) xs ls xs' ls' a → (b : ℕ)
+    → (siteOf xs ls .box b .head .kept .first ≤ siteOf xs' ls' .box b .head .kept .first)
+    × (siteOf xs ls .box b .head .kept .last ≤ siteOf xs' ls' .box b .head .kept .last)
+unfolding run
+falls-not {xs} {ls} d f after b =
+    subst
+    (λ (x : Box). (siteOf xs ls .box b .head .kept .first ≤ x .head .kept .first)
+    × (siteOf xs ls .box b .head .kept .last ≤ x .head .kept .last))
+    (sym (ap (λ (s : Site). s .box b) (inner d f after .site)))
+    (demand-3 .never-falls (siteOf xs ls) (d ∷ []) b)
+
 pub filed : Filed
 unfolding run
 filed = record {
-  one-pair = λ served b d k l r l' r'. same-pair (holds-run served) b d k l r l' r';
-  kept = λ d fits served after b k l r yes.
+  one-pair = λ served b d k l r l' r'.
+      same-pair {further = []} (holds-run served) (holds-run served) b d k l r l' r';
+  over-time = λ served later b d k l r l' r'.
+      same-pair (holds-run served) (holds-run later) b d k l r l' r';
+  kept = λ d fits served after b k l r yes still.
       let h = holds-run served in
       let next = holds-run (called d fits served after) in
       let t = so-told h b k l r yes in
       let i = inner d (h .form) after in
-      let g = demand-3 .kept-agreed (siteOf _ _) (d ∷ []) b k (t .agreed) in
       let at = ap (λ (s : Site). s .box b) (i .site) in
+      let below = falls-not d (h .form) after b .1 in
+      let kept = subst (λ (x : Box). Agreed x k) at (still, omega (arith, t .agreed .1, below)) in
+      let g = demand-3 .kept-agreed (siteOf _ _) (d ∷ []) b k (t .agreed) kept in
       so-holds next b k l r
       (ap (λ m. isBox m b) (boxes-are next ∙ sym (boxes-are h)) ∙ a-box h b k l r yes)
       (subst (λ (x : Box). Told x k l r) (sym at)
       (record {
-        agreed = g .0;
-        left-is = ap leftOf (g .1) ∙ t .left-is;
-        right-is = ap rightOf (g .1) ∙ t .right-is;
+        agreed = kept;
+        left-is = ap leftOf g ∙ t .left-is;
+        right-is = ap rightOf g ∙ t .right-is;
       }));
+  never-falls = λ d served after b. falls-not d (holds-run served .form) after b;
   stopped = λ c b served after.
       let i = inner (Call.Stop c) (holds-run served .form) after in
       ap (λ (s : Site). s .box b) (i .site) ∙ other-box _ b (Call.Stop c) tt;
