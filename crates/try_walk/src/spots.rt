@@ -18,14 +18,14 @@ pub(crate) const GENERAL: usize = 5;
 // A box's row: its last agreed number, its count of records, and its words before these.
 pub(crate) const LAST: usize = 4;
 
-pub(crate) const ROW_COUNT: usize = 19;
+pub(crate) const ROW_COUNT: usize = 20;
 
-pub(crate) const ROW_HEAD: usize = 20;
+pub(crate) const ROW_HEAD: usize = 21;
 
 // A place of a mail: its count of records, and its words before these.
-pub(crate) const PLACE_COUNT: usize = 4;
+pub(crate) const PLACE_COUNT: usize = 5;
 
-pub(crate) const PLACE_HEAD: usize = 5;
+pub(crate) const PLACE_HEAD: usize = 6;
 
 // A link: its first place, its count of mails, and its words before the places.
 pub(crate) const LINK_COUNT: usize = 1;
