@@ -12,9 +12,9 @@ const L: usize = 2;
 const GENERAL: usize = 5;
 
 // What stands before the records of a box and of a mail, and before the mails of a link.
-const ROW_HEAD: usize = 20;
+const ROW_HEAD: usize = 21;
 
-const PLACE_HEAD: usize = 5;
+const PLACE_HEAD: usize = 6;
 
 const LINK_HEAD: usize = 2;
 
