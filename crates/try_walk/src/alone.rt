@@ -4,6 +4,7 @@ use crate::lent;
 use crate::lent::Lent;
 use crate::see;
 use crate::show;
+use crate::spots::ROW_HEAD;
 use crate::spots::get;
 use crate::spots::row_at;
 use own::Sent;
@@ -51,7 +52,7 @@ fn row_end(a: usize, j: u32, most: usize) -> usize
     requires { ⌜ a ≤ most ⌝ }
     ensures { λ r. ⌜ (a ≤ r) × (r ≤ most) ⌝ }
 {
-    let width = 20 + j as usize;
+    let width = ROW_HEAD + j as usize;
     if width < most - a {
         return a + width;
     }
@@ -113,6 +114,7 @@ fn event_of(call: Call) -> Event {
         Call::Propose(c) => Event::Own(c, Act::Propose),
         Call::Agree(c) => Event::Own(c, Act::Agree),
         Call::Finish(c) => Event::Own(c, Act::Finish),
+        Call::Trim(c, k) => Event::Own(c, Act::Trim(k)),
         Call::Stop(_) => Event::Nothing,
         Call::Return(_) => Event::Nothing,
         Call::Timeout(_) => Event::Nothing,

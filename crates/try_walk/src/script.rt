@@ -88,8 +88,8 @@ fn put_link(z: Lent, links: &mut [u64], a: u64, b: u64, k: u64, v: u64) {
 fn put_book(z: Lent, site: &mut [u64], c: u64, k: u64) {
     let at = spots::row_at(z.j, c);
     spots::put(site, wrapping_add_usize(at, 4), k);
-    spots::put(site, wrapping_add_usize(at, 19), k);
-    spots::put_pairs(site, wrapping_add_usize(at, 20), k as usize);
+    spots::put(site, wrapping_add_usize(at, spots::ROW_COUNT), k);
+    spots::put_pairs(site, wrapping_add_usize(at, spots::ROW_HEAD), k as usize);
 }
 
 fn put_in(p: Put, n: Numbers, z: Lent, site: &mut [u64], links: &mut [u64], letter: &mut [u64]) {

@@ -2,6 +2,15 @@
 use std::num::wrapping_add_u64;
 use std::num::wrapping_add_usize;
 
+// A row and a place: their words before the records, and where these are counted.
+pub(crate) const ROW_HEAD: usize = 21;
+
+pub(crate) const ROW_COUNT: usize = 20;
+
+pub(crate) const PLACE_HEAD: usize = 6;
+
+pub(crate) const PLACE_COUNT: usize = 5;
+
 pub(crate) fn get(words: &[u64], at: usize) -> u64 {
     if at < words.len() {
         return words[at];
@@ -53,13 +62,13 @@ fn less_two(k: u64) -> usize {
 
 // The row of box c: 5 general words and the rows of the boxes before it.
 pub(crate) fn row_at(j: u32, c: u64) -> usize {
-    let width = wrapping_add_usize(20, j as usize);
+    let width = wrapping_add_usize(ROW_HEAD, j as usize);
     wrapping_add_usize(5, many(less_one(c), width))
 }
 
 // The row of the link from a to b: the links of the senders before a, those of a to boxes before b.
 pub(crate) fn link_at(n: u32, j: u32, l: u32, a: u64, b: u64) -> usize {
-    let place = wrapping_add_usize(5, j as usize);
+    let place = wrapping_add_usize(PLACE_HEAD, j as usize);
     let width = wrapping_add_usize(2, many(l as usize, place));
     let own = if b < a { less_one(b) } else { less_two(b) };
     let before = many(less_one(a), less_one(n as u64));
