@@ -173,11 +173,11 @@ module _ {n J L : ℕ} {calls : List Call} {xs ls : List ℕ} (h : Holds n J L c
       (sym (h .site)) (begins .promised n J L in-range calls)
 
 -- two true holds lines of one number, the second after further calls
-pub same-pair : {n J L : ℕ} {calls further : List Call} {xs ls xs' ls' : List ℕ}
+pub same-pair : {n J L : ℕ} {calls : List Call} {xs ls xs' ls' : List ℕ} (further : List Call)
     (h : Holds n J L calls xs ls) (h' : Holds n J L (further ++ calls) xs' ls')
     (b d k l r l' r' : ℕ) → holdsOn xs ls b k l r ≡ Answer.Done
     → holdsOn xs' ls' d k l' r' ≡ Answer.Done → (l ≡ l') × (r ≡ r')
-same-pair {n} {J} {L} {calls} {further} h h' b d k l r l' r' p q =
+same-pair {n} {J} {L} {calls} further h h' b d k l r l' r' p q =
     let t = so-told h b k l r p in
     let u = so-told h' d k l' r' q in
     let at = ap (λ (s : Site). s .box b) (h .site) in
@@ -207,9 +207,9 @@ pub filed : Filed
 unfolding run
 filed = record {
   one-pair = λ served b d k l r l' r'.
-      same-pair {further = []} (holds-run served) (holds-run served) b d k l r l' r';
-  over-time = λ served later b d k l r l' r'.
-      same-pair (holds-run served) (holds-run later) b d k l r l' r';
+      same-pair [] (holds-run served) (holds-run served) b d k l r l' r';
+  over-time = λ further served later b d k l r l' r'.
+      same-pair further (holds-run served) (holds-run later) b d k l r l' r';
   kept = λ d fits served after b k l r yes still.
       let h = holds-run served in
       let next = holds-run (called d fits served after) in

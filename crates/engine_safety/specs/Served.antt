@@ -28,7 +28,7 @@ pub record Filed : Type 0 where
       → holdsOn xs ls d k left' right' ≡ Answer.Done → (left ≡ left') × (right ≡ right')
   -- Over time: two holds lines that are true of one load number name the same frames, the second
   -- whatever calls later and at whichever box, even where the first box has dropped the number.
-  pub over-time : {n J L : ℕ} {calls further : List Call} {xs ls xs' ls' : List ℕ}
+  pub over-time : {n J L : ℕ} {calls : List Call} {xs ls xs' ls' : List ℕ} (further : List Call)
       → Served n J L calls xs ls → Served n J L (further ++ calls) xs' ls'
       → (b d k left right left' right' : ℕ) → holdsOn xs ls b k left right ≡ Answer.Done
       → holdsOn xs' ls' d k left' right' ≡ Answer.Done → (left ≡ left') × (right ≡ right')
