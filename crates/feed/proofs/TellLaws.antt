@@ -95,7 +95,7 @@ pub rows-fit : (xs : List ℕ) (n j : ℕ) → n ≡ getD xs 0 0 → j ≡ getD 
     → 5 + n * (headWords + j) ≤ length xs
 rows-fit xs n j e f w =
     subst (λ (x : ℕ). 5 + x * (headWords + j) ≤ length xs) (sym e)
-    (subst (λ (x : ℕ). 5 + getD xs 0 0 * (20 + x) ≤ length xs) (sym f) (w .rows))
+    (subst (λ (x : ℕ). 5 + getD xs 0 0 * (headWords + x) ≤ length xs) (sym f) (w .rows))
 
 pub done-is : (xs : List ℕ) (k n j : ℕ) {a b : List ℕ} {at p : ℕ} → n ≡ getD xs 0 0
     → j ≡ getD xs 1 0 → n ≤ 5
@@ -108,6 +108,6 @@ done-is xs k n j e f h v =
     let front : List ℕ = 32 ∷ decimal (getD xs 3 0) in
     let same : lastsAt xs (headWords + j) n ≡ lasts (siteOf xs []) =
     ap (λ (x : ℕ). lastsAt xs (headWords + j) x) e
-    ∙ (ap (λ (x : ℕ). lastsAt xs (20 + x) (getD xs 0 0)) f ∙ lasts-are xs) in
+    ∙ (ap (λ (x : ℕ). lastsAt xs (headWords + x) (getD xs 0 0)) f ∙ lasts-are xs) in
     at-most (omega arith)
     (spelled (ap (λ (t : List ℕ). decimal k ++ (front ++ (spaced t ++ (10 ∷ [])))) same) v)

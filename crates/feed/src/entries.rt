@@ -2,6 +2,8 @@
 ghost use mathlib.Core.Path.{_≡_};
 ghost use Rattle.feed.specs.State.{Begins, formed, isEnded};
 ghost use Rattle.feed.specs.Entries.{hasRoom, PieceFed, EndSaid};
+use crate::LINKS_WORDS;
+use crate::SITE_WORDS;
 use crate::piece::feed_formed;
 use crate::state::End;
 use crate::state::Fed;
@@ -49,7 +51,7 @@ fn is_formed(stage: Stage, site: &[u64], links: &[u64]) -> bool
 fn has_room(site: usize, links: usize, out: usize) -> bool
     ensures { λ r. ⌜ r ≡ hasRoom site links out ⌝ }
 {
-    (265 <= site) & (5960 <= links) & (147 <= out)
+    (SITE_WORDS <= site) & (LINKS_WORDS <= links) & (147 <= out)
 }
 
 // Feeds as much of the piece as out has room for; the caller feeds the rest next.

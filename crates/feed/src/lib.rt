@@ -7,6 +7,11 @@ mod settle;
 pub mod state;
 mod tell;
 
+// The words of the largest site of a trace and of its links: five boxes, J 32, L 8.
+pub const SITE_WORDS: usize = 270;
+
+pub const LINKS_WORDS: usize = 6120;
+
 pub use entries::feed_end;
 pub use entries::feed_piece;
 pub use entries::is_ended;
