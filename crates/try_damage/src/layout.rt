@@ -20,17 +20,22 @@ fn many(k: usize, width: usize) -> usize {
     sum
 }
 
-// 5 general words, and a row of 20 + J for each box.
+// The words before the records in a box's row, and in a mail's place.
+const ROW: usize = 21;
+
+const PLACE: usize = 6;
+
+// 5 general words, and a row of 21 + J for each box.
 fn site_end(n: usize, j: usize) -> usize {
-    wrapping_add_usize(5, many(n, wrapping_add_usize(20, j)))
+    wrapping_add_usize(5, many(n, wrapping_add_usize(ROW, j)))
 }
 
-// 2 words and L places of 5 + J for each ordered pair of different boxes.
+// 2 words and L places of 6 + J for each ordered pair of different boxes.
 fn links_end(n: usize, j: usize, l: usize) -> usize {
     if n < 1 {
         return 0;
     }
-    let link = wrapping_add_usize(2, many(l, wrapping_add_usize(5, j)));
+    let link = wrapping_add_usize(2, many(l, wrapping_add_usize(PLACE, j)));
     many(n, many(n - 1, link))
 }
 
