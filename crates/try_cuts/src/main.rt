@@ -44,8 +44,8 @@ fn feed_cuts(input: &[u8], site: &mut [u64], links: &mut [u64], out: &mut [u8], 
 }
 
 fn main() {
-    let mut site = [0u64; 265];
-    let mut links = [0u64; 5960];
+    let mut site = [0u64; feed::SITE_WORDS];
+    let mut links = [0u64; feed::LINKS_WORDS];
     let mut input = io::large_buffer();
     let mut out = io::large_buffer();
     let mut small = [0u8; 147];
