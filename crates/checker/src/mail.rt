@@ -45,16 +45,22 @@ pub fn check_records(src: &[u8], at: usize, n: usize) -> Walk
     Walk::Next(p)
 }
 
+// Its kind says how long its head is.
 pub fn check_letter(src: &[u8], at: usize, j: u32) -> Walk
     requires { ⌜ at ≤ length (now src) ⌝ }
     requires { ⌜ j ≤ mostLoads ⌝ }
     ensures { λ r. ⌜ WalkIs letterBytes (GoodLetter j) (now (src .entry)) at r ⌝ }
 {
-    if src.len() - at < image::LETTER_HEAD_BYTES {
+    if src.len() - at < 4 {
+        return Walk::Bad;
+    }
+    let kind = letter::kind_of(le::get_at(src, at, 4));
+    let least = image::letter_head_bytes(kind);
+    if src.len() - at < least {
         return Walk::Bad;
     }
     let mut w = [0u64; letter::HEAD];
-    let groups = image::letter_groups();
+    let groups = image::letter_groups(kind);
     let p = cells::get_groups(src, at, &groups, &mut w);
     let count = size(w[letter::COUNT]);
     let f = letter::head_fault(&w, j);

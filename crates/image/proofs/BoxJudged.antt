@@ -13,11 +13,11 @@ use Rattle.rules.specs.Sizes.{mostBoxes, mostLoads, unknown, proper}
 use Rattle.rules.specs.Box.{Box}
 use Rattle.rules.specs.Form.{peerForm, formBox}
 use Rattle.rules.specs.declared.model.BoxState.{BoxState}
-use Rattle.laws.proofs.Logic.{passed, all-each}
+use Rattle.laws.proofs.Logic.{all-each}
 use Rattle.laws.proofs.FormLaws.{box-says}
 use Rattle.values.specs.Faults.{isWhole}
 use Rattle.values.proofs.FaultLaws.{whole-none}
-use Rattle.values.proofs.RecordLaws.{count-last}
+use Rattle.values.proofs.AllLaws.{all-at}
 use Rattle.row.specs.Row.{peerOf, headOf, headWords, countAt, beforePeers}
 use Rattle.row.specs.Faults.{headFault}
 use Rattle.row.proofs.NumberLaws.{flag-number-back, state-number-back, phase-number-back}
@@ -36,27 +36,26 @@ module _ (n J b : ℕ) (few : n ≤ mostBoxes) where
   unfolding formBox
   box-passes x e =
       let f = box-says e in
-      let t = passed _ e in
       let same = head-back n J b few x f in
-      let rest = t .1 .1 .1 .1 .1 .1 .1 in
       ap isWhole (head-whole n J b (boxWords x) (record {
         flag = leb-true _ _ (flag-in (x .head .leads));
         state = leb-true _ _ (state-in (x .head .state));
         phase = leb-true _ _ (phase-in (x .head .phase));
         pn = f .pn;
-        last = count-last J _ _ (t .0);
+        last = f .last;
+        first = all-at 1 _ e;
         stored-pn = f .stored-pn;
         stored-number = f .stored-number;
         best-pn = f .best-pn;
         best-number = f .best-number;
-        answered = rest .1 .0;
-        accepts = rest .1 .1 .0;
-        best = rest .0;
-        waiting = rest .1 .1 .1 .0;
-        agreeing = rest .1 .1 .1 .1 .0;
-        peers = ap (λ (h : BoxState). every mostBoxes (peerForm n J b (h .peers))) same
-            ∙ rest .1 .1 .1 .1 .1 .1 .0;
-        counted = t .0;
+        answered = f .answered;
+        accepts = f .accepts;
+        best = all-at 9 _ e;
+        waiting = all-at 12 _ e;
+        agreeing = all-at 13 _ e;
+        peers = ap (λ (h : BoxState). every mostBoxes (peerForm n b (h .peers))) same
+            ∙ all-at 15 _ e;
+        counted = all-at 2 _ e;
         count = f .held .room;
       }))
 
@@ -99,7 +98,7 @@ module _ (n J b : ℕ) (few : n ≤ mostBoxes) where
         ∙ sym (λ i. flag i ∷ state i ∷ phase i
         ∷ getD w 3 0 ∷ getD w 4 0 ∷ getD w 5 0 ∷ getD w 6 0
         ∷ getD w 7 0 ∷ getD w 8 0 ∷ getD w 9 0 ∷ getD w 10 0
-        ∷ getD w 11 0 ∷ getD w 12 0 ∷ getD w 13 0
+        ∷ getD w 11 0 ∷ getD w 12 0 ∷ getD w 13 0 ∷ getD w 14 0
         ∷ p1 i ∷ p2 i ∷ p3 i ∷ p4 i ∷ p5 i ∷ count i ∷ [])
 
     -- .. and that box is by form.
@@ -108,6 +107,8 @@ module _ (n J b : ℕ) (few : n ≤ mostBoxes) where
     form-of records =
         let h = says in
         rw (
+          le-leb _ _ (h .last),
+          h .first,
           rw (← count) at (h .counted),
           all-each proper rs (all-to GoodRecord rs records),
           le-leb _ _ (h .pn),

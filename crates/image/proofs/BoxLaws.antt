@@ -16,7 +16,7 @@ use Rattle.laws.proofs.Logic.{left, right, In}
 use Rattle.laws.proofs.FormLaws.{FormedBox, Peer, box-says}
 use Rattle.values.proofs.SetLaws.{set-fits}
 use Rattle.rules.specs.Numbers.{flagNumber, stateNumber, phaseNumber}
-use Rattle.row.specs.Row.{headOf, peersAt, countAt, headWords}
+use Rattle.row.specs.Row.{headOf, bestAt, peersAt, countAt, headWords}
 use Rattle.row.proofs.NumberLaws.{flag-back, state-back, phase-back, flag-in, state-in, phase-in}
 use Rattle.cells.specs.Cells.{cells, Each, All, Below}
 use Rattle.cells.specs.Groups.{groupsBytes, Outside}
@@ -46,7 +46,7 @@ module _ (n J b : ℕ) (boxes : n ≤ mostBoxes) (x : Box) (f : FormedBox n J b 
   pub peer-none : (k : ℕ) → In k mostBoxes → n < k → getD peersOf (k - 1) 0 ≡ unknown
   peer-none k h above = go (f .peers k h)
     where
-      go : Peer n J b k (getD peersOf (k - 1) 0) → getD peersOf (k - 1) 0 ≡ unknown
+      go : Peer n b k (getD peersOf (k - 1) 0) → getD peersOf (k - 1) 0 ≡ unknown
       go (left e) = e
       go (right e) = absurd (let m = e .0 in omega arith)
 
@@ -96,14 +96,17 @@ module _ (n J b : ℕ) (boxes : n ≤ mostBoxes) (x : Box) (f : FormedBox n J b 
           → getD (boxWords x) k 0 ≡ unknown
       go false a t b =
           let low = leb-false (peersAt + n) k a in
-          absurd (below low (leb 14 k) refl (leb 11 k) refl)
+          absurd (below low (leb peersAt k) refl (leb bestAt k) refl)
         where
-          below : k < peersAt + n → (u : Bool) → leb 14 k ≡ u → (v : Bool) → leb 11 k ≡ v → ⊥
-          below low true c v d = let e = leb-true 14 k c in o .1 .1 .0 (omega arith) (omega arith)
+          below : k < peersAt + n → (u : Bool) → leb peersAt k ≡ u → (v : Bool)
+              → leb bestAt k ≡ v → ⊥
+          below low true c v d =
+              let e = leb-true peersAt k c in o .1 .1 .0 (omega arith) (omega arith)
           below low false c true d =
-              let e = leb-false 14 k c in let f' = leb-true 11 k d in
+              let e = leb-false peersAt k c in let f' = leb-true bestAt k d in
               o .1 .0 (omega arith) (omega arith)
-          below low false c false d = let e = leb-false 11 k d in o .0 (omega arith) (omega arith)
+          below low false c false d =
+              let e = leb-false bestAt k d in o .0 (omega arith) (omega arith)
       go true a true b =
           let high = leb-true countAt k b in
           absurd (o .1 .1 .1 .0 (omega arith) (omega arith))
@@ -130,7 +133,7 @@ module _ (n J b : ℕ) (boxes : n ≤ mostBoxes) (x : Box) (f : FormedBox n J b 
         subst (λ (j : ℕ). getD peersOf j 0 < 256 ^ 4) same
         (go (f .peers (i + 1) (omega arith, omega arith)))
       where
-        go : {last : ℕ} → Peer n J b (i + 1) last → last < 256 ^ 4
+        go : {last : ℕ} → Peer n b (i + 1) last → last < 256 ^ 4
         go (left e) = omega arith
         go (right e) = let m = e .2 in omega arith
 
@@ -148,7 +151,8 @@ module _ (n J b : ℕ) (boxes : n ≤ mostBoxes) (x : Box) (f : FormedBox n J b 
         let best-number = f .best-number in
         let answered = set-fits n (x .head .answered) boxes (f .answered) in
         let accepts = set-fits n (x .head .accepts) boxes (f .accepts) in
-        let held = f .held .all in
+        let last = f .last in
+        let first = f .first .top in
         let room = f .held .room in
         record {
           width = refl;
@@ -167,7 +171,10 @@ module _ (n J b : ℕ) (boxes : n ≤ mostBoxes) (x : Box) (f : FormedBox n J b 
                         omega arith,
                         (
                           omega arith,
-                          (omega arith, (omega arith, (omega arith, (omega arith, tt)))),
+                          (
+                            omega arith,
+                            (omega arith, (omega arith, (omega arith, (omega arith, tt)))),
+                          ),
                         ),
                       ),
                     ),
@@ -211,7 +218,7 @@ module _ (n J : ℕ) (boxes : n ≤ mostBoxes) (loads : J ≤ mostLoads) where
     cut = box-cut n boxes;
     words = boxWords;
     records = λ x. x .records;
-    split = box-split n;
+    split = λ x g. box-split n x;
     range = λ x g. head-words n J (g .0) boxes x (box-says (g .1)) loads;
     count = λ x. refl;
     proper = λ x g. box-records n J (g .0) x (g .1);

@@ -1,19 +1,21 @@
 -- Things whose bytes are the words of a head, in groups, and then records: boxes and letters. One
--- family of laws: they are told from their bytes, and found or not where a head was read.
+-- family of laws: they are told from their bytes, and found or not where a head was read. Where the
+-- word at the front says which groups follow, that word is told first.
 use mathlib.Core.Path.{_≡_, refl, sym, ap, _∙_, subst}
 use mathlib.Core.Bool.{Bool, true, false, false≢true}
-use Prim.Native.Nat.{ℕ, _+_, _^_, _≤_, _<_}
+use Prim.Native.Nat.{ℕ, suc, _+_, _^_, _≤_, _<_}
 use native.Mathlib.Omega.{arith}
-use mathlib.Core.List.{List, _++_}
-use lib.ListN.{length, drop, getD, replicate}
+use mathlib.Core.List.{List, [], _∷_, _++_, append-assoc}
+use lib.ListN.{length, take, drop, getD, replicate}
+use Rattle.le.specs.Le.{le}
 use Rattle.cells.specs.declared.Walk.{Walk}
-use Rattle.cells.specs.Cells.{cells, All, Stands, NoneAt, WalkIs, Many, Has}
-use Rattle.cells.specs.Groups.{Group, groupsOf, groupsBytes, groupsLength, Cut}
-use Rattle.cells.specs.Groups.{GroupedWords, GroupsRead, RecordsThere, HeadedRead}
+use Rattle.cells.specs.Cells.{chain, cells, Each, All, Stands, Found, NoneAt, WalkIs, Many, Has}
+use Rattle.cells.specs.Groups.{Group, group, groupsOf, groupsBytes, groupsLength, Cut}
+use Rattle.cells.specs.Groups.{GroupFits, GroupedWords, GroupsRead, RecordsThere, HeadedRead}
 use Rattle.cells.specs.Stored.{StoredIs}
 use Rattle.cells.proofs.ChainLaws.{length-cells}
 use Rattle.cells.proofs.StandLaws.{stands-seq, stands-as}
-use Rattle.cells.proofs.CodeLaws.{Code, Parts, told, told-code}
+use Rattle.cells.proofs.CodeLaws.{Code, Parts, le-code, told, told-code}
 use Rattle.cells.proofs.GroupLaws.{groups-code, groups-grouped}
 use Rattle.image.specs.Parts.{GoodRecord}
 use Rattle.image.proofs.RecordLaws.{records-code, same-records}
@@ -27,7 +29,7 @@ pub record Headed {A : Type 0} (enc : A → List ℕ) (Good : A → Type 0) : Ty
   pub cut : Cut 0 width groups
   pub words : A → List ℕ
   pub records : A → List ℕ
-  pub split : (x : A) → enc x ≡ groupsBytes groups (words x) ++ cells 8 (records x)
+  pub split : (x : A) → Good x → enc x ≡ groupsBytes groups (words x) ++ cells 8 (records x)
   pub range : (x : A) → Good x → GroupedWords groups width rest (words x)
   pub count : (x : A) → getD (words x) count-at 0 ≡ length (records x)
   pub proper : (x : A) → Good x → All GoodRecord (records x)
@@ -40,7 +42,7 @@ module _ {A : Type 0} {enc : A → List ℕ} {Good : A → Type 0} (H : Headed e
     code = groups-code (H .groups) (H .width) (H .rest) (H .cut);
     first = H .words;
     rest = λ x. cells 8 (H .records x);
-    split = λ x g. H .split x;
+    split = H .split;
     range = H .range;
   }
 
@@ -106,10 +108,11 @@ module _ {A : Type 0} {enc : A → List ℕ} {Range : A → Type 0} (H : Headed 
       let x = T .made w rs in
       let n : length rs ≡ getD w (H .count-at) 0 = f .good .count ∙ c in
       let e : w ≡ H .words x = T .words w rs g t n in
+      let here = T .good w rs g t n (f .good .each) in
       record {
         thing = x;
-        good = T .good w rs g t n (f .good .each);
-        stands = stands-as (sym (H .split x))
+        good = here;
+        stands = stands-as (sym (H .split x (T .fits x here)))
             (stands-seq (stands-as (ap (groupsBytes (H .groups)) e) s)
             (stands-as (ap (cells 8) (T .records w rs)) (f .stands)));
       }
@@ -152,7 +155,7 @@ module _ {A : Type 0} {enc : A → List ℕ} {Good : A → Type 0} (H : Headed e
 
   pub headed-asks : (ns : List ℕ) (m : ℕ) → groupsOf ns ≡ H .groups
       → (H .count-at < H .width) × (H .width ≤ m) × (m < 2 ^ 64)
-      → ((x : A) → groupsLength (H .groups) ≤ length (enc x))
+      → ((x : A) → Good x → groupsLength (H .groups) ≤ length (enc x))
       → ((x : A) → Good x → H .width + length (H .records x) ≤ m) → Has enc Good src at
       → Asked m (groupsOf ns)
   headed-asks ns m e sizes least few h =
@@ -161,7 +164,7 @@ module _ {A : Type 0} {enc : A → List ℕ} {Good : A → Type 0} (H : Headed e
       let room = f .stands .room in
       subst (Asked m) (sym e) (
         H .cut,
-        (sizes, (omega (arith, least (f .thing)), records-there m few h)),
+        (sizes, (omega (arith, least (f .thing) (f .good)), records-there m few h)),
       )
 
 -- What was read is the thing that stands there, and words that begin with it hold it.
@@ -181,3 +184,55 @@ headed-stored H Holds held ns u {src} {at} {w} {z} {r} g' q f =
     let e = same-records (H .records x) (g .records) n (g .read) (t .1) (H .proper x (f .good)) in
     let row = g .row ∙ (λ i. t .0 i ++ (e .0 i ++ drop (H .width + length (g .records)) w)) in
     (subst (λ (l : List ℕ). Holds l x) (sym row) (held x (f .good) _), e .1)
+
+-- ---- a word at the front that says which groups follow
+
+-- What stands behind the first word.
+abbrev pub behindFirst : ℕ → ℕ → List Group → List ℕ → List ℕ
+behindFirst k c gs w = cells k (take c (drop 1 w)) ++ groupsBytes gs w
+
+pub first-word : (k c : ℕ) (gs : List Group) (w : List ℕ) → 1 ≤ length w
+    → groupsBytes (group k 0 (suc c) ∷ gs) w ≡ le k (getD w 0 0) ++ behindFirst k c gs w
+unfolding groupsBytes chain
+first-word k c gs [] h = absurd (omega arith)
+first-word k c gs (x ∷ w) h = append-assoc (le k x) (cells k (take c w)) _
+
+pub first-below : (k c : ℕ) (gs : List Group) (w : List ℕ) → 1 ≤ length w
+    → All (GroupFits w) (group k 0 (suc c) ∷ gs) → getD w 0 0 < 256 ^ k
+unfolding Each
+first-below k c gs [] h f = absurd (omega arith)
+first-below k c gs (x ∷ w) h f = f .0 .0
+
+-- Words in groups are told from their bytes word by word: the first one first.
+abbrev pub first-parts : (k c m rest : ℕ) (gs : List Group) → 1 ≤ m
+    → Parts (groupsBytes (group k 0 (suc c) ∷ gs))
+    (GroupedWords (group k 0 (suc c) ∷ gs) m rest) (le k) (λ x. x < 256 ^ k)
+first-parts k c m rest gs some = record {
+  code = le-code k;
+  first = λ w. getD w 0 0;
+  rest = behindFirst k c gs;
+  split = λ w g. first-word k c gs w (omega (arith, g .width));
+  range = λ w g. first-below k c gs w (omega (arith, g .width)) (g .below);
+}
+
+-- Whatever thing by form stands there has P: so it is one that has P, or none is there.
+module _ {A : Type 0} {enc : A → List ℕ} {Good P : A → Type 0} {src : List ℕ} {at : ℕ}
+    (known : (x : A) (q : ℕ) → Good x → Stands (enc x) src at q → P x) where
+  abbrev pub known-found : {q : ℕ} → Found enc Good src at q → Found enc (λ x. Good x × P x) src at q
+  known-found {q} f = record {
+    thing = f .thing;
+    good = (f .good, known (f .thing) q (f .good) (f .stands));
+    stands = f .stands;
+  }
+
+  pub known-walk : (r : Walk) → WalkIs enc (λ x. Good x × P x) src at r → WalkIs enc Good src at r
+  known-walk (Walk.Next q) f =
+      record { thing = f .thing; good = f .good .0; stands = f .stands }
+  known-walk Walk.Bad none = λ x q g v. none x q (g, known x q g v) v
+
+  pub known-has : Has enc Good src at → Has enc (λ x. Good x × P x) src at
+  known-has h = record { place = h .place; found = known-found (h .found) }
+
+  pub known-stored : (H : A → Type 0) {r : ℕ} → StoredIs enc (λ x. Good x × P x) src at H r
+      → StoredIs enc Good src at H r
+  known-stored H stored q f = stored q (known-found f)

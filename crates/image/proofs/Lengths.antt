@@ -45,7 +45,7 @@ all-always f (x ∷ l) = (f x, all-always f l)
 -- ---- the parts
 
 abbrev pub letterLength : Letter → ℕ
-letterLength y = letterLong (length (y .records))
+letterLength y = letterLong (y .head .kind) (length (y .records))
 
 abbrev pub linkLength : List Letter → ℕ
 linkLength ys = 4 + total letterLength ys
@@ -56,8 +56,10 @@ boxLength n x = boxLong n (length (x .records))
 pub length-letter : (y : Letter) → length (letterBytes y) ≡ letterLength y
 unfolding letterBytes
 length-letter y =
-    let head = length-groups letterGroups 0 place.headWords (letterWords y) letter-cut refl in
-    simp (length-append, length-cells, head) (omega (arith, letter-groups-long))
+    let k = y .head .kind in
+    let head = length-groups (letterGroups k) 0 place.headWords (letterWords y) (letter-cut k) refl
+    in
+    simp (length-append, length-cells, head) (omega (arith, letter-groups-long k))
 
 -- The letters of a link together.
 pub length-letters : (ys : List Letter) → length (chain letterBytes ys) ≡ total letterLength ys
@@ -108,16 +110,16 @@ pub form-length : (s : Site) → form s ≡ true → length (imageOf s) ≡ imag
 form-length s e = let f = form-says e in
     image-length s (f .sizes .few-boxes)
 
--- ★ "Fresh image: n=3, 340 bytes; n=1, 124", whatever J and L are
+-- ★ "Fresh image: n=3, 352 bytes; n=1, 128" (Q-4), whatever J and L are
 fresh-length : (n J L : ℕ) → n ≤ mostBoxes
     → length (imageOf (fresh n J L)) ≡ imageLength (fresh n J L)
 unfolding fresh
 fresh-length n J L h = image-length (fresh n J L) h
 
-pub fresh-three : (J L : ℕ) → length (imageOf (fresh 3 J L)) ≡ 340
+pub fresh-three : (J L : ℕ) → length (imageOf (fresh 3 J L)) ≡ 352
 unfolding imageLength total fresh boxesOf linksOf bySender numbersFrom chain
 fresh-three J L = fresh-length 3 J L (omega arith)
 
-pub fresh-one : (J L : ℕ) → length (imageOf (fresh 1 J L)) ≡ 124
+pub fresh-one : (J L : ℕ) → length (imageOf (fresh 1 J L)) ≡ 128
 unfolding imageLength total fresh boxesOf linksOf bySender numbersFrom chain
 fresh-one J L = fresh-length 1 J L (omega arith)

@@ -11,6 +11,7 @@ use Rattle.rules.specs.Sizes.{mostBoxes, mostLoads, mostMails}
 use Rattle.rules.specs.Box.{Box, Letter}
 use Rattle.rules.specs.Site.{Site}
 use Rattle.rules.specs.Form.{form}
+use Rattle.laws.proofs.Types.{Kind}
 use Rattle.laws.proofs.FormLaws.{FormedSizes, letter-says, box-says, sizes-says, form-says}
 use Rattle.link.specs.Link.{placeWidth, linkWidth}
 use Rattle.memory.specs.Memory.{rowWidth, siteWords, linksWords}
@@ -22,6 +23,7 @@ use Rattle.image.specs.Parts.{bodiesIn, listedBytes, GoodListed}
 use Rattle.image.specs.Longest.{tableLong, boxLong, letterLong, linkLong, longest}
 use Rattle.image.specs.Longest.{longestOfAll}
 use Rattle.image.proofs.OrderLaws.{length-boxes}
+use Rattle.image.proofs.CutLaws.{first-few}
 use Rattle.image.proofs.LetterLaws.{letter-few, link-split}
 use Rattle.image.proofs.ListedLaws.{listed-good}
 use Rattle.image.proofs.TableLaws.{length-table, bodies-count, image-in}
@@ -50,8 +52,10 @@ module _ {A : Type 0} (enc : A → List ℕ) (k : ℕ) where
   few-most m l few h = omega (arith, chain-most l h, mul-le-mul-right k few)
 
 module _ (J : ℕ) where
-  letter-most : (y : Letter) → GoodLetter J y → length (letterBytes y) ≤ letterLong J
-  letter-most y g = omega (arith, length-letter y, letter-few (letter-says g))
+  letter-most : (y : Letter) → GoodLetter J y
+      → length (letterBytes y) ≤ letterLong Kind.Commit J
+  letter-most y g =
+      omega (arith, length-letter y, first-few (y .head .kind), letter-few (letter-says g))
 
   link-most : (L : ℕ) (ys : List Letter) → GoodLink J L ys → length (linkBytes ys) ≤ linkLong J L
   link-most L ys g =
@@ -60,8 +64,9 @@ module _ (J : ℕ) where
         ap length (link-split ys),
         length-append (cells 4 (length ys ∷ [])) (chain letterBytes ys),
         length-cells 4 (length ys ∷ []),
-        few-most letterBytes (letterLong J) L ys (g .room)
-            (each-map (λ i. GoodLetter J) (λ i y. length (letterBytes y) ≤ letterLong J)
+        few-most letterBytes (letterLong Kind.Commit J) L ys (g .room)
+            (each-map (λ i. GoodLetter J)
+            (λ i y. length (letterBytes y) ≤ letterLong Kind.Commit J)
             (λ i. letter-most) ys (g .letters)),
       )
 
@@ -117,7 +122,8 @@ unfolding longest
 longest-grows {n} {m} {J} {K} {L} {M} hn hJ hL =
     let boxes : n * boxLong n J ≤ m * boxLong m K = mul-le-mul hn (omega arith) in
     let pairs : n * (n - 1) ≤ m * (m - 1) = mul-le-mul hn (omega arith) in
-    let mails : L * letterLong J ≤ M * letterLong K = mul-le-mul hL (omega arith) in
+    let mails : L * letterLong Kind.Commit J ≤ M * letterLong Kind.Commit K =
+    mul-le-mul hL (omega arith) in
     let links : n * (n - 1) * linkLong J L ≤ m * (m - 1) * linkLong K M =
     mul-le-mul pairs (omega arith) in
     omega arith
@@ -130,7 +136,8 @@ longest-words {n} {J} {L} z =
     let few = z .few-boxes in
     let m = n * (n - 1) in
     let boxes : n * (8 + boxLong n J) ≤ n * (8 * rowWidth J) = mul-le-mul-left n (omega arith) in
-    let mails : L * letterLong J ≤ L * (8 * placeWidth J) = mul-le-mul-left L (omega arith) in
+    let mails : L * letterLong Kind.Commit J ≤ L * (8 * placeWidth J) =
+    mul-le-mul-left L (omega arith) in
     let links : m * linkLong J L ≤ m * (8 * linkWidth J L) =
     mul-le-mul-left m (omega (arith, mul-left-comm L 8 (placeWidth J))) in
     omega (
@@ -145,7 +152,7 @@ pub longest-of-all : longest mostBoxes mostLoads mostMails ≡ longestOfAll
 unfolding longest
 longest-of-all = omega arith
 
-pub longest-of-traces : longest 5 32 8 ≡ 46060
+pub longest-of-traces : longest 5 32 8 ≡ 46720
 unfolding longest
 longest-of-traces = omega arith
 

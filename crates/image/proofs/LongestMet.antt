@@ -1,12 +1,12 @@
 -- The longest image is one: that of a site whose books and links are full.
 use mathlib.Core.Path.{_≡_, refl, ap, _∙_}
 use mathlib.Core.Bool.{true}
-use Prim.Native.Nat.{ℕ, zero, suc, _+_, _-_, _*_, _<_}
+use Prim.Native.Nat.{ℕ, zero, suc, _+_, _-_, _*_, _≤_, _<_}
 use native.Mathlib.Nat.{suc-mul}
 use native.Mathlib.Omega.{arith}
 use mathlib.Core.List.{List, [], _∷_}
 use lib.ListN.{length, getD, replicate, length-replicate}
-use Rattle.rules.specs.Sizes.{sizesForm, recordOf, proper}
+use Rattle.rules.specs.Sizes.{mostLoads, sizesForm, recordOf, proper}
 use Rattle.rules.specs.Sets.{fullSet}
 use Rattle.rules.specs.Fields.{withKept}
 use Rattle.rules.specs.Box.{Box, Letter}
@@ -16,7 +16,8 @@ use Rattle.laws.proofs.Types.{Kind}
 use Rattle.laws.proofs.Logic.{left, both-no}
 use Rattle.laws.proofs.Logic as logic
 use Rattle.laws.proofs.SetLaws.{set-full, set-zero}
-use Rattle.laws.proofs.FormLaws.{Proper, HeldCount, FormedLetter, FormedBox, sizes-says, form-made}
+use Rattle.laws.proofs.FormLaws.{Proper, FormedFirst, HeldCount, FormedLetter, FormedBox}
+use Rattle.laws.proofs.FormLaws.{sizes-says, form-made}
 use Rattle.laws.proofs.StoreForm.{box-of, none-form, unknown-form}
 use Rattle.cells.specs.Cells.{All, Each}
 use Rattle.cells.proofs.ChainLaws.{each-made}
@@ -33,13 +34,14 @@ book J = replicate J (recordOf 1 1)
 
 abbrev fullBox : ℕ → Box
 fullBox J = record {
-  head = withKept (record { pn = 0; last = J; stored = record { pn = 0; number = 0 } }) freshHead;
+  head = withKept
+      (record { pn = 0; last = J; first = 1; stored = record { pn = 0; number = 0 } }) freshHead;
   records = book J;
 }
 
 abbrev fullLetter : ℕ → Letter
 fullLetter J = record {
-  head = record { kind = Kind.Commit; pn = 0; last = J; unagreed = 0 };
+  head = record { kind = Kind.Commit; pn = 0; last = J; first = 1; unagreed = 0 };
   records = book J;
 }
 
@@ -68,31 +70,50 @@ module _ (n J L : ℕ) (e : sizesForm n J L ≡ true) where
   records : logic.All Proper (book J)
   records = all-same Proper (recordOf 1 1) J one
 
-  held : HeldCount J J (length (book J))
-  held =
-      let k = length-replicate J (recordOf 1 1) in
-      record { all = omega arith; next = omega arith; room = omega arith }
+  few : J ≤ mostLoads
+  few = sizes-says e .few-loads
+
+  count : length (book J) ≡ J
+  count = length-replicate J (recordOf 1 1)
+
+  first : FormedFirst 1 J
+  first = record { some = omega arith; top = omega arith }
+
+  held : HeldCount J 1 J (length (book J))
+  held = record {
+    all = omega (arith, count);
+    next = omega (arith, count);
+    most = omega (arith, count);
+    room = omega (arith, count);
+  }
 
   box : (b : ℕ) → FormedBox n J b (fullBox J)
   unfolding freshHead
   box b =
       box-of
       (record {
+        last = omega (arith, few);
+        first = first;
         held = held;
         records = records;
         pn = omega arith;
         stored-pn = omega arith;
         stored-number = omega arith;
       })
-      (none-form J) (set-zero n) (set-zero n) (left refl) (left refl) (unknown-form n J b)
+      none-form (set-zero n) (set-zero n) (left refl) (left refl) (unknown-form n b)
 
   letter : FormedLetter J (fullLetter J)
   letter = record {
-    kind = record { all-records = length-replicate J (recordOf 1 1); no-unagreed = refl };
+    kind = record {
+      first = first;
+      all-records = omega (arith, count);
+      room = omega (arith, count);
+      no-unagreed = refl;
+    };
     records = records;
     pn = omega arith;
     unagreed = omega arith;
-    last = omega arith;
+    last = omega (arith, few);
   }
 
   pub full-form : form (full n J L) ≡ true
@@ -142,11 +163,11 @@ module _ (n J L : ℕ) (e : sizesForm n J L ≡ true) where
   link : linkLength (replicate L (fullLetter J)) ≡ linkLong J L
   link =
       ap (λ (k : ℕ). 4 + k)
-      (total-same letterLength (letterLong J) L (replicate L (fullLetter J))
+      (total-same letterLength (letterLong Kind.Commit J) L (replicate L (fullLetter J))
       (length-replicate L (fullLetter J))
       (all-of
-      (all-same (λ y. letterLength y ≡ letterLong J) (fullLetter J) L
-      (ap letterLong (length-replicate J (recordOf 1 1))))))
+      (all-same (λ y. letterLength y ≡ letterLong Kind.Commit J) (fullLetter J) L
+      (ap (letterLong Kind.Commit) (length-replicate J (recordOf 1 1))))))
 
   links : total linkLength (linksOf s) ≡ n * (n - 1) * linkLong J L
   links =

@@ -7,7 +7,8 @@ use mathlib.Core.List.{List, [], _∷_, _++_, map}
 use lib.ListN.{length}
 use Rattle.rules.specs.Box.{Box, Letter}
 use Rattle.rules.specs.Site.{Site, freshBox, isBox, isLink}
-use Rattle.letter.specs.Place.{kindAt, headWords, wordsOfMail}
+use Rattle.rules.specs.declared.model.Kind.{Kind}
+use Rattle.letter.specs.Place.{kindAt, firstAt, unagreedAt, wordsOfMail}
 use Rattle.row.specs.Row.{flagAt, bestAt, peersAt, countAt, wordsOf}
 use Rattle.cells.specs.Cells.{chain, cells}
 use Rattle.cells.specs.Groups.{Group, group, groupsBytes}
@@ -48,10 +49,11 @@ generalBody s =
     ∷ [])
 
 -- "Box:" 4 bytes each for flag to accept set, "then three records ..; n peers' lasts ..; count of
--- records held, and these." The order of the fields is that of a row's words (`wordsOf`).
+-- records held, and these." "In the image first stands after last, in boxes and such mail" (Q-4).
+-- The order of the fields is that of a row's words (`wordsOf`).
 abbrev pub boxGroups : ℕ → List Group
 boxGroups n =
-    group 4 flagAt 11
+    group 4 flagAt 12
     ∷ group 8 bestAt 3
     ∷ group 4 peersAt n
     ∷ group 4 countAt 1
@@ -63,15 +65,30 @@ boxWords x = wordsOf (x .head) (length (x .records))
 unfoldable pub boxBody : ℕ → Box → List ℕ
 boxBody n x = groupsBytes (boxGroups n) (boxWords x) ++ cells 8 (x .records)
 
--- "its mails: kind .., pn (0 in Lease), last, unagreed pn, record count, records": as in a place
-abbrev pub letterGroups : List Group
-letterGroups = group 4 kindAt headWords ∷ []
+-- "such mail": Last, Begin and Commit have one word of first, the others none
+abbrev pub firstWords : Kind → ℕ
+firstWords Kind.Collect = 0
+firstWords Kind.Last = 1
+firstWords Kind.Begin = 1
+firstWords Kind.Accept = 0
+firstWords Kind.Commit = 1
+firstWords Kind.Lease = 0
+
+-- "its mails: kind .., pn (0 in Lease), last, [first], unagreed pn, record count, records": as in a
+-- place
+abbrev pub letterGroups : Kind → List Group
+letterGroups k =
+    group 4 kindAt 3
+    ∷ group 4 firstAt (firstWords k)
+    ∷ group 4 unagreedAt 2
+    ∷ []
 
 abbrev pub letterWords : Letter → List ℕ
 letterWords y = wordsOfMail (y .head) (length (y .records))
 
 unfoldable pub letterBytes : Letter → List ℕ
-letterBytes y = groupsBytes letterGroups (letterWords y) ++ cells 8 (y .records)
+letterBytes y =
+    groupsBytes (letterGroups (y .head .kind)) (letterWords y) ++ cells 8 (y .records)
 
 -- "each a count and its mails"
 unfoldable pub linkBytes : List Letter → List ℕ

@@ -1,6 +1,8 @@
 -- How long the parts of an image are, and the longest image of a site of given sizes. Numbers have
 -- 4 bytes and records 8.
 use Prim.Native.Nat.{ℕ, _+_, _-_, _*_}
+use Rattle.rules.specs.declared.model.Kind.{Kind}
+use Rattle.image.specs.Image.{firstWords}
 
 -- "number of bodies (n+2), then byte offset .. and length of each": of so many bodies, of n boxes
 abbrev pub tableBytes : ℕ → ℕ
@@ -13,24 +15,25 @@ tableLong n = tableBytes (n + 2)
 abbrev pub generalLong : ℕ
 generalLong = 20
 
--- a box: eleven numbers ("flag, state, .. accept set"), "three records" and the "count of records
--- held" are 72 bytes; "n peers' lasts"; and r records
+-- a box: twelve numbers ("flag, state, .. accept set"), "three records" and the "count of records
+-- held" are 76 bytes; "n peers' lasts"; and r records
 abbrev pub boxHeadLong : ℕ → ℕ
-boxHeadLong n = 72 + 4 * n
+boxHeadLong n = 76 + 4 * n
 
 abbrev pub boxLong : ℕ → ℕ → ℕ
 boxLong n r = boxHeadLong n + 8 * r
 
--- a mail: five numbers ("kind .., pn, last, unagreed pn, record count"); and r records
-abbrev pub letterHeadLong : ℕ
-letterHeadLong = 20
+-- a mail: five numbers ("kind .., pn, last, unagreed pn, record count"), in some kinds first; and r
+-- records
+abbrev pub letterHeadLong : Kind → ℕ
+letterHeadLong k = 20 + 4 * firstWords k
 
-abbrev pub letterLong : ℕ → ℕ
-letterLong r = letterHeadLong + 8 * r
+abbrev pub letterLong : Kind → ℕ → ℕ
+letterLong k r = letterHeadLong k + 8 * r
 
--- "each a count and its mails", L of them with J records each
+-- "each a count and its mails", L of them with first and J records each, as a Commit may be
 abbrev pub linkLong : ℕ → ℕ → ℕ
-linkLong J L = 4 + L * letterLong J
+linkLong J L = 4 + L * letterLong Kind.Commit J
 
 -- each of n books is full, and so is each link, n (n − 1) of them, of mails with the whole book
 unfoldable pub longest : ℕ → ℕ → ℕ → ℕ
@@ -42,4 +45,4 @@ longest n J L =
 
 -- no image is longer than this: n = 5, J = 4,096, L = 16
 abbrev pub longestOfAll : ℕ
-longestOfAll = 10656620
+longestOfAll = 10657920

@@ -6,21 +6,19 @@ ghost use Prim.Native.Nat.{_+_, _≤_};
 ghost use lib.ListN.{length};
 ghost use Rattle.rules.specs.Sizes.{mostBoxes};
 ghost use Rattle.cells.specs.Groups.{groupsOf};
-ghost use Rattle.image.specs.Image.{boxGroups, letterGroups};
-ghost use Rattle.image.specs.Longest.{tableBytes, boxHeadLong};
+ghost use Rattle.image.specs.Image.{boxGroups, firstWords, letterGroups};
+ghost use Rattle.image.specs.Longest.{tableBytes, boxHeadLong, letterHeadLong};
+use rules::model::Kind;
 
 // Of the general body.
 pub const GENERAL_BYTES: usize = 20;
-
-// Of a mail without its records.
-pub const LETTER_HEAD_BYTES: usize = 20;
 
 // Of a box of n without its records.
 pub fn box_head_bytes(n: usize) -> usize
     requires { ⌜ n ≤ mostBoxes ⌝ }
     ensures { λ r. ⌜ r ≡ boxHeadLong n ⌝ }
 {
-    72 + 4 * n
+    76 + 4 * n
 }
 
 // Of the table of contents, for so many bodies.
@@ -37,7 +35,7 @@ pub fn box_groups(n: usize) -> [usize; 12]
     [
         4,
         row::FLAG,
-        11,
+        12,
         8,
         row::BEST,
         3,
@@ -50,8 +48,42 @@ pub fn box_groups(n: usize) -> [usize; 12]
     ]
 }
 
-pub fn letter_groups() -> [usize; 3]
-    ensures { λ r. ⌜ (groupsOf r ≡ letterGroups) × (length r ≡ 3) ⌝ }
+// How many words of first a mail of this kind has.
+fn first_words(k: Kind) -> usize
+    ensures { λ r. ⌜ r ≡ firstWords k ⌝ }
+    ensures { λ r. ⌜ r ≤ 1 ⌝ }
 {
-    [4, letter::KIND, letter::HEAD]
+    match k {
+        Kind::Collect => 0,
+        Kind::Last => 1,
+        Kind::Begin => 1,
+        Kind::Accept => 0,
+        Kind::Commit => 1,
+        Kind::Lease => 0,
+    }
+}
+
+// Of a mail without its records.
+pub fn letter_head_bytes(k: Kind) -> usize
+    ensures { λ r. ⌜ r ≡ letterHeadLong k ⌝ }
+{
+    let first = first_words(k);
+    20 + 4 * first
+}
+
+pub fn letter_groups(k: Kind) -> [usize; 9]
+    ensures { λ r. ⌜ (groupsOf r ≡ letterGroups k) × (length r ≡ 9) ⌝ }
+{
+    let first = first_words(k);
+    [
+        4,
+        letter::KIND,
+        3,
+        4,
+        letter::FIRST,
+        first,
+        4,
+        letter::UNAGREED,
+        2,
+    ]
 }

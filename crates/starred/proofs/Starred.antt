@@ -9,7 +9,8 @@ use Rattle.rules.specs.Sets.{bit, joined, without, digit, has, setForm, fullSet
 use Rattle.rules.specs.Numbers.{inState, inPhase}
 use Rattle.rules.specs.NewPn.{newPn}
 use Rattle.rules.specs.Turns.{firstCause, unless, settled}
-use Rattle.rules.specs.Parts.{others, isHeld, underOf, tookKept, tookBook, cleared}
+use Rattle.rules.specs.Parts.{others, isHeld, underOf, higher, roomNext, tookKept, tookBook}
+use Rattle.rules.specs.Parts.{cleared}
 use Rattle.rules.specs.Last.{
   noted,
   heard,
@@ -60,7 +61,8 @@ use Rattle.rules.specs.Steps.{
 }
 use Rattle.rules.specs.Box.{heldAt, written, enclosed}
 use Rattle.rules.specs.Site.{freshHead, fresh, posted, room}
-use Rattle.rules.specs.Form.{countForm, peerForm, formBox, formKind, formLetter, formLink, form}
+use Rattle.rules.specs.Form.{firstForm, countForm, peerForm, formBox, formKind, formLetter}
+use Rattle.rules.specs.Form.{formLink, form}
 use Rattle.rules.specs.Needs.{ruled}
 use Rattle.rules.specs.Step.{byAnswer, delivered, elect, presented, step, agreedAs, holds}
 use Rattle.le.specs.Le.{le}
@@ -80,12 +82,14 @@ use Rattle.starred.specs.Table.{stars, starBytes, told}
 pub starred : each told stars ≡ true
 unfolding stars starBytes ones onesIn pick all each every tally sizesForm proper recordForm bit
     joined without digit has setForm fullSet inState inPhase newPn firstCause unless settled others
-    isHeld underOf tookKept tookBook cleared noted heard behind lagging improves bettered raised
+    isHeld underOf higher roomNext tookKept tookBook cleared noted heard behind lagging improves
+    bettered raised
     counted uncounted replied lastVerdict onLast unagreedOf onCollect beginVerdict onBegin
     acceptVerdict onAccept onCommit onLease ofKind onMail elected canRecover recover canCollect
     bestHeld collect started leased canReady hasPrevious ready canOffer offer canPropose propose
     canAgree agree canFinish finish acted heldAt written enclosed freshHead fresh posted room
-    countForm peerForm formBox formKind formLetter formLink form ruled byAnswer delivered elect
+    firstForm countForm peerForm formBox formKind formLetter formLink form ruled byAnswer delivered
+    elect
     presented step agreedAs holds decimalOf spaced doneText refusedText starts wordOf grown finished
     byteRead bytesRead lineOf readLine linesFrom texts traceSizes opened played judged upTo toldText
     toldNext lineText lineNext replay le chain groupsBytes numbersFrom boxesOf bySender linksOf

@@ -28,6 +28,15 @@ use Rattle.store.specs.Store.{HoldsLetter}
 
 -- ---- a letter
 
+-- There is room for the number of its kind.
+pub letter-room : (J : ℕ) {src : List ℕ} {at : ℕ} → Has letterBytes (GoodLetter J) src at
+    → at + 4 ≤ length src
+letter-room J x =
+    let f = x .found in
+    let next = f .stands .next in
+    let room = f .stands .room in
+    omega (arith, lengths.length-letter (f .thing))
+
 -- A place with a letter's words and records holds it.
 pub letter-held : (J : ℕ) (y : Letter) (tail : List ℕ) → length (y .records) ≤ J
     → HoldsLetter J (letterWords y ++ (y .records ++ tail)) y

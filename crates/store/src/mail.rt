@@ -22,7 +22,8 @@ fn store_letter(src: &[u8], at: usize, j: u32, place: &mut [u64]) -> usize
         ⌜ StoredIs letterBytes (GoodLetter j) (now (src .entry)) at
         (HoldsLetter j (now (place .exit))) r ⌝ }
 {
-    let groups = image::letter_groups();
+    let kind = letter::kind_of(le::get_at(src, at, 4));
+    let groups = image::letter_groups(kind);
     cells::get_headed(src, at, &groups, letter::HEAD, letter::COUNT, 0, place)
 }
 

@@ -18,11 +18,11 @@ use Rattle.cells.proofs.ChainLaws.{chain-map}
 use Rattle.cells.proofs.StandLaws.{stands-as, stands-le, stands-first}
 use Rattle.cells.proofs.CodeLaws.{le-code, same-thing}
 use Rattle.cells.proofs.WalkLaws.{Walked, walk-none, walk-next, walk-all, walk-stop}
-use Rattle.cells.specs.Groups.{groupBytes, groupsBytes}
 use Rattle.image.specs.Image.{boxGroups, boxWords, boxBody, contents}
 use Rattle.image.specs.Parts.{GoodBox, leaders}
 use Rattle.image.proofs.OrderLaws.{map-append}
-use Rattle.image.proofs.BoxLaws.{box-code}
+use Rattle.image.proofs.HeadedLaws.{first-word}
+use Rattle.image.proofs.BoxLaws.{box-split, box-code}
 use Rattle.image.proofs.Lengths.{length-box}
 use Rattle.image.proofs.ListedLaws.{leaders-snoc, boxes-code}
 use Rattle.image.proofs.TableLaws.{contents-append}
@@ -64,12 +64,13 @@ flag-is false = (refl, omega arith)
 -- A box's bytes begin with its flag.
 flag-first : (n : ℕ) (x : Box)
     → (rest : List ℕ) × (boxBody n x ≡ le 4 (flagNumber (x .head .leads)) ++ rest)
-unfolding boxBody groupsBytes chain
-flag-first n x =
-    let f = le 4 (flagNumber (x .head .leads)) in
-    let words = cells 4 (part (boxWords x) 1 10) in
-    let groups = chain (groupBytes (boxWords x)) (drop 1 (boxGroups n)) in
-    (_, append-assoc (f ++ words) groups (cells 8 (x .records)) ∙ append-assoc f words _)
+flag-first n x = (
+  _,
+  box-split n x
+      ∙ ap (λ (l : List ℕ). l ++ cells 8 (x .records))
+      (first-word 4 11 (drop 1 (boxGroups n)) (boxWords x) (omega arith))
+      ∙ append-assoc (le 4 (flagNumber (x .head .leads))) _ (cells 8 (x .records)),
+)
 
 module _ {n : ℕ} (few : n ≤ mostBoxes) {Good : Box → Type 0} {src : List ℕ} {p q : ℕ}
     (g : Found (boxBody n) Good src p q) where

@@ -13,7 +13,7 @@ use Rattle.rules.specs.Box.{Box}
 use Rattle.rules.specs.Site.{isBox, freshBox}
 use Rattle.rules.specs.declared.model.Setting.{Setting}
 use Rattle.laws.proofs.FormLaws.{box-is}
-use Rattle.row.specs.Row.{headOf, boxOf, rowFits, headWords, countAt, peersAt}
+use Rattle.row.specs.Row.{headOf, boxOf, rowFits, headWords, bestAt, beforePeers, countAt, peersAt}
 use Rattle.row.specs.Lent.{RowSized}
 use Rattle.row.proofs.NumberLaws.{flag-number-back, state-number-back, phase-number-back}
 use Rattle.row.proofs.FormLaws.{fits-says}
@@ -95,7 +95,7 @@ peers-are n r h l =
     at i k =
         let b : i < n = omega (arith, count) in
         let less : i + 1 - 1 ≡ i = omega arith in
-        let place : 13 + (i + 1) ≡ peersAt + i = omega arith in
+        let place : beforePeers + (i + 1) ≡ peersAt + i = omega arith in
         getD-take n ps i 0 b ∙ ap (λ (j : ℕ). getD ps j 0) (sym less)
         ∙ peers-at n r (i + 1) (omega arith) (omega arith)
         ∙ peer-in n r (i + 1) (omega arith) ∙ ap (λ (j : ℕ). getD r j 0) place
@@ -124,9 +124,9 @@ module _ {s : Setting} {xs : List ℕ} {i : ℕ} {r : List ℕ} (f : RowOf s xs 
       let flag = flag-number-back (getD r 0 0) (t .0) in
       let state = state-number-back (getD r 1 0) (t .1) in
       let phase = phase-number-back (getD r 2 0) (t .2) in (
-        (λ i. flag i ∷ state i ∷ phase i ∷ gets 0 r 3 8) ∙ gets-part 0 r 0 11 (omega arith),
+        (λ i. flag i ∷ state i ∷ phase i ∷ gets 0 r 3 9) ∙ gets-part 0 r 0 bestAt (omega arith),
         (
-          gets-part 0 r 11 3 (omega arith),
+          gets-part 0 r bestAt 3 (omega arith),
           (
             take-append-le (s .n) (headOf (s .n) r .peers) (length (boxOf (s .n) r .records) ∷ []) b
                 ∙ peers-are (s .n) r b (omega arith),

@@ -1,7 +1,7 @@
 -- The links in order, the place of a mail, and the groups of a link's bytes.
-use mathlib.Core.Path.{_≡_, sym, ap, _∙_, subst}
+use mathlib.Core.Path.{_≡_, refl, sym, ap, _∙_, subst}
 use mathlib.Core.Bool.{true}
-use Prim.Native.Nat.{ℕ, _+_, _-_, _*_, _≤_, _<_}
+use Prim.Native.Nat.{ℕ, zero, suc, _+_, _-_, _*_, _≤_, _<_}
 use native.Mathlib.Omega.{arith}
 use mathlib.Core.List.{List, [], _∷_, _++_}
 use lib.ListN.{length, getD, length-append, List·getD-map}
@@ -11,10 +11,12 @@ use Rattle.words.proofs.PartLaws.{length-part, gets-part}
 use Rattle.words.proofs.RowLaws.{row-end}
 use Rattle.words.proofs.RingLaws.{slot-lt}
 use Rattle.rules.specs.Box.{Letter}
+use Rattle.rules.specs.declared.model.Kind.{Kind}
 use Rattle.rules.specs.declared.model.Setting.{Setting}
 use Rattle.laws.proofs.Logic as logic
 use Rattle.laws.proofs.FormLaws.{is-link}
-use Rattle.letter.specs.Place.{letterAt, placeFits, kindAt, countAt, headWords}
+use Rattle.letter.specs.Place.{letterAt, placeFits, kindOf, kindAt, pnAt, lastAt, firstAt}
+use Rattle.letter.specs.Place.{unagreedAt, countAt, headWords}
 use Rattle.letter.specs.Lent.{PlaceSized}
 use Rattle.letter.proofs.KindLaws.{kind-number-back}
 use Rattle.letter.proofs.FormLaws.{fits-says}
@@ -28,10 +30,10 @@ use Rattle.memory.proofs.LinkLaws.{link-readable, link-letters}
 use Rattle.cells.specs.Cells.{chain, cells, Each, All}
 use Rattle.cells.proofs.ChainLaws.{length-cells}
 use Rattle.cells.proofs.GroupLaws.{SameIn, groups-as, cut-more}
-use Rattle.image.specs.Image.{letterGroups, letterWords, letterBytes, linkBytes}
+use Rattle.image.specs.Image.{firstWords, letterGroups, letterWords, letterBytes, linkBytes}
 use Rattle.image.specs.Longest.{letterLong}
 use Rattle.image.proofs.OrderLaws.{length-pairs, pairs-at}
-use Rattle.image.proofs.CutLaws.{letter-cut}
+use Rattle.image.proofs.CutLaws.{first-few, letter-cut}
 use Rattle.image.proofs.LetterLaws.{letter-split}
 use Rattle.image.proofs.Lengths.{length-letter}
 use Rattle.writer.specs.Bodies.{linksIn, linkIn, letterIn}
@@ -108,34 +110,47 @@ module _ {J L : ℕ} {r : List ℕ} {i : ℕ} {p : List ℕ} (f : PlaceOf J L r 
   held : length (letterAt p .records) ≡ getD p countAt 0
   held = length-part headWords (getD p countAt 0) p (omega (arith, place-count, f .size .words))
 
-  pub letter-long : length (letterBytes (letterIn J L r i)) ≡ letterLong (getD p countAt 0)
+  -- the kind that its word says
+  abbrev pub kindIn : Kind
+  kindIn = kindOf (getD p kindAt 0)
+
+  pub letter-long : length (letterBytes (letterIn J L r i)) ≡ letterLong kindIn (getD p countAt 0)
   letter-long =
       ap (λ (y : Letter). length (letterBytes y)) (f .letter)
-      ∙ length-letter (letterAt p) ∙ ap letterLong held
+      ∙ length-letter (letterAt p) ∙ ap (letterLong kindIn) held
 
   -- Its words are those of the place, and so its bytes are.
-  groups : All (SameIn (letterWords (letterAt p)) p) letterGroups
+  groups : All (SameIn (letterWords (letterAt p)) p) (letterGroups kindIn)
   unfolding Each
   groups =
       let w = f .size .words in
       let t = fits-says J p (f .fits) in
       let k = kind-number-back (getD p kindAt 0) (t .0) (t .1) in (
-        (λ i. k i ∷ getD p 1 0 ∷ getD p 2 0 ∷ getD p 3 0 ∷ held i ∷ [])
-            ∙ gets-part 0 p 0 headWords (omega arith),
-        tt,
+        (λ i. k i ∷ getD p pnAt 0 ∷ getD p lastAt 0 ∷ []) ∙ gets-part 0 p kindAt 3 (omega arith),
+        (
+          one (firstWords kindIn) (first-few kindIn),
+          ((λ i. getD p unagreedAt 0 ∷ held i ∷ []) ∙ gets-part 0 p unagreedAt 2 (omega arith), tt),
+        ),
       )
+    where
+      -- first, where the kind has it
+      one : (c : ℕ) → c ≤ 1 → part (letterWords (letterAt p)) firstAt c ≡ part p firstAt c
+      one zero h = refl
+      one (suc zero) h = gets-part 0 p firstAt 1 (omega (arith, f .size .words))
+      one (suc (suc c)) h = absurd (omega arith)
 
-  pub letter-put : Put letterGroups headWords countAt p (letterBytes (letterIn J L r i))
+  pub letter-put :
+      Put (letterGroups kindIn) headWords countAt p (letterBytes (letterIn J L r i))
   letter-put =
       let w = f .size .words in
       record {
-        cut = cut-more letterGroups 0 (omega arith) letter-cut;
+        cut = cut-more (letterGroups kindIn) 0 (omega arith) (letter-cut kindIn);
         inside = omega arith;
         room = omega (arith, place-count);
         bytes =
             ap letterBytes (f .letter) ∙ letter-split (letterAt p)
             ∙ ap (λ (l : List ℕ). l ++ cells 8 (letterAt p .records))
-            (groups-as (letterWords (letterAt p)) p letterGroups groups);
+            (groups-as (letterWords (letterAt p)) p (letterGroups kindIn) groups);
       }
 
 -- ---- a link: its count, and its mails

@@ -32,7 +32,8 @@ fn letter_length(link: &[u64], j: u32, l: u32, i: usize) -> usize
     ensures { λ r. ⌜ r ≡ length (letterBytes (letterIn j l (now (link .entry)) i)) ⌝ }
 {
     let place = place_of(link, j, l, i);
-    image::LETTER_HEAD_BYTES + 8 * size(place[letter::COUNT])
+    let kind = letter::kind_of(place[letter::KIND]);
+    image::letter_head_bytes(kind) + 8 * size(place[letter::COUNT])
 }
 
 fn letters_length(link: &[u64], j: u32, l: u32) -> usize
@@ -83,8 +84,9 @@ fn write_letter(out: &mut [u8], at: usize, link: &[u64], j: u32, l: u32, i: usiz
         ⌜ Wrote (letterBytes (letterIn j l (now (link .entry)) i))
         (now (out .entry)) at (now (out .exit)) r ⌝ }
 {
-    let groups = image::letter_groups();
     let place = place_of(link, j, l, i);
+    let kind = letter::kind_of(place[letter::KIND]);
+    let groups = image::letter_groups(kind);
     cells::put_headed(out, at, &groups, letter::HEAD, letter::COUNT, place)
 }
 

@@ -22,7 +22,7 @@ get-headed-requires c κs =
     headed-asks (box-headed (a .n) (a .j) (few .0) (few .1)) (a .src .now) (a .at)
     (groups .result) (length (a .row .now)) (groups .ensures .0)
     (omega arith, omega (arith, wide), omega (arith, wide, few .1))
-    (λ x. omega (arith, length-box (a .n) x (few .0), box-groups-long (a .n)))
+    (λ x g. omega (arith, length-box (a .n) x (few .0), box-groups-long (a .n)))
     (λ x g. omega (arith, box-says (g .1) .held .room, wide)) (start .pre .1 .1)
 
 returns : tie.Need-returns
