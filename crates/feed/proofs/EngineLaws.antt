@@ -176,15 +176,16 @@ open-large n J L xs ls h = sizes-refused n J L xs ls (too-large n J L h)
 -- there are words enough for every site of a trace
 rows-enough : (n J m : ℕ) → n ≤ 5 → J ≤ 32 → siteWords 5 32 ≤ m → siteWords n J ≤ m
 rows-enough n J m hn hj h =
-    let rows : n * (headWords + J) ≤ 5 * 53 = mul-le-mul {n₂ = 5} {m₂ = 53} hn
-    (omega arith) in omega arith
+    let rows : n * (headWords + J) ≤ 5 * (headWords + 32) =
+    mul-le-mul {n₂ = 5} {m₂ = headWords + 32} hn (omega arith) in omega arith
 
 links-enough : (n J L m : ℕ) → n ≤ 5 → J ≤ 32 → L ≤ 8 → linksWords 5 32 8 ≤ m → linksWords n J L ≤ m
 links-enough n J L m hn hj hl h =
     let pairs : n * (n - 1) ≤ 5 * 4 = mul-le-mul {n₂ = 5} {m₂ = 4} hn (omega arith) in
-    let places : L * (letterHead + J) ≤ 8 * 38 = mul-le-mul {n₂ = 8} {m₂ = 38} hl (omega arith) in
-    let all : n * (n - 1) * (2 + L * (letterHead + J)) ≤ 20 * 306 =
-    mul-le-mul {n₂ = 20} {m₂ = 306} pairs (omega arith) in omega arith
+    let places : L * (letterHead + J) ≤ 8 * (letterHead + 32) =
+    mul-le-mul {n₂ = 8} {m₂ = letterHead + 32} hl (omega arith) in
+    let all : n * (n - 1) * (2 + L * (letterHead + J)) ≤ 20 * (2 + 8 * (letterHead + 32)) =
+    mul-le-mul {n₂ = 20} {m₂ = 2 + 8 * (letterHead + 32)} pairs (omega arith) in omega arith
 
 -- the words after `fresh` of sizes in and out of range
 module _ (n J L : ℕ) (xs ls xs' ls' : List ℕ) (a : Answer) (w : FreshMade n J L xs ls xs' ls' a)

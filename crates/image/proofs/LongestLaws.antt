@@ -21,7 +21,7 @@ use Rattle.image.specs.Image.{boxBody, letterBytes, linkBytes, tableOf, 
 use Rattle.image.specs.Parts.{GoodLetter, GoodLink, GoodBox, Listed, nIn, JIn, LIn, listed}
 use Rattle.image.specs.Parts.{bodiesIn, listedBytes, GoodListed}
 use Rattle.image.specs.Longest.{tableLong, boxLong, letterLong, linkLong, longest}
-use Rattle.image.specs.Longest.{longestOfAll}
+use Rattle.image.specs.Longest.{longestOfAll, longestOfTraces}
 use Rattle.image.proofs.OrderLaws.{length-boxes}
 use Rattle.image.proofs.CutLaws.{first-few}
 use Rattle.image.proofs.LetterLaws.{letter-few, link-split}
@@ -152,7 +152,7 @@ pub longest-of-all : longest mostBoxes mostLoads mostMails ≡ longestOfAll
 unfolding longest
 longest-of-all = omega arith
 
-pub longest-of-traces : longest 5 32 8 ≡ 46720
+pub longest-of-traces : longest 5 32 8 ≡ longestOfTraces
 unfolding longest
 longest-of-traces = omega arith
 

@@ -2,6 +2,7 @@
 -- 4 bytes and records 8.
 use Prim.Native.Nat.{ℕ, _+_, _-_, _*_}
 use Rattle.rules.specs.declared.model.Kind.{Kind}
+use Rattle.row.specs.Row.{bestAt}
 use Rattle.image.specs.Image.{firstWords}
 
 -- "number of bodies (n+2), then byte offset .. and length of each": of so many bodies, of n boxes
@@ -15,10 +16,10 @@ tableLong n = tableBytes (n + 2)
 abbrev pub generalLong : ℕ
 generalLong = 20
 
--- a box: twelve numbers ("flag, state, .. accept set"), "three records" and the "count of records
--- held" are 76 bytes; "n peers' lasts"; and r records
+-- a box: numbers ("flag, state, .. accept set"), "three records" and the "count of records held",
+-- 28 bytes; "n peers' lasts"; and r records
 abbrev pub boxHeadLong : ℕ → ℕ
-boxHeadLong n = 76 + 4 * n
+boxHeadLong n = 4 * bestAt + 28 + 4 * n
 
 abbrev pub boxLong : ℕ → ℕ → ℕ
 boxLong n r = boxHeadLong n + 8 * r
@@ -46,3 +47,7 @@ longest n J L =
 -- no image is longer than this: n = 5, J = 4,096, L = 16
 abbrev pub longestOfAll : ℕ
 longestOfAll = 10657920
+
+-- .. and of a trace's: n = 5, J = 32, L = 8
+abbrev pub longestOfTraces : ℕ
+longestOfTraces = 46720

@@ -13,12 +13,15 @@ use rules::model::Kind;
 // Of the general body.
 pub const GENERAL_BYTES: usize = 20;
 
+// Of a box without its peers and records: numbers before the best, three records and a count.
+const BOX_HEAD: usize = 4 * row::BEST + 28;
+
 // Of a box of n without its records.
 pub fn box_head_bytes(n: usize) -> usize
     requires { ⌜ n ≤ mostBoxes ⌝ }
     ensures { λ r. ⌜ r ≡ boxHeadLong n ⌝ }
 {
-    76 + 4 * n
+    BOX_HEAD + 4 * n
 }
 
 // Of the table of contents, for so many bodies.
@@ -35,7 +38,7 @@ pub fn box_groups(n: usize) -> [usize; 12]
     [
         4,
         row::FLAG,
-        12,
+        row::BEST,
         8,
         row::BEST,
         3,

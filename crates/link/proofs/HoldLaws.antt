@@ -13,6 +13,7 @@ use Rattle.words.proofs.PartLaws.{getD-splice, length-splice, length-cut}
 use Rattle.words.proofs.RowLaws.{row-end}
 use Rattle.words.proofs.RingLaws.{slot-zero, slot-lt, next-lt}
 use Rattle.rules.specs.Every.{each}
+use Rattle.rules.specs.Sizes.{mostLoads, mostMails}
 use Rattle.rules.specs.Box.{Letter, letterOf}
 use Rattle.rules.specs.declared.model.Mail.{Mail}
 use Rattle.laws.proofs.Logic.{and-yes}
@@ -26,8 +27,9 @@ use Rattle.link.proofs.LinkLaws.{fits-says, fits-made, length-link, two
 use Rattle.link.proofs.LinkLaws.{link-none, fits-none, places-pop, places-push, form-held}
 
 -- the one product of a link's sizes
-pub places-most : {J L : ℕ} → LinkSizes J L → L * placeWidth J ≤ 65632
-places-most h = mul-le-mul {n₂ = 16} {m₂ = 4102} (h .few-mails) (omega arith)
+pub places-most : {J L : ℕ} → LinkSizes J L → L * placeWidth J ≤ mostMails * placeWidth mostLoads
+places-most h =
+    mul-le-mul {n₂ = mostMails} {m₂ = placeWidth mostLoads} (h .few-mails) (omega arith)
 
 -- what a link that can be read gives a proof
 module _ {J L : ℕ} {r : List ℕ} (ok : ReadableLink J L r) where

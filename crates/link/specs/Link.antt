@@ -11,7 +11,7 @@ use Rattle.rules.specs.Box.{Letter}
 use Rattle.rules.specs.Form.{formLetter}
 use Rattle.letter.specs.Place.{letterAt, placeFits, headWords as letterHead}
 
--- five words of a mail and its records' room; the whole link
+-- the words of a mail and its records' room; the whole link
 abbrev pub placeWidth : ℕ → ℕ
 placeWidth J = letterHead + J
 

@@ -9,7 +9,7 @@ use native.Mathlib.Omega.{arith}
 use lib.Dec.{ltb}
 use borrow.Author.Tests.{ltb-true, ltb-false, lt-ltb, le-ltb, ne-eqb}
 use Rattle.words.proofs.RowLaws.{row-end}
-use Rattle.rules.specs.Sizes.{mostBoxes}
+use Rattle.rules.specs.Sizes.{mostBoxes, mostLoads, mostMails}
 use Rattle.rules.specs.Site.{isBox, isLink}
 use Rattle.laws.proofs.Logic.{In, and-both}
 use Rattle.laws.proofs.FormLaws.{FormedSizes, is-box, box-is, is-link}
@@ -21,10 +21,11 @@ use Rattle.memory.specs.Memory.{linkStart}
 -- ---- how many words
 
 -- the one product of a link's sizes
-pub link-most : {J L : ℕ} → LinkSizes J L → linkWidth J L ≤ 65634
-link-most h = omega (arith, mul-le-mul {n₂ = 16} {m₂ = 4102} (h .few-mails) (places h))
+pub link-most : {J L : ℕ} → LinkSizes J L → linkWidth J L ≤ linkWidth mostLoads mostMails
+link-most h =
+    omega (arith, mul-le-mul {n₂ = mostMails} {m₂ = placeWidth mostLoads} (h .few-mails) (places h))
   where
-    places : {J L : ℕ} → LinkSizes J L → placeWidth J ≤ 4102
+    places : {J L : ℕ} → LinkSizes J L → placeWidth J ≤ placeWidth mostLoads
     places h = omega arith
 
 module _ {n J L : ℕ} (h : FormedSizes n J L) where
@@ -36,14 +37,15 @@ module _ {n J L : ℕ} (h : FormedSizes n J L) where
     few-mails = h .few-mails;
   }
 
-  pub rows-most : n * rowWidth J ≤ 20585
-  rows-most = mul-le-mul {n₂ = 5} {m₂ = 4117} (h .few-boxes) (omega arith)
+  pub rows-most : n * rowWidth J ≤ mostBoxes * rowWidth mostLoads
+  rows-most = mul-le-mul {n₂ = mostBoxes} {m₂ = rowWidth mostLoads} (h .few-boxes) (omega arith)
 
   pub pairs-most : n * (n - 1) ≤ 20
   pairs-most = mul-le-mul {n₂ = 5} {m₂ = 4} (h .few-boxes) (omega arith)
 
-  pub links-most : linksWords n J L ≤ 1312680
-  links-most = mul-le-mul {n₂ = 20} {m₂ = 65634} pairs-most (link-most link-sizes)
+  pub links-most : linksWords n J L ≤ 20 * linkWidth mostLoads mostMails
+  links-most =
+      mul-le-mul {n₂ = 20} {m₂ = linkWidth mostLoads mostMails} pairs-most (link-most link-sizes)
 
 pub box-few : (n b : ℕ) {J L : ℕ} → FormedSizes n J L → isBox n b ≡ true → b ≤ mostBoxes
 box-few n b h e = let i : In b n = is-box e in omega (arith, i .1)
