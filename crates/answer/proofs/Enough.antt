@@ -68,6 +68,7 @@ call-fits (Call.Return c) e = tt
 call-fits (Call.Timeout c) e = tt
 call-fits (Call.Lose a b) e = tt
 call-fits (Call.Repeat a b) e = tt
+call-fits (Call.Trim c k) e = tt
 call-fits (Call.Deliver a b) e = tt
 
 next-form : (s : Site) (l : Line) → inRange l ≡ true → form s ≡ true
