@@ -18,8 +18,8 @@ fn finish(status: u8, site: &[u64], links: &[u64], out: &mut [u8]) -> u8 {
 }
 
 fn main() {
-    let mut site = [0u64; 265];
-    let mut links = [0u64; 5960];
+    let mut site = [0u64; feed::SITE_WORDS];
+    let mut links = [0u64; feed::LINKS_WORDS];
     let mut input = io::large_buffer();
     let mut out = io::large_buffer();
     let status = run::run(&mut site, &mut links, &mut input, &mut out);

@@ -2,6 +2,7 @@
 ghost use mathlib.Core.Path.{_≡_};
 ghost use Prim.Native.Nat.{_≤_};
 ghost use lib.ListN.{length};
+ghost use Rattle.memory.specs.Memory.{siteWords, linksWords};
 ghost use Rattle.feed.specs.State.{Lent};
 ghost use Rattle.feed.specs.Says.{answerMost};
 ghost use Rattle.replay.specs.Fed.{FedAll};
@@ -132,7 +133,7 @@ fn read_some(
 
 // Reads until the input or the run is at its end, and gives the status.
 pub(crate) fn run(site: &mut [u64], links: &mut [u64], input: &mut [u8], out: &mut [u8]) -> u8
-    requires { ⌜ (265 ≤ length (now site)) × (5960 ≤ length (now links))
+    requires { ⌜ (siteWords 5 32 ≤ length (now site)) × (linksWords 5 32 8 ≤ length (now links))
         × (answerMost ≤ length (now out)) ⌝ }
 {
     let mut f = feed::start();

@@ -3,7 +3,7 @@ use writer::Written;
 
 const IMAGE: i32 = 4;
 
-// The longest image of a replay, n 5, J 32, L 8, has 46,060 bytes, and out has room for it: so only
+// The longest image of a replay, n 5, J 32, L 8, has 46,720 bytes, and out has room for it: so only
 // words that hold no site are refused. Gives the status.
 pub(crate) fn send_image(site: &[u64], links: &[u64], out: &mut [u8]) -> u8 {
     match writer::write(site, links, out) {
