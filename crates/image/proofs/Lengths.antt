@@ -1,5 +1,5 @@
 -- How long an image is: a sum over what it holds; and the starred fresh images.
-use mathlib.Core.Path.{_≡_, refl, ap, _∙_}
+use mathlib.Core.Path.{_≡_, refl, sym, ap, _∙_}
 use mathlib.Core.Bool.{true}
 use Prim.Native.Nat.{ℕ, _+_, _≤_}
 use native.Mathlib.Omega.{arith}
@@ -110,16 +110,8 @@ pub form-length : (s : Site) → form s ≡ true → length (imageOf s) ≡ imag
 form-length s e = let f = form-says e in
     image-length s (f .sizes .few-boxes)
 
--- ★ "Fresh image: n=3, 352 bytes; n=1, 128" (Q-4), whatever J and L are
-fresh-length : (n J L : ℕ) → n ≤ mostBoxes
-    → length (imageOf (fresh n J L)) ≡ imageLength (fresh n J L)
-unfolding fresh
-fresh-length n J L h = image-length (fresh n J L) h
-
-pub fresh-three : (J L : ℕ) → length (imageOf (fresh 3 J L)) ≡ 352
-unfolding imageLength total fresh boxesOf linksOf bySender numbersFrom chain
-fresh-three J L = fresh-length 3 J L (omega arith)
-
-pub fresh-one : (J L : ℕ) → length (imageOf (fresh 1 J L)) ≡ 128
-unfolding imageLength total fresh boxesOf linksOf bySender numbersFrom chain
-fresh-one J L = fresh-length 1 J L (omega arith)
+-- ★ "Fresh image": how long it is does not depend on J and L; for n = 3 and n = 1 `starred` has it.
+pub fresh-same : (n J L : ℕ) → n ≤ mostBoxes
+    → length (imageOf (fresh n J L)) ≡ length (imageOf (fresh n 16 8))
+unfolding fresh imageLength boxesOf linksOf
+fresh-same n J L h = image-length (fresh n J L) h ∙ sym (image-length (fresh n 16 8) h)
