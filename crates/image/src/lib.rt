@@ -13,8 +13,11 @@ use rules::model::Kind;
 // Of the general body.
 pub const GENERAL_BYTES: usize = 20;
 
-// Of a box without its peers and records: numbers before the best, three records and a count.
-const BOX_HEAD: usize = 4 * row::BEST + 28;
+// The numbers of a box that stand before its best.
+const BOX_NUMBERS: usize = row::BEST - row::FLAG;
+
+// Of a box without its peers and records: these, three records and a count.
+const BOX_HEAD: usize = 4 * BOX_NUMBERS + 28;
 
 // Of a box of n without its records.
 pub fn box_head_bytes(n: usize) -> usize
@@ -38,7 +41,7 @@ pub fn box_groups(n: usize) -> [usize; 12]
     [
         4,
         row::FLAG,
-        row::BEST,
+        BOX_NUMBERS,
         8,
         row::BEST,
         3,
