@@ -218,7 +218,8 @@ first-parts k c m rest gs some = record {
 -- Whatever thing by form stands there has P: so it is one that has P, or none is there.
 module _ {A : Type 0} {enc : A → List ℕ} {Good P : A → Type 0} {src : List ℕ} {at : ℕ}
     (known : (x : A) (q : ℕ) → Good x → Stands (enc x) src at q → P x) where
-  abbrev pub known-found : {q : ℕ} → Found enc Good src at q → Found enc (λ x. Good x × P x) src at q
+  abbrev pub known-found : {q : ℕ} → Found enc Good src at q
+      → Found enc (λ x. Good x × P x) src at q
   known-found {q} f = record {
     thing = f .thing;
     good = (f .good, known (f .thing) q (f .good) (f .stands));

@@ -15,7 +15,7 @@ use Rattle.letter.specs.Place as place
 use Rattle.row.specs.Row.{headWords}
 use Rattle.cells.proofs.ChainLaws.{length-cells}
 use Rattle.cells.proofs.GroupLaws.{length-groups}
-use Rattle.image.specs.Image.{numbersFrom, boxesOf, bySender, linksOf, boxBody, letterBytes}
+use Rattle.image.specs.Image.{boxesOf, linksOf, boxBody, letterBytes}
 use Rattle.image.specs.Image.{boxGroups, boxWords, letterGroups, letterWords, linkBytes}
 use Rattle.image.specs.Image.{tableOf, imageOf}
 use Rattle.image.specs.Parts.{listed, bodiesIn, listedBytes}

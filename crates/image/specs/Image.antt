@@ -48,9 +48,9 @@ generalBody s =
     ∷ s .present
     ∷ [])
 
--- "Box:" 4 bytes each for what stands before the best, "then three records ..; n peers' lasts ..; count of
--- records held, and these." "In the image first stands after last, in boxes and such mail" (Q-4).
--- The order of the fields is that of a row's words (`wordsOf`).
+-- "Box:" 4 bytes each for what stands before the best, "then three records ..; n peers' lasts ..;
+-- count of records held, and these." "In the image first stands after last, in boxes and such mail"
+-- (Q-4). The order of the fields is that of a row's words (`wordsOf`).
 abbrev pub boxGroups : ℕ → List Group
 boxGroups n =
     group 4 flagAt bestAt

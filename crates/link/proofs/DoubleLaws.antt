@@ -84,10 +84,13 @@ module _ {J L a : ℕ} {r : List ℕ} (ok : ReadableLink J L r) (at : HeadAt J L
       ∙ ap (λ (v : ℕ). 2 + v * w) (slot-zero L (previous L (getD r 0 0)) q)
 
   held-words : headWords + x ≡ headWords + getD (part r a (placeWidth J)) countAt 0
-  held-words = ap (λ (v : ℕ). headWords + v) (ex ∙ sym (getD-part a (placeWidth J) countAt 0 r (omega arith)))
+  held-words =
+      ap (λ (v : ℕ). headWords + v)
+      (ex ∙ sym (getD-part a (placeWidth J) countAt 0 r (omega arith)))
 
   pub double-done : Holds J L
-      (set (set (splice r p (headWords + x) (part r a (headWords + x))) 0 b) 1 (c + 1)) (twice (linkOf J L r))
+      (set (set (splice r p (headWords + x) (part r a (headWords + x))) 0 b) 1 (c + 1))
+      (twice (linkOf J L r))
   double-done =
       let w = placeWidth J in
       let n = headWords + x in

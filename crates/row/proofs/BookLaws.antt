@@ -13,7 +13,7 @@ use Rattle.words.proofs.PartLaws.{drop-splice, take-splice-end}
 use Rattle.rules.specs.Box.{written}
 use Rattle.rules.specs.declared.model.Book.{Book}
 use Rattle.rules.specs.declared.model.Turn.{Turn}
-use Rattle.letter.specs.Place.{letterAt, headWords as letterHead, countAt as letterCount}
+use Rattle.letter.specs.Place.{headWords as letterHead, countAt as letterCount}
 use Rattle.row.specs.Row.{wordsOf, headWords, countAt}
 use Rattle.row.specs.Lent.{recordsOf, moved, countAfter, CountFits, Writes, Wrote, Plays}
 use Rattle.row.specs.Lent.{Played}
@@ -119,7 +119,8 @@ module _ (r p : List ℕ) where
       let m = moved d a r in
       let room = put-room d a v w in
       let same = moved-length r d a (room .0) (room .1) in
-      let at : a - d < length (drop headWords m) = rw (length-drop, same) (omega (arith, room .2)) in
+      let at : a - d < length (drop headWords m) =
+      rw (length-drop, same) (omega (arith, room .2)) in
       rw e
       (record {
         words = length-set m (headWords + (a - d)) v ∙ same;

@@ -58,7 +58,8 @@ module _ (n b : ℕ) (r : List ℕ) (k : ℕ) (least : 1 ≤ k) (most : k ≤ mo
 
   -- What the code of `is_peer` looks at is the form of peer k ..
   pub peer-go : k ≤ n
-      → (eqb (getD r (beforePeers + k) 0) unknown || (not (eqb k b) && leb (getD r (beforePeers + k) 0) mostNumber))
+      → (eqb (getD r (beforePeers + k) 0) unknown
+      || (not (eqb k b) && leb (getD r (beforePeers + k) 0) mostNumber))
       ≡ peerForm n b (headOf n r .peers) k
   peer-go h = sym (peer-form ∙ rw (peer-in n r k h, le-leb k n h))
 

@@ -3,7 +3,6 @@ use mathlib.Core.Path.{_≡_, refl, sym, _∙_}
 use mathlib.Core.Bool.{true, _&&_}
 use mathlib.Core.List.{List}
 use Prim.Native.Nat.{ℕ, _+_, _≤_}
-use native.Mathlib.Omega.{arith}
 use borrow.Author.Tests.{le-leb}
 use lib.ListN.{getD}
 use Rattle.rules.specs.Sizes.{mostBoxes, mostLoads, mostNumber, mostPn}
@@ -62,7 +61,8 @@ module _ (s : Setting) (r : List ℕ) (ok : RowByForm s r) where
 
   -- What the code of `act_turn` has computed is the box's own step.
   pub act-law : (a : Act) (head : BoxState) (rs : List ℕ) (mine : Held) (t : Turn)
-      → head ≡ headOf (s .n) r → rs ≡ recordsOf r → mine ≡ heldAt rs (span (head .kept .first) (head .kept .last))
+      → head ≡ headOf (s .n) r → rs ≡ recordsOf r
+      → mine ≡ heldAt rs (span (head .kept .first) (head .kept .last))
       → t ≡ anyAct head s a mine → t ≡ turnOf s (boxOf (s .n) r) (own a)
   act-law a head rs mine t eh er em et =
       et ∙ rw (em, eh, er) (any-act-in (headOf (s .n) r) s bounded a _)
@@ -85,7 +85,8 @@ module _ (s : Setting) (r : List ℕ) (ok : RowByForm s r) where
     -- What the code of `mail_turn` has computed is what the mail makes of the box.
     pub mail-law : (sender : ℕ) (head : BoxState) (rs : List ℕ) (mine : Held)
         (m : Mail) (one : ℕ) (next : Held) (t : Turn)
-        → head ≡ headOf (s .n) r → rs ≡ recordsOf r → mine ≡ heldAt rs (span (head .kept .first) (head .kept .last))
+        → head ≡ headOf (s .n) r → rs ≡ recordsOf r
+        → mine ≡ heldAt rs (span (head .kept .first) (head .kept .last))
         → m ≡ mailAt p → one ≡ getD (letterAt p .records) 0 0
         → next ≡ nextOf (letterAt p)
         → t ≡ anyMail head s sender m one next mine

@@ -1,5 +1,5 @@
 -- The count of records that goes with a first and a last.
-use mathlib.Core.Path.{_≡_, refl, sym, _∙_}
+use mathlib.Core.Path.{_≡_, refl, sym}
 use mathlib.Core.Bool.{Bool, true, false, false≢true, _&&_, _||_}
 use Prim.Native.Nat.{ℕ, _+_, _≤_, _<_}
 use native.Mathlib.Omega.{arith}
@@ -115,7 +115,11 @@ module _ (J first last count : ℕ) where
           rw (
             either-second (eqb (first + count) (last + 1))
                 (eqb (first + count) (last + 2) && ltb last mostNumber)
-                (rw (eq-eqb (first + count) (last + 2) s, lt-ltb last mostNumber (full-says t .1)) refl),
+                (rw (
+                  eq-eqb (first + count) (last + 2) s,
+                  lt-ltb last mostNumber (full-says t .1),
+                )
+                refl),
             le-leb count J (c .room),
           ))
 
@@ -134,7 +138,8 @@ module _ (J first last count : ℕ) where
           (count-made J first last 0 count
           (record { last = l; first = f; room = room; sum = omega arith })))
           (λ t.
-          let s = eqb-true (first + count) (last + 2) (first-of (eqb (first + count) (last + 2)) _ t) in
+          let s = eqb-true (first + count) (last + 2)
+          (first-of (eqb (first + count) (last + 2)) _ t) in
           let b = ltb-true last mostNumber (second-of (eqb (first + count) (last + 2)) _ t) in
           either-second (agreedCount J first last count) _
           (full-made (record { last = l; first = f; room = room; sum = omega arith }) b))

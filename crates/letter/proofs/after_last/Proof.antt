@@ -9,7 +9,8 @@ use Rattle.letter.proofs.after_last.Tie as tie
 agreed-requires : tie.Need-agreed-requires
 agreed-requires c κs =
     let at-load = c .before in
-    subst (λ (m : Mail). Numbered m) (sym (at-load .load .ensures)) (at-load .before .before .pre .1)
+    subst (λ (m : Mail). Numbered m) (sym (at-load .load .ensures))
+    (at-load .before .before .pre .1)
 
 returns : tie.Need-returns
 returns c =

@@ -43,7 +43,8 @@ returns-2 c =
     let a = start .args in
     let w = rw (told .b .given .1) at (start .pre .0) in
     rw (told .b .given .1)
-    (drop-law (a .row .now) (a .place .now) _ _ w (rw (start .pre .1) at (done .move-down .ensures)))
+    (drop-law (a .row .now) (a .place .now) _ _ w
+    (rw (start .pre .1) at (done .move-down .ensures)))
 
 returns-3 : tie.Need-returns-3
 returns-3 c =

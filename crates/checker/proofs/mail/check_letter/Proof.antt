@@ -37,7 +37,9 @@ least c = c .letter-head-bytes .ensures ∙ ap letterHeadLong (c .before .kind-o
 groups : (c : tie.After-letter-groups)
     → groupsOf (c .letter-groups .result)
     ≡ letterGroups (kindOf (c .before .before .before .before .get-at .result))
-groups c = c .letter-groups .ensures .0 ∙ ap letterGroups (c .before .before .before .kind-of .ensures)
+groups c =
+    c .letter-groups .ensures .0
+    ∙ ap letterGroups (c .before .before .before .kind-of .ensures)
 
 returns-2 : tie.Need-returns-2
 returns-2 c =

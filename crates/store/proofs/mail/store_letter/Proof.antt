@@ -23,7 +23,8 @@ get-at-requires c κs =
     (letter-room (start .args .j) (start .pre .1), omega arith)
 
 groups : (c : tie.After-letter-groups)
-    → groupsOf (c .letter-groups .result) ≡ letterGroups (kindOf (c .before .before .get-at .result))
+    → groupsOf (c .letter-groups .result)
+    ≡ letterGroups (kindOf (c .before .before .get-at .result))
 groups c = c .letter-groups .ensures .0 ∙ ap letterGroups (c .before .kind-of .ensures)
 
 get-headed-requires : tie.Need-get-headed-requires

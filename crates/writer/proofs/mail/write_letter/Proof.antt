@@ -23,7 +23,8 @@ shared-slice-read-kind-of c = omega (arith, place (c .before) .size .words)
 
 -- The groups of its kind.
 groups : (c : tie.After-letter-groups)
-    → groupsOf (c .letter-groups .result) ≡ letterGroups (kindIn (place (c .before .before .before)))
+    → groupsOf (c .letter-groups .result)
+    ≡ letterGroups (kindIn (place (c .before .before .before)))
 groups c = c .letter-groups .ensures .0 ∙ ap letterGroups (c .before .kind-of .ensures)
 
 put-headed-requires : tie.Need-put-headed-requires
