@@ -10,14 +10,14 @@ use lib.Seq.{getD-take, getD-drop}
 use Rattle.rules.specs.Site.{freshBox}
 use Rattle.laws.proofs.Logic.{In}
 use Rattle.laws.proofs.FormLaws.{box-is}
-use Rattle.row.specs.Row.{boxOf, headWords}
-use Rattle.memory.specs.Memory.{rowStart, rowAt, boxIn, siteOf}
+use Rattle.row.specs.Row.{boxOf, headWords, lastAt}
+use Rattle.memory.specs.Memory.{generalWords, rowStart, rowAt, boxIn, siteOf}
 use Rattle.print.specs.Decimal.{decimal, spaced}
 use Rattle.print.specs.Text.{Wrote, doneText}
 use Rattle.print.proofs.DecimalLaws.{spaced-append, spaced-one}
 use Rattle.print.proofs.WriteLaws.{then, spelled, at-most}
 use Rattle.trace.specs.Replay.{upTo, lasts}
-use Rattle.feed.specs.Rows.{lastsAt}
+use Rattle.feed.specs.Rows.{firstLast, lastsAt}
 use Rattle.feed.specs.Says.{Rowed, answerMost}
 
 map-append : (f : ℕ → ℕ) (xs ys : List ℕ) → map f (xs ++ ys) ≡ map f xs ++ map f ys
@@ -31,20 +31,20 @@ unfolding spaced upTo
 lasts-none a xs w i = record { bytes = refl; end = omega arith; few = omega arith; room = refl }
 
 last-more : (xs : List ℕ) (w i : ℕ)
-    → lastsAt xs w (suc i) ≡ lastsAt xs w i ++ (getD xs (i * w + 9) 0 ∷ [])
+    → lastsAt xs w (suc i) ≡ lastsAt xs w i ++ (getD xs (i * w + firstLast) 0 ∷ [])
 unfolding upTo
 last-more xs w i =
     let e : suc i - 1 ≡ i = omega arith in
-    map-append (λ b. getD xs ((b - 1) * w + 9) 0) (upTo i) (suc i ∷ [])
-    ∙ ap (λ (j : ℕ). lastsAt xs w i ++ (getD xs (j * w + 9) 0 ∷ [])) e
+    map-append (λ b. getD xs ((b - 1) * w + firstLast) 0) (upTo i) (suc i ∷ [])
+    ∙ ap (λ (j : ℕ). lastsAt xs w i ++ (getD xs (j * w + firstLast) 0 ∷ [])) e
 
 pub lasts-more : (xs : List ℕ) (w i : ℕ) {a b c : List ℕ} {at p q : ℕ} (r : ℕ) → r ≡ i * w
     → Wrote (21 * i) a b at p (spaced (lastsAt xs w i))
-    → Wrote 21 b c p q (32 ∷ decimal (getD xs (r + 9) 0))
+    → Wrote 21 b c p q (32 ∷ decimal (getD xs (r + firstLast) 0))
     → Wrote (21 * (i + 1)) a c at q (spaced (lastsAt xs w (i + 1)))
 lasts-more xs w i r e u v =
-    let x = getD xs (i * w + 9) 0 in
-    spelled (ap (λ (j : ℕ). spaced (lastsAt xs w i) ++ (32 ∷ decimal (getD xs (j + 9) 0))) e
+    let x = getD xs (i * w + firstLast) 0 in
+    spelled (ap (λ (j : ℕ). spaced (lastsAt xs w i) ++ (32 ∷ decimal (getD xs (j + firstLast) 0))) e
     ∙ (ap (λ (t : List ℕ). spaced (lastsAt xs w i) ++ t) (sym (spaced-one x))
     ∙ (sym (spaced-append (lastsAt xs w i) (x ∷ [])) ∙ (ap spaced (sym (last-more xs w i))
     ∙ ap (λ (j : ℕ). spaced (lastsAt xs w j)) (sym (add-one i))))))
@@ -62,9 +62,10 @@ map-same (suc n) f g same =
     ∙ sym (map-append g (upTo n) (suc n ∷ []))))
 
 last-is : (n J b : ℕ) (xs : List ℕ) → In b n
-    → boxIn n J xs b .head .kept .last ≡ getD xs ((b - 1) * (headWords + J) + 9) 0
+    → boxIn n J xs b .head .kept .last ≡ getD xs ((b - 1) * (headWords + J) + firstLast) 0
 last-is n J b xs h =
-    let e : 5 + (b - 1) * (headWords + J) + 4 ≡ (b - 1) * (headWords + J) + 9 = omega arith in
+    let e : generalWords + (b - 1) * (headWords + J) + lastAt
+    ≡ (b - 1) * (headWords + J) + firstLast = omega arith in
     ap (λ t. cond t (boxOf n (rowAt J xs b)) freshBox .head .kept .last) (box-is h)
     ∙ (getD-take (headWords + J) (drop (rowStart J b) xs) 4 0 (omega arith)
     ∙ (getD-drop (rowStart J b) xs 4 0 ∙ ap (λ (i : ℕ). getD xs i 0) e))
@@ -73,7 +74,7 @@ pub lasts-are : (xs : List ℕ)
     → lastsAt xs (headWords + getD xs 1 0) (getD xs 0 0) ≡ lasts (siteOf xs [])
 unfolding siteOf
 lasts-are xs =
-    map-same (getD xs 0 0) (λ b. getD xs ((b - 1) * (headWords + getD xs 1 0) + 9) 0)
+    map-same (getD xs 0 0) (λ b. getD xs ((b - 1) * (headWords + getD xs 1 0) + firstLast) 0)
     (λ b. boxIn (getD xs 0 0) (getD xs 1 0) xs b .head .kept .last)
     (λ b h. sym (last-is (getD xs 0 0) (getD xs 1 0) b xs h))
 
