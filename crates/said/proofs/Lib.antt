@@ -1,0 +1,5 @@
+-- Demand 3 of questions and answers, proved.
+pub mod Lines
+pub mod Past
+pub mod Example
+pub mod Spoke

@@ -1,0 +1,4 @@
+-- Questions and their answers, and demand 3 of them.
+pub mod Said
+pub mod Demand3
+pub mod Spoken

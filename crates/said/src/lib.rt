@@ -1,0 +1,1 @@
+// Demand 3 of questions and answers (specs/, proofs/). No code.
