@@ -28,9 +28,8 @@ use Rattle.safety.specs.Demand3.{In, start}
 use Rattle.safety.specs.Begins.{BeginComes}
 use Rattle.safety.proofs.Demand.{demand-3}
 use Rattle.safety.proofs.Begins.{begins}
-use Rattle.said.specs.Said.{Said, called, held, calls}
-use Rattle.said.specs.Demand3.{Demand3}
-use Rattle.said.specs.Spoken.{Spoken}
+use Rattle.said.specs.Said.{Talk, called, held, calls}
+use Rattle.said.specs.Spoken.{Spoken, Safe}
 use Rattle.said.specs.Spoken as spoken
 use Rattle.said.proofs.Past.{in-range, run-is}
 use Rattle.said.proofs.Example.{load, computed}
@@ -83,11 +82,11 @@ read-form e (reader.too-short s f g r) = absurd (true≠false (ap isRefusal e))
 read-form e (reader.done h) = h
 
 -- the words are by form, and what was said of them the rules answer of their site
-pub record Holds (n J L : ℕ) (h : List Said) (xs ls : List ℕ) : Type 0 where
+pub record Holds (n J L : ℕ) (h : Talk) (xs ls : List ℕ) : Type 0 where
   pub form : memoryForm xs ls ≡ true
   pub said : Spoken n J L h (siteOf xs ls)
 
-pub holds-run : {n J L : ℕ} {h : List Said} {xs ls : List ℕ} → Served n J L h xs ls
+pub holds-run : {n J L : ℕ} {h : Talk} {xs ls : List ℕ} → Served n J L h xs ls
     → Holds n J L h xs ls
 holds-run {n} {J} {L} (made m) = record {
   form = m .form refl;
@@ -119,10 +118,10 @@ holds-run {n} {J} {L} (stored {h = h} {xs = xs} {ls = ls} {us' = us} {vs' = vs} 
           (one-memory xs ls us vs (was .form) (now .form) (sym (now .image ∙ bytes))) (was .said);
     }
 
-module _ {n J L : ℕ} {h : List Said} {xs ls : List ℕ} (w : Holds n J L h xs ls) where
-  safely : Demand3 h (holdsOn xs ls) (firstsIn xs ls)
+module _ {n J L : ℕ} {h : Talk} {xs ls : List ℕ} (w : Holds n J L h xs ls) where
+  safely : Safe h (holdsOn xs ls) (firstsIn xs ls)
   safely =
-      subst (λ (now : ℕ → ℕ → ℕ → ℕ → Answer). Demand3 h now (firstsIn xs ls))
+      subst (λ (now : ℕ → ℕ → ℕ → ℕ → Answer). Safe h now (firstsIn xs ls))
       (λ t b k l r. sym (held-formed xs ls b k l r (w .form)) t)
       (spoken-safely .demand-3 (w .said))
 
@@ -136,7 +135,7 @@ module _ {n J L : ℕ} {h : List Said} {xs ls : List ℕ} (w : Holds n J L h xs 
       → BeginComes s a b ahead y → y .head .pn ≡ s .box b .head .kept .pn)
       (sym (run-is (w .said))) (begins .promised n J L (in-range (w .said)) (calls h))
 
-both-hold : {h : List Said} {xs ls : List ℕ} → Holds 2 16 8 h xs ls → calls h ≡ load
+both-hold : {h : Talk} {xs ls : List ℕ} → Holds 2 16 8 h xs ls → calls h ≡ load
     → (holdsOn xs ls 1 1 71 72 ≡ Answer.Done) × (holdsOn xs ls 2 1 71 72 ≡ Answer.Done)
 both-hold {xs = xs} {ls = ls} w e =
     let at = run-is (w .said) ∙ ap (run (start 2 16 8)) e in (

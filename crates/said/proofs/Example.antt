@@ -33,11 +33,11 @@ use Rattle.rules.specs.declared.model.Answer.{Answer}
 use Rattle.rules.specs.declared.model.Call.{Call}
 use Rattle.laws.specs.Frames.{CallFits}
 use Rattle.laws.proofs.Logic.{All, nil, cons}
-use Rattle.said.specs.Said.{Said, called, held, At, latest, before, TrueAt}
+use Rattle.said.specs.Said.{Talk, called, held, At, latest, before, TrueAt}
 use Rattle.said.specs.Spoken.{Spoken, begun, stepped, asked}
 
 -- what is said where only calls are made
-answers : ℕ → ℕ → ℕ → List Call → List Said
+answers : ℕ → ℕ → ℕ → List Call → Talk
 answers n J L [] = []
 answers n J L (d ∷ ds) = called d (step (run (fresh n J L) ds) d .answer) ∷ answers n J L ds
 
@@ -93,13 +93,13 @@ unfolding pick
     step run agreedAs holds ones onesIn firstForm higher roomNext
 computed = record { one = refl; two = refl }
 
-said-so : {h : List Said} {b k l r : ℕ} {a : Answer} → a ≡ Answer.Done
-    → TrueAt (held b k l r a ∷ h) (length h) b k l r
+said-so : {h : Talk} {b k l r : ℕ} {a : Answer} → a ≡ Answer.Done
+    → TrueAt Answer.Done (held b k l r a ∷ h) (length h) b k l r
 said-so {h} {b} {k} {l} {r} {a} e =
     subst (At (held b k l r a ∷ h) (length h)) (λ t. held b k l r (e t)) latest
 
-pub a-load : (h : List Said) × (s : Site) × Spoken 2 16 8 h s
-    × (i : ℕ) × TrueAt h i 1 1 71 72 × (j : ℕ) × TrueAt h j 2 1 71 72
+pub a-load : (h : Talk) × (s : Site) × Spoken 2 16 8 h s
+    × (i : ℕ) × TrueAt Answer.Done h i 1 1 71 72 × (j : ℕ) × TrueAt Answer.Done h j 2 1 71 72
 a-load =
     let p = spoken 2 16 8 sizes load load-fits in (
       _,

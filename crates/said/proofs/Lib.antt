@@ -3,3 +3,4 @@ pub mod Lines
 pub mod Past
 pub mod Example
 pub mod Spoke
+pub mod ByNumbers

@@ -18,14 +18,15 @@ use Rattle.laws.proofs.FormKept.{step-keeps-form, fresh-form}
 use Rattle.laws.proofs.FormLaws.{sizes-says}
 use Rattle.safety.specs.Demand3.{In, start, Offered}
 use Rattle.safety.specs.Demand3 as model
-use Rattle.said.specs.Said.{Said, called, held, calls, At, latest, before, OfferAt}
+use Rattle.said.specs.Said.{Said, Talk, called, held, calls, At, latest, before, OfferAt}
 use Rattle.said.specs.Spoken.{Spoken, begun, stepped, asked}
 
-pub at-in : {h : List Said} {i : ℕ} {w : Said} → At h i w → i < length h
+pub at-in : {h : Talk} {i : ℕ} {w : Said Answer} → At h i w → i < length h
 at-in latest = omega arith
 at-in (before q) = omega (arith, at-in q)
 
-at-place : {h : List Said} {i j : ℕ} {w : Said} → i ≡ j → At h i w → At h j w
+pub at-place : {A : Type 0} {h : List (Said A)} {i j : ℕ} {w : Said A} → i ≡ j → At h i w
+    → At h j w
 at-place {h} {w = w} e q = subst (λ (i : ℕ). At h i w) e q
 
 pub run-more : (s : Site) (ds cs : List Call) → run s (ds ++ cs) ≡ run (run s cs) ds
@@ -34,17 +35,17 @@ run-more s [] cs = refl
 run-more s (d ∷ ds) cs = ap (λ (t : Site). step t d .next) (run-more s ds cs)
 
 module _ {n J L : ℕ} where
-  pub in-range : {h : List Said} {s : Site} → Spoken n J L h s → In n mostBoxes
+  pub in-range : {h : Talk} {s : Site} → Spoken n J L h s → In n mostBoxes
   in-range (begun e) = let z = sizes-says e in (z .some-boxes, z .few-boxes)
   in-range (stepped d f p) = in-range p
   in-range (asked b k l r p) = in-range p
 
-  pub by-form : {h : List Said} {s : Site} → Spoken n J L h s → form s ≡ true
+  pub by-form : {h : Talk} {s : Site} → Spoken n J L h s → form s ≡ true
   by-form (begun e) = fresh-form n J L e
   by-form (stepped {s = s} d f p) = step-keeps-form s d f (by-form p)
   by-form (asked b k l r p) = by-form p
 
-  pub run-is : {h : List Said} {s : Site} → Spoken n J L h s → s ≡ run (start n J L) (calls h)
+  pub run-is : {h : Talk} {s : Site} → Spoken n J L h s → s ≡ run (start n J L) (calls h)
   unfolding run
   run-is (begun e) = refl
   run-is (stepped d f p) = ap (λ (s : Site). step s d .next) (run-is p)
@@ -52,24 +53,24 @@ module _ {n J L : ℕ} where
 
 -- ---- a holds line, when it was asked
 
-pub record Past (n J L : ℕ) (h : List Said) (i b k l r : ℕ) (a : Answer) : Type 0 where
-  pub said : List Said
+pub record Past (n J L : ℕ) (h : Talk) (i b k l r : ℕ) (a : Answer) : Type 0 where
+  pub said : Talk
   pub site : Site
   pub spoken : Spoken n J L said site
   pub answer : holds site b k l r ≡ a
   pub place : length said ≡ i
   pub later : List Call
   pub time : calls h ≡ later ++ calls said
-  pub since : {m : ℕ} {w : Said} → At said m w → At h m w
-  pub until : {m : ℕ} {w : Said} → At h m w → m < i → At said m w
+  pub since : {m : ℕ} {w : Said Answer} → At said m w → At h m w
+  pub until : {m : ℕ} {w : Said Answer} → At h m w → m < i → At said m w
 
 -- something more was said
-module _ {h : List Said} {i : ℕ} {v : Said} (i-in : i < length h) where
-  not-latest : {m : ℕ} {w : Said} → At (v ∷ h) m w → m < i → At h m w
+module _ {h : Talk} {i : ℕ} {v : Said Answer} (i-in : i < length h) where
+  not-latest : {m : ℕ} {w : Said Answer} → At (v ∷ h) m w → m < i → At h m w
   not-latest latest e = absurd (omega (arith, e, i-in))
   not-latest (before q) e = q
 
-pub past : {n J L : ℕ} {h : List Said} {s : Site} {i b k l r : ℕ} {a : Answer}
+pub past : {n J L : ℕ} {h : Talk} {s : Site} {i b k l r : ℕ} {a : Answer}
     → Spoken n J L h s → At h i (held b k l r a) → Past n J L h i b k l r a
 past (asked b k l r p) latest = record {
   said = _;
@@ -83,7 +84,7 @@ past (asked b k l r p) latest = record {
   until = not-last;
 }
   where
-    not-last : {h : List Said} {m : ℕ} {v w : Said} → At (v ∷ h) m w → m < length h → At h m w
+    not-last : {h : Talk} {m : ℕ} {v w : Said Answer} → At (v ∷ h) m w → m < length h → At h m w
     not-last latest e = absurd (omega (arith, e))
     not-last (before q) e = q
 past (asked b k l r p) (before q) = let t = past p q in record {
@@ -111,12 +112,12 @@ past (stepped d f p) (before q) = let t = past p q in record {
 
 -- ---- a call's place among all that was said, by its place among the calls
 
-pub placeOf : List Said → ℕ → ℕ
+pub placeOf : Talk → ℕ → ℕ
 placeOf [] j = 0
 placeOf (called d a ∷ h) j = cond (ltb j (length (calls h))) (placeOf h j) (length h)
 placeOf (held b k l r a ∷ h) j = placeOf h j
 
-module _ (d : Call) (a : Answer) (h : List Said) (j : ℕ) where
+module _ (d : Call) (a : Answer) (h : Talk) (j : ℕ) where
   place-before : j < length (calls h) → placeOf (called d a ∷ h) j ≡ placeOf h j
   unfolding placeOf
   place-before e = rw (lt-ltb j (length (calls h)) e) refl
@@ -129,7 +130,7 @@ module _ (d : Call) (a : Answer) (h : List Said) (j : ℕ) where
   abbrev Before? : Type 0
   Before? = Or (j < length (calls h)) (length (calls h) ≤ j)
 
-place-in : (h : List Said) (j : ℕ) → j < length (calls h) → placeOf h j < length h
+place-in : (h : Talk) (j : ℕ) → j < length (calls h) → placeOf h j < length h
 unfolding placeOf
 place-in [] j e = absurd (omega (arith, e))
 place-in (held b k l r a ∷ h) j e = omega (arith, place-in h j e)
@@ -138,7 +139,7 @@ place-in (called d a ∷ h) j e =
     (λ q. omega (arith, place-in h j (ltb-true _ _ q)))
     (λ q. omega arith)
 
-pub place-once : (h : List Said) (i j : ℕ) → i < length (calls h) → j < length (calls h)
+pub place-once : (h : Talk) (i j : ℕ) → i < length (calls h) → j < length (calls h)
     → placeOf h i ≡ placeOf h j → i ≡ j
 unfolding placeOf
 place-once [] i j e f same = absurd (omega (arith, e))
@@ -168,20 +169,22 @@ offered-in (model.now cs c l r e) = omega arith
 offered-in (model.before d o) = omega (arith, offered-in o)
 
 -- the Offer that was just done
-offer-said : {h : List Said} {c l r i : ℕ} {a : Answer} → l < 4294967296 → r < 4294967296
+offer-said : {h : Talk} {c l r i : ℕ} {a : Answer} → l < 4294967296 → r < 4294967296
     → a ≡ Answer.Done → i ≡ length h
-    → OfferAt (called (Call.Offer c l r) a ∷ h) i (leftOf (recordOf l r)) (rightOf (recordOf l r))
+    → OfferAt Answer.Done (called (Call.Offer c l r) a ∷ h) i (leftOf (recordOf l r))
+    (rightOf (recordOf l r))
 offer-said {h} {c} {l} {r} {i} {a} fl fr e at =
     let el : leftOf (recordOf l r) ≡ l = omega (arith, fl, fr) in
     let er : rightOf (recordOf l r) ≡ r = omega (arith, fl, fr) in (
       c,
-      subst (λ (w : Said). At (called (Call.Offer c l r) a ∷ h) i w)
+      subst (λ (w : Said Answer). At (called (Call.Offer c l r) a ∷ h) i w)
           (λ t. called (Call.Offer c (sym el t) (sym er t)) (e t))
           (at-place (sym at) latest),
     )
 
-pub offered-at : {n J L : ℕ} {h : List Said} {s : Site} {j q : ℕ} → Spoken n J L h s
-    → Offered (start n J L) (calls h) j q → OfferAt h (placeOf h j) (leftOf q) (rightOf q)
+pub offered-at : {n J L : ℕ} {h : Talk} {s : Site} {j q : ℕ} → Spoken n J L h s
+    → Offered (start n J L) (calls h) j q
+    → OfferAt Answer.Done h (placeOf h j) (leftOf q) (rightOf q)
 unfolding placeOf
 offered-at (asked b k l r p) o = let t = offered-at p o in (t .0, before (t .1))
 offered-at (stepped {h = h} {s = s} d f p) (model.before e {j = j} o) =

@@ -16,9 +16,8 @@ use Rattle.safety.specs.Demand3.{In, Agreed, recordAt, start, Offered, Once, Ov
 use Rattle.safety.specs.Demand3 as model
 use Rattle.safety.proofs.Safe.{same-n}
 use Rattle.safety.proofs.Demand.{demand-3}
-use Rattle.said.specs.Said.{Said, called, calls, At, OfferAt}
-use Rattle.said.specs.Demand3.{Demand3}
-use Rattle.said.specs.Spoken.{Spoken, firsts, SpokenSafely}
+use Rattle.said.specs.Said.{Talk, called, calls, At, OfferAt}
+use Rattle.said.specs.Spoken.{Spoken, Safe, firsts, SpokenSafely}
 use Rattle.said.proofs.Lines.{Told, line-says, line-true, line-untrue}
 use Rattle.said.proofs.Past.{at-in, Past, past, in-range, by-form, run-is, run-more}
 use Rattle.said.proofs.Example.{a-load}
@@ -32,15 +31,16 @@ one-offer (model.before d o) (model.now cs c l r e) = absurd (omega (arith, offe
 one-offer (model.before c o) (model.before d p) = one-offer o p
 
 -- an Offer of the box's record is one of the line's frames
-frames : {h : List Said} {i k l r : ℕ} {x : Box} → Told x k l r
-    → OfferAt h i (leftOf (recordAt x k)) (rightOf (recordAt x k)) → OfferAt h i l r
+frames : {h : Talk} {i k l r : ℕ} {x : Box} → Told x k l r
+    → OfferAt Answer.Done h i (leftOf (recordAt x k)) (rightOf (recordAt x k))
+    → OfferAt Answer.Done h i l r
 frames {h} {i} t o = (
   o .0,
   subst (At h i)
       (λ u. called (Call.Offer (o .0) (t .left-is u) (t .right-is u)) Answer.Done) (o .1),
 )
 
-module _ {n J L : ℕ} {h : List Said} {s : Site} (p : Spoken n J L h s) where
+module _ {n J L : ℕ} {h : Talk} {s : Site} (p : Spoken n J L h s) where
   boxes-are : s .n ≡ n
   boxes-are = ap (λ (t : Site). t .n) (run-is p) ∙ same-n n J L (in-range p) (calls h)
 
@@ -68,7 +68,7 @@ module _ {n J L : ℕ} {h : List Said} {s : Site} (p : Spoken n J L h s) where
       value = ap (λ (t : Site). recordAt (t .box b) k) (sym (run-is p));
     }
 
-module _ {n J L : ℕ} {h : List Said} {s : Site} (p : Spoken n J L h s) where
+module _ {n J L : ℕ} {h : Talk} {s : Site} (p : Spoken n J L h s) where
   -- where the number's offer stands, by the calls before it and by all that was said
   offers : OverTime n (start n J L) (calls h)
   offers = demand-3 .offers-over-time n J L (in-range p) (calls h)
@@ -141,7 +141,7 @@ module _ {n J L : ℕ} {h : List Said} {s : Site} (p : Spoken n J L h s) where
       )
 
 -- a line that was true and later was not: its first has passed it
-passed : {n J L : ℕ} {h : List Said} {s : Site} {i b k l r : ℕ} {a : Answer} → Spoken n J L h s
+passed : {n J L : ℕ} {h : Talk} {s : Site} {i b k l r : ℕ} {a : Answer} → Spoken n J L h s
     → Past n J L h i b k l r Answer.Done → holds s b k l r ≡ a → (a ≡ Answer.Done → ⊥)
     → k < firsts s b
 passed {s = s} {b = b} {k = k} p q e not = go (below? k (firsts s b))
@@ -150,8 +150,8 @@ passed {s = s} {b = b} {k = k} p q e not = go (below? k (firsts s b))
     go (left f) = f
     go (right f) = absurd (not (sym e ∙ stays p q f))
 
-module _ {n J L : ℕ} {h : List Said} {s : Site} (p : Spoken n J L h s) where
-  safely : Demand3 h (holds s) (firsts s)
+module _ {n J L : ℕ} {h : Talk} {s : Site} (p : Spoken n J L h s) where
+  safely : Safe h (holds s) (firsts s)
   safely = record {
     agreement = λ i j b d k l r l' r' q u. same-frames p (past p q) (past p u);
     no-hole = λ i b k m l r q f e. some-line p (past p q) k f e;

@@ -2,3 +2,4 @@
 pub mod Said
 pub mod Demand3
 pub mod Spoken
+pub mod Numbered
