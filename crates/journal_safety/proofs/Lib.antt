@@ -1,0 +1,2 @@
+-- Demand 3 of the functions for C.
+pub mod Numbered

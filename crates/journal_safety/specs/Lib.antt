@@ -1,0 +1,2 @@
+-- Words that the functions for C made, and what holds of them.
+pub mod Called

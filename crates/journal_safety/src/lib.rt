@@ -1,0 +1,1 @@
+// Demand 3 of the functions for C (specs/, proofs/). No code.
