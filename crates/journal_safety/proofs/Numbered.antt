@@ -6,16 +6,15 @@ use lib.ListN.{take}
 use Rattle.rules.specs.Answers.{isRefusal}
 use Rattle.rules.specs.Numbers.{answerNumber}
 use Rattle.rules.specs.declared.model.Answer.{Answer}
-use Rattle.rules.specs.declared.model.Call.{Call}
 use Rattle.laws.proofs.Logic.{true≠false}
 use Rattle.site.specs.Entries.{FreshMade, stepOn, holdsOn}
 use Rattle.writer.specs.declared.Written.{Written}
 use Rattle.writer.specs.Writer.{WriteIs}
 use Rattle.reader.specs.Reader.{ReadIs}
 use Rattle.journal.specs.Images.{writtenNumber, writtenLength}
-use Rattle.said.specs.Said.{Said, Talk, called, held, calls}
+use Rattle.said.specs.Said.{Said, Talk, called, held, calls, retold}
 use Rattle.said.specs.Demand3.{Demand3}
-use Rattle.said.specs.Numbered.{numbers}
+use Rattle.said.proofs.Retold.{same-calls}
 use Rattle.said.proofs.ByNumbers.{is-done, safe-by-numbers}
 use Rattle.engine_safety.specs.Served.{Served, firstsIn}
 use Rattle.engine_safety.specs.Served as engine
@@ -25,7 +24,7 @@ use Rattle.journal_safety.specs.Called.{Called, made, stepped, asked, st
 -- the same with the entries' answers
 record Same (n J L : ℕ) (h : List (Said ℕ)) (xs ls : List ℕ) : Type 0 where
   talk : Talk
-  is : numbers talk ≡ h
+  is : retold answerNumber talk ≡ h
   served : Served n J L talk xs ls
 
 -- a length was written
@@ -66,11 +65,6 @@ same (stored {out' = out} {us = us} {vs = vs} {us' = us'} {vs' = vs'} {len' = le
           (is-done (r .answer) (sym (r .number))) (r .is));
     }
 
-same-calls : (h : Talk) → calls (numbers h) ≡ calls h
-same-calls [] = refl
-same-calls (called d a ∷ h) = ap (λ (ds : List Call). d ∷ ds) (same-calls h)
-same-calls (held b k l r a ∷ h) = same-calls h
-
 pub called-safely : CalledSafely
 called-safely = record {
   demand-3 = λ {xs = xs} {ls = ls} c.
@@ -83,7 +77,7 @@ called-safely = record {
     λ h xs ls c e.
         let w = same c in
         let t = filed .not-empty .1 (w .talk) xs ls (w .served)
-        (sym (same-calls (w .talk)) ∙ ap calls (w .is) ∙ e) in
+        (sym (same-calls answerNumber (w .talk)) ∙ ap calls (w .is) ∙ e) in
         (ap answerNumber (t .0), ap answerNumber (t .1)),
   );
 }

@@ -3,4 +3,5 @@ pub mod Lines
 pub mod Past
 pub mod Example
 pub mod Spoke
+pub mod Retold
 pub mod ByNumbers

@@ -56,7 +56,18 @@ needs-met true true false e = absurd (true≠false (ap isRefusal e))
 needs-met true false t e = absurd (true≠false (ap isRefusal e))
 needs-met false b t e = absurd (true≠false (ap isRefusal e))
 
+not-refused : (f b t : Bool) → isRefusal (answered f b t) ≡ false → answered f b t ≡ Answer.Done
+not-refused true true true e = refl
+not-refused true true false e = absurd (true≠false e)
+not-refused true false t e = absurd (true≠false e)
+not-refused false b t e = absurd (true≠false e)
+
 module _ (s : Site) (b k l r : ℕ) where
+  -- a line is true or refused
+  pub line-done : isRefusal (holds s b k l r) ≡ false → holds s b k l r ≡ Answer.Done
+  unfolding holds ruled
+  line-done e = not-refused (form s) (isBox (s .n) b) (agreedAs (s .box b) k l r) e
+
   pub line-says : holds s b k l r ≡ Answer.Done → (isBox (s .n) b ≡ true) × Told (s .box b) k l r
   unfolding holds ruled
   line-says e =

@@ -21,6 +21,12 @@ calls [] = []
 calls (called d a ∷ h) = d ∷ calls h
 calls (held b k left right a ∷ h) = calls h
 
+-- the same with each answer as f has it
+abbrev pub retold : {A B : Type 0} → (A → B) → List (Said A) → List (Said B)
+retold f [] = []
+retold f (called d a ∷ h) = called d (f a) ∷ retold f h
+retold f (held b k left right a ∷ h) = held b k left right (f a) ∷ retold f h
+
 -- w was said, and i things were said before it
 pub data At {A : Type 0} : List (Said A) → ℕ → Said A → Type 0 where
   latest : {h : List (Said A)} {w : Said A} → At (w ∷ h) (length h) w

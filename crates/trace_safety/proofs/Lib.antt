@@ -1,0 +1,2 @@
+-- Demand 3 of the lines of a trace.
+pub mod Traced

@@ -1,0 +1,175 @@
+-- Lines that the rules take are calls and holds lines from a fresh site on.
+use Prim.Native.Nat.{ℕ}
+use mathlib.Core.Path.{_≡_, refl, sym, ap, _∙_, subst}
+use mathlib.Core.Bool.{Bool, true, false, not}
+use mathlib.Core.List.{List, [], _∷_, _++_}
+use lib.Dec.{ltb, eqb}
+use lib.ListN.{length}
+use borrow.Author.Tests.{ltb-true, not-true}
+use Rattle.rules.specs.Every.{each}
+use Rattle.rules.specs.Answers.{isRefusal}
+use Rattle.rules.specs.Sizes.{sizesForm}
+use Rattle.rules.specs.Site.{Site}
+use Rattle.rules.specs.Step.{step, holds}
+use Rattle.rules.specs.declared.model.Answer.{Answer}
+use Rattle.rules.specs.declared.model.Call.{Call}
+use Rattle.laws.specs.Frames.{CallFits}
+use Rattle.laws.proofs.Logic.{All, nil, cons, and-yes, pick-elim}
+use Rattle.lines.specs.Printed.{inRange}
+use Rattle.lines.specs.Read.{readLine}
+use Rattle.lines.specs.declared.Line.{Line}
+use Rattle.lines.proofs.Exact.{exact}
+use Rattle.trace.specs.Lines.{linesFrom}
+use Rattle.trace.specs.Replay.{Run, first, going, ended, traceSizes}
+use Rattle.trace.specs.Stops.{Takes, Ran, none, more}
+use Rattle.trace.specs.Stops as stops
+use Rattle.said.specs.Said.{Said, Talk, called, held, retold, At}
+use Rattle.said.specs.Demand3.{Demand3}
+use Rattle.said.specs.Spoken.{Spoken, begun, stepped, asked, firsts}
+use Rattle.said.proofs.Lines.{line-done}
+use Rattle.said.proofs.Past.{past}
+use Rattle.said.proofs.Retold.{retold-safely}
+use Rattle.said.proofs.Spoke.{spoken-safely}
+use Rattle.trace_safety.specs.Taken.{saidFrom, taken, TracedSafely}
+
+-- ---- numbers that are read are of 32 bits
+
+Fits : Line → Type 0
+Fits l = inRange l ≡ true
+
+none-out : Fits Line.Unreadable
+unfolding Fits each
+none-out = refl
+
+read-fits : (s : List ℕ) → Fits (readLine s)
+unfolding Fits
+read-fits s = go (readLine s) refl
+  where
+    go : (k : Line) → readLine s ≡ k → inRange k ≡ true
+    go (Line.Site n J L) q = exact s (Line.Site n J L) refl .0 q .1
+    go (Line.Call d) q = exact s (Line.Call d) refl .0 q .1
+    go (Line.Holds c k left right) q = exact s (Line.Holds c k left right) refl .0 q .1
+    go Line.Unreadable q = none-out
+
+lines-fit : (s l : List ℕ) → All Fits (linesFrom l s)
+unfolding linesFrom
+lines-fit [] l =
+    pick-elim (All Fits) (eqb (length l) 0) (λ e. nil) (λ e. cons none-out nil)
+lines-fit (b ∷ s) l =
+    pick-elim (All Fits) (eqb b 10) (λ e. cons (read-fits l) (lines-fit s []))
+    (λ e. lines-fit s (l ++ (b ∷ [])))
+
+call-fits : (d : Call) → Fits (Line.Call d) → CallFits d
+unfolding Fits each
+call-fits (Call.Elect c) e = tt
+call-fits (Call.Recover c) e = tt
+call-fits (Call.Collect c) e = tt
+call-fits (Call.Ready c) e = tt
+call-fits (Call.Offer c left right) e =
+    let r = and-yes (ltb c 4294967296) _ e .1 in
+    let q = and-yes (ltb left 4294967296) _ r in (
+      ltb-true left 4294967296 (q .0),
+      ltb-true right 4294967296 (and-yes (ltb right 4294967296) true (q .1) .0),
+    )
+call-fits (Call.Propose c) e = tt
+call-fits (Call.Agree c) e = tt
+call-fits (Call.Finish c) e = tt
+call-fits (Call.Trim c k) e = tt
+call-fits (Call.Stop c) e = tt
+call-fits (Call.Return c) e = tt
+call-fits (Call.Timeout c) e = tt
+call-fits (Call.Lose a b) e = tt
+call-fits (Call.Repeat a b) e = tt
+call-fits (Call.Deliver a b) e = tt
+
+-- the lines before another, and that one
+fit-both : (ls : List Line) (l : Line) → All Fits (ls ++ (l ∷ [])) → All Fits ls × Fits l
+fit-both [] l (cons f fs) = (nil, f)
+fit-both (k ∷ ls) l (cons f fs) = let p = fit-both ls l fs in (cons f (p .0), p .1)
+
+fit-first : (ls rest : List Line) → All Fits (ls ++ rest) → All Fits ls
+fit-first [] rest fs = nil
+fit-first (l ∷ ls) rest (cons f fs) = cons f (fit-first ls rest fs)
+
+-- ---- what the lines say
+
+said-more : (h : List (Said Bool)) (ls : List Line) (l : Line)
+    → saidFrom h (ls ++ (l ∷ [])) ≡ saidFrom (saidFrom h ls) (l ∷ [])
+said-more h [] l = refl
+said-more h (Line.Site n J L ∷ ls) l = said-more h ls l
+said-more h (Line.Call d ∷ ls) l = said-more (called d true ∷ h) ls l
+said-more h (Line.Holds b k left right ∷ ls) l = said-more (held b k left right true ∷ h) ls l
+said-more h (Line.Unreadable ∷ ls) l = said-more h ls l
+
+abbrev passes : Answer → Bool
+passes a = not (isRefusal a)
+
+record Talked (ls : List Line) (s : Site) : Type 0 where
+  n : ℕ
+  J : ℕ
+  L : ℕ
+  talk : Talk
+  spoken : Spoken n J L talk s
+  is : retold passes talk ≡ saidFrom [] ls
+
+abbrev Talking : List Line → Run → Type 0
+Talking ls first = ls ≡ []
+Talking ls (going k s) = Talked ls s
+Talking ls ended = Unit {0}
+
+sizes : (n J L : ℕ) → traceSizes n J L ≡ true → sizesForm n J L ≡ true
+unfolding traceSizes
+sizes n J L e = and-yes _ _ (and-yes _ _ e .0) .0
+
+-- one more line
+talks-on : (ls : List Line) {r : Run} {l : Line} {s : Site} → Talking ls r → Fits l → Takes r l s
+    → Talked (ls ++ (l ∷ [])) s
+talks-on ls w f (stops.site {n = n} {J = J} {L = L} e) = record {
+  n = n;
+  J = J;
+  L = L;
+  talk = [];
+  spoken = begun (sizes n J L e);
+  is = ap (λ (ks : List Line). saidFrom [] (ks ++ (Line.Site n J L ∷ []))) (sym w);
+}
+talks-on ls w f (stops.call {s = s} {c = d} m e) = record {
+  n = w .n;
+  J = w .J;
+  L = w .L;
+  talk = called d (step s d .answer) ∷ w .talk;
+  spoken = stepped d (call-fits d f) (w .spoken);
+  is =
+      (λ t. called d (not (e t)) ∷ w .is t) ∙ sym (said-more [] ls (Line.Call d));
+}
+talks-on ls w f (stops.holding {s = s} {c = b} {i = k} {left = l} {right = r} m e) = record {
+  n = w .n;
+  J = w .J;
+  L = w .L;
+  talk = held b k l r (holds s b k l r) ∷ w .talk;
+  spoken = asked b k l r (w .spoken);
+  is =
+      (λ t. held b k l r (not (e t)) ∷ w .is t) ∙ sym (said-more [] ls (Line.Holds b k l r));
+}
+
+talks : {ls : List Line} {r : Run} {t : List ℕ} → All Fits ls → Ran ls r t → Talking ls r
+talks fs none = refl
+talks fs (more {ls = ls} {l = l} p q) =
+    let f = fit-both ls l fs in talks-on ls (talks (f .0) p) (f .1) q
+
+-- ---- demand 3
+
+held-done : {n J L : ℕ} {h : Talk} {s : Site} → Spoken n J L h s → (i b k l r : ℕ) (a : Answer)
+    → At h i (held b k l r a) → passes a ≡ true → a ≡ Answer.Done
+held-done p i b k l r a q e =
+    let v = past p q in
+    sym (v .answer) ∙ line-done (v .site) b k l r
+    (ap isRefusal (v .answer) ∙ not-true (isRefusal a) e)
+
+pub traced-safely : TracedSafely
+traced-safely = record {
+  demand-3 = λ input ls rest {s = s} e p.
+      let w = talks (fit-first ls rest (subst (All Fits) e (lines-fit input []))) p in
+      subst (λ (h : List (Said Bool)). Demand3 true false h (taken s) (firsts s)) (w .is)
+      (retold-safely passes (held-done (w .spoken))
+      (λ b k l r q. line-done s b k l r (not-true _ q)) (spoken-safely .demand-3 (w .spoken)));
+}

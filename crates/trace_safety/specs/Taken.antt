@@ -1,0 +1,34 @@
+-- Demand 3 of one trace: of its lines that were not refused. By `Output` (crate trace) the
+-- replayer's output names just these, each with its number and the lasts, and then the refused one.
+use Prim.Native.Nat.{ℕ}
+use mathlib.Core.Path.{_≡_}
+use mathlib.Core.Bool.{Bool, true, false, not}
+use mathlib.Core.List.{List, [], _∷_, _++_}
+use Rattle.rules.specs.Answers.{isRefusal}
+use Rattle.rules.specs.Site.{Site}
+use Rattle.rules.specs.Step.{holds}
+use Rattle.lines.specs.declared.Line.{Line}
+use Rattle.trace.specs.Lines.{linesOf}
+use Rattle.trace.specs.Replay.{going}
+use Rattle.trace.specs.Stops.{Ran}
+use Rattle.said.specs.Said.{Said, called, held}
+use Rattle.said.specs.Demand3.{Demand3}
+use Rattle.said.specs.Spoken.{firsts}
+
+-- lines after those of h, as what was said: each is answered `true`, for it was not refused
+abbrev pub saidFrom : List (Said Bool) → List Line → List (Said Bool)
+saidFrom h [] = h
+saidFrom h (Line.Site n J L ∷ ls) = saidFrom h ls
+saidFrom h (Line.Call d ∷ ls) = saidFrom (called d true ∷ h) ls
+saidFrom h (Line.Holds b k left right ∷ ls) = saidFrom (held b k left right true ∷ h) ls
+saidFrom h (Line.Unreadable ∷ ls) = saidFrom h ls
+
+-- whether a holds line would be taken at this site
+abbrev pub taken : Site → ℕ → ℕ → ℕ → ℕ → Bool
+taken s b k left right = not (isRefusal (holds s b k left right))
+
+pub record TracedSafely : Type 0 where
+  -- the first lines of any input, if the rules take them all and they lead to the site s
+  pub demand-3 : (input : List ℕ) (ls rest : List Line) {text : List ℕ} {k : ℕ} {s : Site}
+      → linesOf input ≡ ls ++ rest → Ran ls (going k s) text
+      → Demand3 true false (saidFrom [] ls) (taken s) (firsts s)

@@ -1,0 +1,1 @@
+// Demand 3 of the lines of a trace (specs/, proofs/). No code.
