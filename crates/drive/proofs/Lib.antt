@@ -1,0 +1,2 @@
+-- The driver keeps what it promises.
+pub mod DriveLaws

@@ -1,0 +1,3 @@
+-- A script's questions, and what the driver promises of their answers.
+pub mod Script
+pub mod Driven
