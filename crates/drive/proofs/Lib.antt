@@ -1,2 +1,3 @@
 -- The driver keeps what it promises.
 pub mod DriveLaws
+pub mod ExampleLaws
