@@ -65,6 +65,8 @@ module _ {B : Type 0} (f : Answer → B) where
           let t = was-held h q in
           ap f (s .dropped i j b k l r (t .0) (was-true p) (t .2) e
           (λ (d : t .0 ≡ Answer.Done). not (sym (t .1) ∙ ap f d)) l' r');
+      lasting = λ i b k l r p.
+          let t = s .lasting i b k l r (was-true p) in (t .0, t .1, t .2, t .3, ap f (t .4));
       origin = λ i b k l r p.
           let t = s .origin i b k l r (was-true p) in
           (t .0, t .1, (t .2 .0, is-called h (t .2 .1)));

@@ -1,5 +1,5 @@
 -- Demand 3 of what the rules answer.
-use Prim.Native.Nat.{ℕ, _≤_, _<_}
+use Prim.Native.Nat.{ℕ, _≤_, _<_, max}
 use mathlib.Core.Path.{_≡_, refl, sym, ap, _∙_, subst}
 use mathlib.Core.Bool.{true}
 use mathlib.Core.List.{List, [], _++_}
@@ -109,14 +109,35 @@ module _ {n J L : ℕ} {h : Talk} {s : Site} (p : Spoken n J L h s) where
     still : (m : ℕ) → firsts s b ≤ m → m ≤ k → Agreed (s .box b) m
     still m f e = (f, omega (arith, e, then-told .agreed .1, grew q .1))
 
-    some-line : (m : ℕ) → firsts s b ≤ m → m ≤ k
+    agreed-line : (m : ℕ) → Agreed (s .box b) m
         → (left : ℕ) × (right : ℕ) × (holds s b m left right ≡ Answer.Done)
-    some-line m f e = (
+    agreed-line m a = (
       leftOf (recordAt (s .box b) m),
       rightOf (recordAt (s .box b) m),
       line-true s b m _ _ (by-form p) (box-here p b then-box)
-          (record { agreed = still m f e; left-is = refl; right-is = refl }),
+          (record { agreed = a; left-is = refl; right-is = refl }),
     )
+
+    some-line : (m : ℕ) → firsts s b ≤ m → m ≤ k
+        → (left : ℕ) × (right : ℕ) × (holds s b m left right ≡ Answer.Done)
+    some-line m f e = agreed-line m (still m f e)
+
+    -- the last is one of those that are kept
+    last-line : (m : ℕ) × (k ≤ m) × (left : ℕ) × (right : ℕ)
+        × (holds s b m left right ≡ Answer.Done)
+    last-line =
+        let range = subst (λ (t : Site). In (firsts t b) (max 1 (t .box b .head .kept .last)))
+        (sym (run-is p))
+        (demand-3 .after-run n J L (in-range p) (calls h) .kept-range b then-box) in
+        let some : 1 ≤ firsts (q .site) b =
+        subst (λ (t : Site). 1 ≤ firsts t b) (sym (run-is (q .spoken)))
+        (demand-3 .after-run n J L (in-range p) (calls (q .said)) .kept-range b then-box .0) in
+        let high : k ≤ s .box b .head .kept .last =
+        omega (arith, then-told .agreed .1, grew q .1) in
+        let low : 1 ≤ k = omega (arith, some, then-told .agreed .0) in
+        let a : firsts s b ≤ s .box b .head .kept .last = omega (arith, range .1, high, low) in
+        let t = agreed-line (s .box b .head .kept .last) (a, omega arith) in
+        (s .box b .head .kept .last, high, t .0, t .1, t .2)
 
     -- .. and itself with its frames
     stays : firsts s b ≤ k → holds s b k l r ≡ Answer.Done
@@ -164,6 +185,7 @@ module _ {n J L : ℕ} {h : Talk} {s : Site} (p : Spoken n J L h s) where
         let f = passed (v .spoken) w (v .answer) not in
         line-untrue s b k l' r' (by-form p) (box-here p b (then-box p (past p q)))
         (λ (g : Agreed (s .box b) k). absurd (omega (arith, f, g .0, grew p v .0)));
+    lasting = λ i b k l r q. last-line p (past p q);
     origin = λ i b k l r q.
         let v = past p q in
         let o = frames (then-told p v)

@@ -27,6 +27,9 @@ pub record Demand3 {A : Type 0} (done untrue : A) (h : List (Said A)) (now : ℕ
   -- it is untrue for good.
   pub dropped : (i j b k l r : ℕ) (a : A) → TrueAt done h i b k l r → At h j (held b k l r a)
       → i < j → (a ≡ done → ⊥) → (left right : ℕ) → now b k left right ≡ untrue
+  -- .. And a box does not drop its last: where a line was ever true, its number or a later one is.
+  pub lasting : (i b k l r : ℕ) → TrueAt done h i b k l r
+      → (m : ℕ) × (k ≤ m) × (left : ℕ) × (right : ℕ) × (now b m left right ≡ done)
   -- Origin: before each true holds line an Offer of just these frames was done.
   pub origin : (i b k l r : ℕ) → TrueAt done h i b k l r → (j : ℕ) × (j < i) × OfferAt done h j l r
   -- No Offer fills two numbers: one map, from each number that was ever true to an Offer of its
