@@ -2,7 +2,7 @@
 use Prim.Native.Nat.{ℕ}
 use mathlib.Core.Path.{_≡_, refl, sym, ap, _∙_, subst}
 use mathlib.Core.Bool.{Bool, true, false, not}
-use mathlib.Core.List.{List, [], _∷_, _++_}
+use mathlib.Core.List.{List, [], _∷_, _++_, append-nil}
 use lib.Dec.{ltb, eqb}
 use lib.ListN.{length}
 use borrow.Author.Tests.{ltb-true, not-true}
@@ -19,9 +19,9 @@ use Rattle.lines.specs.Printed.{inRange}
 use Rattle.lines.specs.Read.{readLine}
 use Rattle.lines.specs.declared.Line.{Line}
 use Rattle.lines.proofs.Exact.{exact}
-use Rattle.trace.specs.Lines.{linesFrom}
+use Rattle.trace.specs.Lines.{linesFrom, linesOf}
 use Rattle.trace.specs.Replay.{Run, first, going, ended, traceSizes}
-use Rattle.trace.specs.Stops.{Takes, Ran, none, more}
+use Rattle.trace.specs.Stops.{Takes, Ran, none, more, Output}
 use Rattle.trace.specs.Stops as stops
 use Rattle.said.specs.Said.{Said, Talk, called, held, retold, At}
 use Rattle.said.specs.Demand3.{Demand3}
@@ -30,7 +30,8 @@ use Rattle.said.proofs.Lines.{line-done}
 use Rattle.said.proofs.Past.{past}
 use Rattle.said.proofs.Retold.{retold-safely}
 use Rattle.said.proofs.Spoke.{spoken-safely}
-use Rattle.trace_safety.specs.Taken.{saidFrom, taken, TracedSafely}
+use Rattle.trace_safety.specs.Taken.{saidFrom, taken, answeredLines, runAfter}
+use Rattle.trace_safety.specs.Taken.{TracedSafely}
 
 -- ---- numbers that are read are of 32 bits
 
@@ -165,11 +166,26 @@ held-done p i b k l r a q e =
     sym (v .answer) ∙ line-done (v .site) b k l r
     (ap isRefusal (v .answer) ∙ not-true (isRefusal a) e)
 
+first-lines : (input : List ℕ) (ls rest : List Line) {text : List ℕ} {k : ℕ} {s : Site}
+    → linesOf input ≡ ls ++ rest → Ran ls (going k s) text
+    → Demand3 true false (saidFrom [] ls) (taken s) (firsts s)
+first-lines input ls rest {s = s} e p =
+    let w = talks (fit-first ls rest (subst (All Fits) e (lines-fit input []))) p in
+    subst (λ (h : List (Said Bool)). Demand3 true false h (taken s) (firsts s)) (w .is)
+    (retold-safely passes (held-done (w .spoken))
+    (λ b k l r q. line-done s b k l r (not-true _ q)) (spoken-safely .demand-3 (w .spoken)))
+
+whole-output : (input : List ℕ) {text : List ℕ} (o : Output (linesOf input) text) (k : ℕ) (s : Site)
+    → runAfter o ≡ going k s
+    → Demand3 true false (saidFrom [] (answeredLines o)) (taken s) (firsts s)
+whole-output input {text} (stops.all-taken p) k s e =
+    first-lines input (linesOf input) [] (sym (append-nil (linesOf input)))
+    (subst (λ (t : Run). Ran (linesOf input) t text) e p)
+whole-output input (stops.stopped before l after {t = t} d p q f) k s e =
+    first-lines input before (l ∷ after) d (subst (λ (u : Run). Ran before u t) e p)
+
 pub traced-safely : TracedSafely
 traced-safely = record {
-  demand-3 = λ input ls rest {s = s} e p.
-      let w = talks (fit-first ls rest (subst (All Fits) e (lines-fit input []))) p in
-      subst (λ (h : List (Said Bool)). Demand3 true false h (taken s) (firsts s)) (w .is)
-      (retold-safely passes (held-done (w .spoken))
-      (λ b k l r q. line-done s b k l r (not-true _ q)) (spoken-safely .demand-3 (w .spoken)));
+  demand-3 = first-lines;
+  replayed = λ input o k s e. whole-output input o k s e;
 }
