@@ -58,8 +58,8 @@ bare first unagreed count = eqb count 0 && eqb unagreed 0 && eqb first 0
 
 -- "Last holds last or last+1 records (at most J), Commit holds last, Begin one (and its last is
 -- below [the most]), the rest none; unagreed pn is 0 except in a Last with last+1 records"; "pn (0
--- in Lease)", and in LeaseAck (Q-12); "Last, Commit and Begin carry the sender's first, under the same form; Last and
--- Commit hold records from it on" (Q-4)
+-- in Lease)", and in LeaseAck (Q-12); "Last, Commit and Begin carry the sender's first, under the
+-- same form; Last and Commit hold records from it on" (Q-4)
 unfoldable pub formKind : Kind → ℕ → ℕ → ℕ → ℕ → ℕ → ℕ → Bool
 formKind Kind.Collect J pn last first unagreed count = bare first unagreed count
 formKind Kind.Last J pn last first unagreed count =

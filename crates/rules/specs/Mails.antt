@@ -91,7 +91,8 @@ onLease b sender m =
     (taken (withState State.Active b) Book.Keep
     (Out.To (bit sender) (mailOf Kind.LeaseAck 0 (b .kept .last) 0)))
 
--- "A LeaseAck is discarded for role (not leader) or phase (not Lease)": its last is not compared (Q-12)
+-- "A LeaseAck is discarded for role (not leader) or phase (not Lease)": its last is not compared
+-- (Q-12)
 unfoldable pub leaseAckVerdict : BoxState → Verdict
 leaseAckVerdict b =
     firstCause (not (b .leads)) (not (inPhase (b .phase) Phase.Lease)) false false Verdict.Go

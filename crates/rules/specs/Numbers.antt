@@ -17,8 +17,8 @@ stateNumber State.Updating = 2
 stateNumber State.UpdatingPrevious = 3
 stateNumber State.Refresh = 4
 
--- "phase (Election 0, SendCollect 1, Collect 2, Lease 3, Begin 4, Commit 5)"; "LeaseDone is phase 6"
--- (Q-12)
+-- "phase (Election 0, SendCollect 1, Collect 2, Lease 3, Begin 4, Commit 5)"; "LeaseDone is phase
+-- 6" (Q-12)
 abbrev pub phaseNumber : Phase → ℕ
 phaseNumber Phase.Election = 0
 phaseNumber Phase.SendCollect = 1

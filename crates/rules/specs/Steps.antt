@@ -84,7 +84,8 @@ started b s r =
     (Book.Put 0 (span (b .kept .first) (b .kept .last)) r)
     (Out.To (others s) (mailFrom (b .kept .first) Kind.Begin (b .kept .pn) (b .kept .last) 0))
 
--- "Active, Lease(last) to others, phase Lease"; who heard it is "a set that starts as itself" (Q-12)
+-- "Active, Lease(last) to others, phase Lease"; the senders of LeaseAcks are noted "in a set that
+-- starts as itself" (Q-12)
 unfoldable pub leased : BoxState → Setting → Turn
 leased b s =
     done
@@ -182,7 +183,8 @@ finish b s = settled b (unless (canFinish b s) Refusal.Condition Verdict.Go) (le
 -- "The step `heard c` is allowed in phase Lease when the set includes all present" (Q-12) ..
 unfoldable pub canHeard : BoxState → Setting → Bool
 canHeard b s =
-    even (s .epoch) && b .leads && inPhase (b .phase) Phase.Lease && includes (b .heard) (s .present)
+    even (s .epoch) && b .leads && inPhase (b .phase) Phase.Lease
+    && includes (b .heard) (s .present)
 
 -- .. "and changes the phase to LeaseDone"
 unfoldable pub leaseHeard : BoxState → Setting → Turn
