@@ -14,6 +14,7 @@ pub enum Call {
     Propose(u32),
     Agree(u32),
     Finish(u32),
+    Heard(u32),
     Stop(u32),
     Return(u32),
     Timeout(u32),
@@ -47,7 +48,8 @@ impl Call {
         match self {
             Call::Elect(c) | Call::Recover(c) | Call::Collect(c) | Call::Ready(c) => c,
             Call::Offer(c, ..) | Call::Propose(c) | Call::Agree(c) | Call::Finish(c) => c,
-            Call::Stop(c) | Call::Return(c) | Call::Timeout(c) | Call::Trim(c, _) => c,
+            Call::Heard(c) | Call::Trim(c, _) => c,
+            Call::Stop(c) | Call::Return(c) | Call::Timeout(c) => c,
             Call::Lose(a, _) | Call::Repeat(a, _) | Call::Deliver(a, _) => a,
         }
     }

@@ -191,6 +191,7 @@ impl Camera {
             Call::Propose(_) => self.propose(c, around),
             Call::Agree(_) => self.agree(c, around),
             Call::Finish(_) => self.finish(c, around),
+            Call::Heard(_) => self.heard(around),
             Call::Trim(_, k) => self.trim(c, around, k),
             _ => unreachable!("a step of the site"),
         }
@@ -233,6 +234,7 @@ impl Camera {
     fn lease(mut self, c: u32, around: Around) -> Result<Turn, Refusal> {
         self.state = State::Active;
         self.phase = Phase::Lease;
+        self.heard = only(c);
         let mail = Mail::bare(Kind::Lease, 0, self.last);
         done(self, around.to_others(c, mail))
     }
@@ -258,7 +260,7 @@ impl Camera {
 
     fn propose(mut self, c: u32, around: Around) -> Result<Turn, Refusal> {
         needs(self.leads && self.state == State::Active && self.waiting != 0)?;
-        needs(self.phase == Phase::Lease || self.phase == Phase::Election)?;
+        needs(matches!(self.phase, Phase::Lease | Phase::LeaseDone | Phase::Election))?;
         self.state = State::Updating;
         let r = std::mem::take(&mut self.waiting);
         self.start(c, around, r)
@@ -279,6 +281,14 @@ impl Camera {
     fn finish(self, c: u32, around: Around) -> Result<Turn, Refusal> {
         needs(self.leads && self.state == State::Refresh && self.phase == Phase::Commit)?;
         self.lease(c, around)
+    }
+
+    /// All present have answered the lease.
+    fn heard(mut self, around: Around) -> Result<Turn, Refusal> {
+        needs(self.leads && self.phase == Phase::Lease)?;
+        needs(self.heard & around.present == around.present)?;
+        self.phase = Phase::LeaseDone;
+        done(self, vec![])
     }
 
     /// At a present box, whoever leads.
@@ -305,7 +315,8 @@ impl Camera {
             Kind::Begin => self.on_begin(around, from, mail),
             Kind::Accept => self.on_accept(from),
             Kind::Commit => self.on_commit(around, mail),
-            Kind::Lease => self.on_lease(),
+            Kind::Lease => self.on_lease(from),
+            Kind::LeaseAck => self.on_lease_ack(from),
         }
     }
 
@@ -321,6 +332,7 @@ impl Camera {
             Kind::Begin => [self.leads, false, number, place],
             Kind::Accept => [!self.leads, self.phase != Phase::Begin, number, place],
             Kind::Lease => [self.leads, false, false, place],
+            Kind::LeaseAck => [!self.leads, self.phase != Phase::Lease, false, false],
         };
         let names = [Cause::Role, Cause::Phase, Cause::Number, Cause::Place];
         causes.iter().position(|applies| *applies).map(|first| names[first])
@@ -370,7 +382,7 @@ impl Camera {
             self.phase = Phase::SendCollect;
         } else if mail.pn == self.pn {
             self.answered = around.joined(self.answered, from);
-            became = self.hear(around, mail);
+            became = self.be_told(around, mail);
         }
         if !became {
             self.clear_stale_best();
@@ -379,15 +391,15 @@ impl Camera {
     }
 
     /// Whether the unagreed record of a Last became the best.
-    fn hear(&mut self, around: Around, mail: &Mail) -> bool {
+    fn be_told(&mut self, around: Around, mail: &Mail) -> bool {
         let Some(record) = mail.records.get(mail.kept()).copied() else { return false };
-        let heard = Best { pn: mail.unagreed_pn, number: mail.last + 1, record };
+        let told = Best { pn: mail.unagreed_pn, number: mail.last + 1, record };
         let better = match around.fault {
-            Fault::FirstHeard => self.best.number != heard.number,
-            _ => heard.number >= self.best.number && heard.pn >= self.best.pn,
+            Fault::FirstHeard => self.best.number != told.number,
+            _ => told.number >= self.best.number && told.pn >= self.best.pn,
         };
         if mail.last >= self.last && better {
-            self.best = heard;
+            self.best = told;
             return true;
         }
         false
@@ -417,8 +429,14 @@ impl Camera {
         taken(self, vec![])
     }
 
-    fn on_lease(mut self) -> Result<Turn, Refusal> {
+    fn on_lease(mut self, from: u32) -> Result<Turn, Refusal> {
         self.state = State::Active;
+        let reply = Mail::bare(Kind::LeaseAck, 0, self.last);
+        taken(self, vec![(from, reply)])
+    }
+
+    fn on_lease_ack(mut self, from: u32) -> Result<Turn, Refusal> {
+        self.heard |= only(from);
         taken(self, vec![])
     }
 }
