@@ -61,6 +61,13 @@ impl Around {
         }
     }
 
+    fn enough_hearers(&self, heard: u32) -> bool {
+        match self.fault {
+            Fault::HeardByMajority => (heard & self.present).count_ones() >= majority(self.count()),
+            _ => heard & self.present == self.present,
+        }
+    }
+
     /// The smallest number above the old one whose last two digits are the rank.
     fn new_pn(&self, old: u32, rank: u32) -> Result<u32, Refusal> {
         let near = old / 100 * 100 + rank;
@@ -234,7 +241,8 @@ impl Camera {
     fn lease(mut self, c: u32, around: Around) -> Result<Turn, Refusal> {
         self.state = State::Active;
         self.phase = Phase::Lease;
-        self.heard = only(c);
+        let before = if around.fault == Fault::HeardKept { self.heard } else { 0 };
+        self.heard = before | only(c);
         let mail = Mail::bare(Kind::Lease, 0, self.last);
         done(self, around.to_others(c, mail))
     }
@@ -260,7 +268,8 @@ impl Camera {
 
     fn propose(mut self, c: u32, around: Around) -> Result<Turn, Refusal> {
         needs(self.leads && self.state == State::Active && self.waiting != 0)?;
-        needs(matches!(self.phase, Phase::Lease | Phase::LeaseDone | Phase::Election))?;
+        let heard = self.phase == Phase::LeaseDone && around.fault != Fault::NoProposeWhenHeard;
+        needs(heard || self.phase == Phase::Lease || self.phase == Phase::Election)?;
         self.state = State::Updating;
         let r = std::mem::take(&mut self.waiting);
         self.start(c, around, r)
@@ -286,7 +295,7 @@ impl Camera {
     /// All present have answered the lease.
     fn heard(mut self, around: Around) -> Result<Turn, Refusal> {
         needs(self.leads && self.phase == Phase::Lease)?;
-        needs(self.heard & around.present == around.present)?;
+        needs(around.enough_hearers(self.heard))?;
         self.phase = Phase::LeaseDone;
         done(self, vec![])
     }
@@ -307,7 +316,9 @@ impl Camera {
             return Err(9);
         }
         if let Some(cause) = self.discards(around, mail) {
-            return Ok(Turn { answer: Answer::Discarded(cause), next: self, out: vec![] });
+            let replies = around.fault == Fault::AckOfDiscarded && mail.kind == Kind::Lease;
+            let out = if replies { vec![(from, self.lease_ack(around.fault))] } else { vec![] };
+            return Ok(Turn { answer: Answer::Discarded(cause), next: self, out });
         }
         match mail.kind {
             Kind::Collect => self.on_collect(around, from, mail),
@@ -315,7 +326,9 @@ impl Camera {
             Kind::Begin => self.on_begin(around, from, mail),
             Kind::Accept => self.on_accept(from),
             Kind::Commit => self.on_commit(around, mail),
-            Kind::Lease => self.on_lease(from),
+            Kind::Lease => self.on_lease(around, from),
+            // in phase Begin by a broken rule alone
+            Kind::LeaseAck if self.phase == Phase::Begin => self.on_accept(from),
             Kind::LeaseAck => self.on_lease_ack(from),
         }
     }
@@ -332,7 +345,12 @@ impl Camera {
             Kind::Begin => [self.leads, false, number, place],
             Kind::Accept => [!self.leads, self.phase != Phase::Begin, number, place],
             Kind::Lease => [self.leads, false, false, place],
-            Kind::LeaseAck => [!self.leads, self.phase != Phase::Lease, false, false],
+            Kind::LeaseAck => {
+                let counts = around.fault == Fault::AckAccepts && self.phase == Phase::Begin;
+                let by_place = around.fault == Fault::AckByPlace;
+                let closed = self.phase != Phase::Lease && !counts;
+                [!self.leads, closed, false, by_place && place]
+            }
         };
         let names = [Cause::Role, Cause::Phase, Cause::Number, Cause::Place];
         causes.iter().position(|applies| *applies).map(|first| names[first])
@@ -429,9 +447,14 @@ impl Camera {
         taken(self, vec![])
     }
 
-    fn on_lease(mut self, from: u32) -> Result<Turn, Refusal> {
+    fn lease_ack(&self, fault: Fault) -> Mail {
+        let pn = if fault == Fault::AckWithPn { self.pn } else { 0 };
+        Mail::bare(Kind::LeaseAck, pn, self.last)
+    }
+
+    fn on_lease(mut self, around: Around, from: u32) -> Result<Turn, Refusal> {
         self.state = State::Active;
-        let reply = Mail::bare(Kind::LeaseAck, 0, self.last);
+        let reply = self.lease_ack(around.fault);
         taken(self, vec![(from, reply)])
     }
 
