@@ -1,5 +1,5 @@
 -- Q-12, in statements alone: who is in the set of a leader has taken a Lease of it since its phase
--- Lease began. Whatever is repeated or lost, no LeaseAck of an earlier lease is noted in a later.
+-- Lease began. Whatever is repeated or lost, a later lease notes no LeaseAck of an earlier one.
 use Prim.Native.Nat.{ℕ}
 use mathlib.Core.Path.{_≡_}
 use mathlib.Core.Bool.{true}
@@ -48,7 +48,7 @@ pub record Heard : Type 0 where
   pub all-took : (n J L : ℕ) → In n mostBoxes → (calls : List Call) (c b : ℕ) → (b ≡ c → ⊥)
       → step (run (start n J L) calls) (Call.Heard c) .answer ≡ Answer.Done
       → has (run (start n J L) calls .present) b ≡ true → TookLease (start n J L) c b calls
-  -- No lease begins while one is out: from any site, the two steps that send Leases are refused.
+  -- No lease begins while one is out: from any site, the two steps that begin one do nothing.
   pub one-lease : (s : Site) (c : ℕ) → LeaseOut s c
       → (step s (Call.Ready c) .next ≡ s) × (step s (Call.Finish c) .next ≡ s)
   -- Not empty: in some run of two boxes, both present, `heard` is done.
