@@ -28,6 +28,7 @@ frames κs (Act.Offer l r) g = (omega arith, omega arith)
 frames κs Act.Propose g = tt
 frames κs Act.Agree g = tt
 frames κs Act.Finish g = tt
+frames κs Act.Heard g = tt
 frames κs (Act.Trim k) g = tt
 
 returns : tie.Need-returns
