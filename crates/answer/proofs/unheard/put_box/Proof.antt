@@ -20,9 +20,9 @@ returns-2 c =
     let at-includes-all = at-if1 .before in
     let at-bit-of = at-includes-all .before in
     let start = at-bit-of .before .before in
-    box-in (start .args .set) _ (at-bit-of .bit-of .ensures .0) (at-includes-all .includes-all .ensures)
-    (at-if1 .if1 .left) (start .pre .1) (at-put-byte .put-byte .ensures)
-    (at-put-byte2 .put-byte2 .ensures)
+    box-in (start .args .set) _ (at-bit-of .bit-of .ensures .0)
+    (at-includes-all .includes-all .ensures) (at-if1 .if1 .left) (start .pre .1)
+    (at-put-byte .put-byte .ensures) (at-put-byte2 .put-byte2 .ensures)
 
 pub put-box-spec : {M : Type 1} → statement M
 put-box-spec = tie.close (tie.spec
