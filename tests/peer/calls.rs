@@ -133,14 +133,16 @@ fn call_between_elections(site: &Site, r: &mut Random, style: &Style) -> Call {
 }
 
 /// The step that a leader would do next.
-pub fn leader_call(site: &Site, c: u32, frame: u32) -> Call {
+pub fn leader_call(site: &Site, r: &mut Random, c: u32, frame: u32) -> Call {
     let b = site.at(c);
+    let heard = site.present & !b.heard == 0;
     match b.phase {
         Phase::Election if b.state == State::Recovering => Call::Recover(c),
         Phase::SendCollect => Call::Collect(c),
         Phase::Collect => Call::Ready(c),
         Phase::Begin => Call::Agree(c),
         Phase::Commit => Call::Finish(c),
+        Phase::Lease if r.percent(if heard { 60 } else { 5 }) => Call::Heard(c),
         _ if b.waiting != 0 => Call::Propose(c),
         _ => Call::Offer(c, frame, frame + 1),
     }
@@ -184,7 +186,9 @@ pub fn likely_call(site: &Site, r: &mut Random, style: &Style, frame: u32) -> Ca
         mails = full;
     }
     match leader {
-        Some(c) if r.percent(if mails.is_empty() { 80 } else { 40 }) => leader_call(site, c, frame),
+        Some(c) if r.percent(if mails.is_empty() { 80 } else { 40 }) => {
+            leader_call(site, r, c, frame)
+        }
         _ if mails.is_empty() => timeout,
         _ => {
             let (a, b) = r.pick(&mails);
@@ -212,7 +216,7 @@ pub fn any_call(n: u32, r: &mut Random) -> Call {
         }
     };
     let (c, x) = (number(r), number(r));
-    match r.below(15) {
+    match r.below(16) {
         0 => Call::Elect(c),
         1 => Call::Recover(c),
         2 => Call::Collect(c),
@@ -227,6 +231,7 @@ pub fn any_call(n: u32, r: &mut Random) -> Call {
         11 => Call::Lose(c, x),
         12 => Call::Repeat(c, x),
         13 => Call::Trim(c, r.pick(&[0, 1, 2, 3, MOST, MOST + 1, u32::MAX])),
+        14 => Call::Heard(c),
         _ => Call::Deliver(c, x),
     }
 }

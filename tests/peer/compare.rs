@@ -6,10 +6,11 @@ use crate::faults::Fault;
 use crate::image;
 use crate::other::{Other, Run, Verdict};
 use crate::random::Random;
+use crate::rules::Call;
 use crate::shrink::fewest;
 use crate::site::*;
 use crate::texts::*;
-use crate::trace::{self, Said};
+use crate::trace::{self, read_line, Line, Said};
 use std::collections::BTreeMap;
 
 fn text(bytes: &[u8]) -> String {
@@ -17,18 +18,22 @@ fn text(bytes: &[u8]) -> String {
     shown.lines().map(|line| format!("    {line}\n")).collect()
 }
 
-/// How often each answer was given, by its words; to a repeat and to a trim, and where there is no
-/// room, also by the call's word.
+/// How often each answer was given, by its words; to a repeat, a trim and a heard, and where there
+/// is no room, also by the call's word; to a Lease and to its answer also by the mail's kind.
 #[derive(Default)]
 struct Met(BTreeMap<String, u64>);
 
-/// What a repeat and a trim must have been refused with.
-const REFUSED: [&str; 5] = [
+/// What a repeat, a trim and a heard must have been refused with, and a Lease whose answer has no
+/// room.
+const REFUSED: [&str; 8] = [
     "repeat refused 2",
     "repeat refused 3",
     "repeat refused 8",
     "trim refused 2",
     "trim refused 3",
+    "heard refused 2",
+    "heard refused 3",
+    "Lease refused 8",
 ];
 /// What must have become of a box that was far behind.
 const WHOLE: &str = "book taken whole";
@@ -36,7 +41,8 @@ const WHOLE: &str = "book taken whole";
 const FULL: [&str; 3] = ["propose refused 7", "ready refused 7", "mail refused 7"];
 
 impl Met {
-    fn count(&mut self, asked: &[u8], answer: &str) {
+    /// What was asked of this site, where there was one, and the answer.
+    fn count(&mut self, site: Option<&Site>, asked: &[u8], answer: &str) {
         let words: Vec<_> = answer.trim_end().split(' ').collect();
         let answer = match words[..] {
             ["refused", number] | [_, "refused", number] => format!("refused {number}"),
@@ -44,9 +50,12 @@ impl Met {
             ["done" | "taken", _] => words[0].into(),
             _ => "printed".into(),
         };
+        if let Some(kind @ (Kind::Lease | Kind::LeaseAck)) = site.and_then(|s| handed(s, asked)) {
+            *self.0.entry(format!("{kind:?} {answer}")).or_default() += 1;
+        }
         let asked = asked.split(|byte| *byte == b' ').next().unwrap_or_default();
         let asked = String::from_utf8_lossy(asked);
-        if matches!(&asked[..], "repeat" | "trim") || answer == "refused 7" {
+        if matches!(&asked[..], "repeat" | "trim" | "heard") || answer == "refused 7" {
             *self.0.entry(format!("{asked} {answer}")).or_default() += 1;
         }
         *self.0.entry(answer).or_default() += 1;
@@ -78,6 +87,15 @@ impl Met {
         }
         missed.is_empty() && !gone
     }
+}
+
+/// The kind of the mail that is handed over.
+fn handed(site: &Site, asked: &[u8]) -> Option<Kind> {
+    let Some(Line::Call(Call::Deliver(a, b))) = read_line(asked.trim_ascii_end()) else {
+        return None;
+    };
+    let pair = site.pairs().contains(&(a, b));
+    pair.then(|| site.link(a, b).front().map(|mail| mail.kind)).flatten()
 }
 
 /// Of two that differ the first line that does, or else the statuses; of a death how it ended. Then
@@ -156,14 +174,14 @@ fn show_replay(other: &Other, seed: u64, expected: &Said, run: &Run) {
     show_difference(&expected, &run);
 }
 
-fn count_whole(met: &mut Met, lines: &[Vec<u8>]) {
+/// What a replay meets on its way, line by line.
+fn count_lines(met: &mut Met, lines: &[Vec<u8>], answers: &str) {
     let mut site = None;
-    for line in lines {
+    for (line, answer) in lines.iter().zip(answers.lines()) {
         let before = site.clone();
-        if trace::replay_line(&mut site, line.strip_suffix(b"\n"), Fault::None).is_err() {
-            break;
-        }
-        if let (Some(before), Some(after)) = (&before, &site) {
+        let refused = trace::replay_line(&mut site, line.strip_suffix(b"\n"), Fault::None);
+        met.count(before.as_ref(), line, answer);
+        if let (Some(before), Some(after), Ok(())) = (&before, &site, refused) {
             met.count_whole(before, after);
         }
     }
@@ -180,11 +198,9 @@ pub fn replays(other: &Other, seed: u64, count: u64) -> bool {
             return false;
         }
         met.count_status(&expected);
-        count_whole(&mut met, &lines);
-        for (asked, answer) in lines.iter().zip(String::from_utf8_lossy(&expected.text).lines()) {
-            met.count(asked, answer);
-            printed += 1;
-        }
+        let answers = String::from_utf8_lossy(&expected.text);
+        count_lines(&mut met, &lines, &answers);
+        printed += answers.lines().count();
     }
     let long = ["site 1 1 1\n", &"elect 1\ntimeout 1\n".repeat(500_000)].concat().into_bytes();
     for (name, input) in [("no input", vec![]), ("a million lines, to the last epoch", long)] {
@@ -197,12 +213,13 @@ pub fn replays(other: &Other, seed: u64, count: u64) -> bool {
         }
         let answers = String::from_utf8_lossy(&expected.text);
         if let Some(last) = answers.lines().last() {
-            met.count(b"timeout 1", last);
+            met.count(None, b"timeout 1", last);
         }
     }
     println!("{count} traces from seed {seed}, {printed} lines, and one of a million: the same");
-    let statuses = ["printed", "repeat printed", "trim printed", "status 0", "status 1"];
-    let others = [&statuses[..], &REFUSED, &FULL[..1], &[WHOLE]].concat();
+    let statuses = ["printed", "status 0", "status 1"];
+    let words = ["repeat printed", "trim printed", "heard printed", "LeaseAck printed"];
+    let others = [&statuses[..], &words, &REFUSED, &FULL[..1], &[WHOLE]].concat();
     met.all(&[2, 3, 4, 5, 7, 8, 10, 11, 13, 14], &others)
 }
 
@@ -296,9 +313,10 @@ pub fn applies(other: &Other, seed: u64, count: u64, longest: usize) -> bool {
         for (k, line) in seeds.iter().zip(lines) {
             let answer = trace::apply(&[&line[..], b"\n"].concat(), Fault::None);
             let asked = line.splitn(2, |byte| *byte == b' ').nth(1).unwrap_or_default();
-            met.count(asked, &String::from_utf8_lossy(&answer.text));
-            if let (Some(before), Some(after)) = (image_of(&line), image_of(&answer.text)) {
-                met.count_whole(&before, &after);
+            let before = image_of(&line);
+            met.count(before.as_ref(), asked, &String::from_utf8_lossy(&answer.text));
+            if let (Some(before), Some(after)) = (&before, image_of(&answer.text)) {
+                met.count_whole(before, &after);
             }
             if line.len() > 2 * SHORT_IMAGE + 65 && !answer.refused {
                 *met.0.entry("long image".into()).or_default() += 1;
@@ -325,9 +343,11 @@ pub fn applies(other: &Other, seed: u64, count: u64, longest: usize) -> bool {
     }
     println!("{tried} image steps from seed {seed}: the same");
     let causes = ["discarded role", "discarded phase", "discarded number", "discarded place"];
-    let answers = ["done", "taken", "repeat done", "trim done", "status 0", "status 1"];
+    let answers = ["done", "taken", "status 0", "status 1"];
+    let words = ["repeat done", "trim done", "heard done"];
+    let acks = ["LeaseAck taken", "LeaseAck discarded role", "LeaseAck discarded phase"];
     let long: &[&str] = if longest > SHORT_IMAGE { &["long image"] } else { &[] };
-    let others = [&answers[..], &causes, &REFUSED, &FULL, &[WHOLE], long].concat();
+    let others = [&answers[..], &words, &acks, &causes, &REFUSED, &FULL, &[WHOLE], long].concat();
     met.all(&[1, 2, 3, 4, 5, 6, 7, 8, 10, 11, 14], &others)
 }
 
@@ -384,6 +404,7 @@ fn simpler_sites(site: &Site) -> Vec<Site> {
         with(&|s| s.at_mut(c).best = fresh.best);
         with(&|s| s.at_mut(c).answered = 0);
         with(&|s| s.at_mut(c).accepts = 0);
+        with(&|s| s.at_mut(c).heard = 0);
         with(&|s| s.at_mut(c).waiting = 0);
         with(&|s| s.at_mut(c).agreeing = 0);
         with(&|s| s.at_mut(c).peers.fill(UNKNOWN));

@@ -20,6 +20,14 @@ pub enum Fault {
     KeptUnderGap,
     OldFirstInCommits,
     FullBeforeRaise,
+    AckAccepts,
+    AckWithPn,
+    AckOfDiscarded,
+    AckDroppedWhenFull,
+    AckByPlace,
+    HeardKept,
+    HeardByMajority,
+    NoProposeWhenHeard,
 }
 
 /// Where a fault shows.
@@ -30,14 +38,15 @@ pub enum Shows {
     /// It breaks its rule's own sentence. With a majority of all n the accepts still meet every
     /// later election, a box that was told too little is told the rest at the next one, a number
     /// that jumps too far is above the old one, a box that was told of a lower first keeps more
-    /// than it need, and one that refuses a Begin for which it has room holds nothing wrong.
+    /// than it need, and one that refuses a Begin for which it has room holds nothing wrong. Who
+    /// heard a lease is told to the crew, and no record is agreed by it.
     InRule,
     /// On sites that the steps do not reach, and on no others.
     OnForeign,
 }
 
 /// Each fault, its name, and where a walk notices it.
-pub const FAULTS: [(Fault, &str, Shows); 16] = [
+pub const FAULTS: [(Fault, &str, Shows); 24] = [
     (Fault::MajorityOfPresent, "majority-of-present", Shows::InDemand),
     (Fault::MajorityOfSite, "majority-of-site", Shows::InRule),
     (Fault::PromiseClearedAtStop, "promise-cleared-at-stop", Shows::InDemand),
@@ -54,4 +63,12 @@ pub const FAULTS: [(Fault, &str, Shows); 16] = [
     (Fault::KeptUnderGap, "kept-under-gap", Shows::InDemand),
     (Fault::OldFirstInCommits, "old-first-in-commits", Shows::InRule),
     (Fault::FullBeforeRaise, "full-before-raise", Shows::InRule),
+    (Fault::AckAccepts, "ack-accepts", Shows::InDemand),
+    (Fault::AckWithPn, "ack-with-pn", Shows::InDemand),
+    (Fault::AckOfDiscarded, "ack-of-discarded", Shows::InRule),
+    (Fault::AckDroppedWhenFull, "ack-dropped-when-full", Shows::InRule),
+    (Fault::AckByPlace, "ack-by-place", Shows::OnForeign),
+    (Fault::HeardKept, "heard-kept", Shows::InRule),
+    (Fault::HeardByMajority, "heard-by-majority", Shows::InRule),
+    (Fault::NoProposeWhenHeard, "no-propose-when-heard", Shows::InRule),
 ];

@@ -62,7 +62,7 @@ fn some_kept(r: &mut Random, last: u32, j: u32) -> u32 {
 
 fn some_kind(r: &mut Random, to_leader: bool) -> Kind {
     match (r.percent(70), to_leader) {
-        (true, true) => r.pick(&[Kind::Last, Kind::Last, Kind::Accept]),
+        (true, true) => r.pick(&[Kind::Last, Kind::Last, Kind::Accept, Kind::LeaseAck]),
         (true, false) => r.pick(&[Kind::Collect, Kind::Begin, Kind::Commit, Kind::Lease]),
         _ => r.pick(&KINDS),
     }
@@ -85,7 +85,7 @@ fn some_mail(r: &mut Random, j: u32, near: &Camera) -> Mail {
     let pn = if r.percent(60) { near.pn } else { some_pn(r) };
     Mail {
         kind,
-        pn: if kind == Kind::Lease { 0 } else { pn },
+        pn: if matches!(kind, Kind::Lease | Kind::LeaseAck) { 0 } else { pn },
         last,
         first: if Mail::carries_first(kind) { last + 1 - kept } else { 0 },
         unagreed_pn: if told { some_pn(r) } else { 0 },
@@ -110,6 +110,7 @@ fn some_box(r: &mut Random, sizes: Sizes, c: u32, about: u32) -> Camera {
             (State::Updating, Phase::Begin),
             (State::Refresh, Phase::Commit),
             (State::Active, Phase::Lease),
+            (State::Active, Phase::LeaseDone),
         ])
     } else {
         (r.pick(&STATES), r.pick(&PHASES))
@@ -126,6 +127,7 @@ fn some_box(r: &mut Random, sizes: Sizes, c: u32, about: u32) -> Camera {
         best: Best { pn: some_pn(r), number: number(r), record: record(r) },
         answered: some_set(r, n),
         accepts: some_set(r, n),
+        heard: some_set(r, n),
         waiting: record(r),
         agreeing: record(r),
         peers: (1..=n)
@@ -156,6 +158,7 @@ pub fn foreign(r: &mut Random, sizes: Sizes) -> Site {
                 (b.state, b.phase) = (State::Recovering, Phase::Election);
                 b.pn = HIGHEST_PN - 100 + c + r.below(3);
             }
+            5 => (b.state, b.phase) = (State::Active, Phase::Lease),
             _ => {}
         }
     }

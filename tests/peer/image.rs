@@ -14,7 +14,7 @@ fn box_body(b: &Camera) -> Vec<u8> {
     let mut body = vec![];
     put(&mut body, &[b.leads as u32, b.state as u32, b.phase as u32, b.pn, b.last]);
     put(&mut body, &[b.first, b.stored_pn, b.stored_number, b.best.pn, b.best.number]);
-    put(&mut body, &[b.answered, b.accepts]);
+    put(&mut body, &[b.answered, b.accepts, b.heard]);
     put_records(&mut body, &[b.best.record, b.waiting, b.agreeing]);
     put(&mut body, &b.peers);
     put(&mut body, &[b.records.len() as u32]);
@@ -91,6 +91,7 @@ impl Rest<'_> {
         b.best.number = self.word()?;
         b.answered = self.word()?;
         b.accepts = self.word()?;
+        b.heard = self.word()?;
         b.best.record = self.record()?;
         b.waiting = self.record()?;
         b.agreeing = self.record()?;

@@ -14,6 +14,7 @@ pub enum Call {
     Propose(u32),
     Agree(u32),
     Finish(u32),
+    Heard(u32),
     Stop(u32),
     Return(u32),
     Timeout(u32),
@@ -47,7 +48,8 @@ impl Call {
         match self {
             Call::Elect(c) | Call::Recover(c) | Call::Collect(c) | Call::Ready(c) => c,
             Call::Offer(c, ..) | Call::Propose(c) | Call::Agree(c) | Call::Finish(c) => c,
-            Call::Stop(c) | Call::Return(c) | Call::Timeout(c) | Call::Trim(c, _) => c,
+            Call::Heard(c) | Call::Trim(c, _) => c,
+            Call::Stop(c) | Call::Return(c) | Call::Timeout(c) => c,
             Call::Lose(a, _) | Call::Repeat(a, _) | Call::Deliver(a, _) => a,
         }
     }
@@ -97,14 +99,18 @@ pub fn step_with(site: &mut Site, call: Call, fault: Fault) -> Result<Answer, Re
         _ => {
             let c = call.at();
             let turn = site.at(c).clone().act(c, around, call)?;
-            settle(site, c, turn)
+            settle(site, c, turn, fault)
         }
     }
 }
 
 /// Sends the turn's mails, unless one would go onto a full link; then keeps the box.
-fn settle(site: &mut Site, c: u32, turn: Turn) -> Result<Answer, Refusal> {
-    if turn.out.iter().any(|(to, _)| site.link(c, *to).len() >= site.sizes.l as usize) {
+fn settle(site: &mut Site, c: u32, mut turn: Turn, fault: Fault) -> Result<Answer, Refusal> {
+    let room = |to: u32| site.link(c, to).len() < site.sizes.l as usize;
+    if fault == Fault::AckDroppedWhenFull {
+        turn.out.retain(|(to, mail)| mail.kind != Kind::LeaseAck || room(*to));
+    }
+    if turn.out.iter().any(|(to, _)| !room(*to)) {
         return Err(8);
     }
     for (to, mail) in turn.out {
@@ -174,7 +180,7 @@ fn repeat(site: &mut Site, a: u32, b: u32) -> Result<Answer, Refusal> {
 fn deliver(site: &mut Site, a: u32, b: u32, around: Around) -> Result<Answer, Refusal> {
     let mail = site.link(a, b).front().cloned().ok_or(3u32)?;
     let turn = site.at(b).clone().receive(b, around, a, &mail)?;
-    let answer = settle(site, b, turn)?;
+    let answer = settle(site, b, turn, around.fault)?;
     site.link_mut(a, b).pop_front();
     Ok(answer)
 }

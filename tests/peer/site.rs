@@ -30,14 +30,16 @@ pub enum Phase {
     Lease,
     Begin,
     Commit,
+    LeaseDone,
 }
-pub const PHASES: [Phase; 6] = [
+pub const PHASES: [Phase; 7] = [
     Phase::Election,
     Phase::SendCollect,
     Phase::Collect,
     Phase::Lease,
     Phase::Begin,
     Phase::Commit,
+    Phase::LeaseDone,
 ];
 
 #[derive(Clone, Copy, PartialEq, Eq, Debug)]
@@ -48,9 +50,17 @@ pub enum Kind {
     Accept,
     Commit,
     Lease,
+    LeaseAck,
 }
-pub const KINDS: [Kind; 6] =
-    [Kind::Collect, Kind::Last, Kind::Begin, Kind::Accept, Kind::Commit, Kind::Lease];
+pub const KINDS: [Kind; 7] = [
+    Kind::Collect,
+    Kind::Last,
+    Kind::Begin,
+    Kind::Accept,
+    Kind::Commit,
+    Kind::Lease,
+    Kind::LeaseAck,
+];
 
 #[derive(Clone, Copy, PartialEq, Eq, Debug)]
 pub struct Sizes {
@@ -83,6 +93,8 @@ pub struct Camera {
     /// The boxes that answered, the leader among them.
     pub answered: u32,
     pub accepts: u32,
+    /// The boxes that answered the lease, the leader among them.
+    pub heard: u32,
     pub waiting: Record,
     pub agreeing: Record,
     pub peers: Vec<u32>,
@@ -166,6 +178,7 @@ impl Camera {
             best: Best::default(),
             answered: 0,
             accepts: 0,
+            heard: 0,
             waiting: 0,
             agreeing: 0,
             peers: vec![UNKNOWN; n as usize],
@@ -206,7 +219,7 @@ impl Camera {
         [self.pn, self.stored_pn, self.best.pn].iter().all(|pn| *pn <= HIGHEST_PN)
             && numbers.iter().all(|number| *number <= MOST)
             && first_by_form(self.first, self.last)
-            && [self.answered, self.accepts].iter().all(|set| *set <= everyone(n))
+            && [self.answered, self.accepts, self.heard].iter().all(|set| *set <= everyone(n))
             && [self.best.record, self.waiting, self.agreeing].iter().all(|r| *r == 0 || proper(*r))
             && (1..=n).all(|k| {
                 let last = self.peers[k as usize - 1];
@@ -247,7 +260,7 @@ impl Mail {
                 Kind::Last => count == self.kept() || told(),
                 Kind::Commit => count == self.kept(),
                 Kind::Begin => count == 1 && self.last < MOST,
-                Kind::Lease => count == 0 && self.pn == 0,
+                Kind::Lease | Kind::LeaseAck => count == 0 && self.pn == 0,
                 Kind::Collect | Kind::Accept => count == 0,
             }
     }

@@ -93,10 +93,36 @@ fn edge_trim(site: &Site, r: &mut Random) -> Call {
     Call::Trim(c, r.pick(&[0, first, first + 1, last, last + 1, last + 1]))
 }
 
+/// Calls up to a Lease that is repeated and answered until the next answer has no room.
+fn unanswerable_lease(site: &mut Site, r: &mut Random, style: &Style) -> Vec<Call> {
+    let head = |site: &Site, (a, b): (u32, u32)| site.link(a, b)[0].kind;
+    let lease = |site: &Site| full_links(site).into_iter().find(|l| head(site, *l) == Kind::Lease);
+    let mut made = vec![];
+    let mut play = |site: &mut Site, call| {
+        if step(site, call).is_ok() {
+            made.push(call)
+        }
+    };
+    for frame in 1000..1200 {
+        if lease(site).is_some() {
+            break;
+        }
+        let call = likely_call(site, r, style, frame);
+        play(site, call);
+    }
+    if let Some((a, b)) = lease(site) {
+        play(site, Call::Repeat(a, b));
+        play(site, Call::Deliver(a, b));
+        (0..site.sizes.l).for_each(|_| play(site, Call::Repeat(b, a)));
+        made.push(Call::Deliver(a, b));
+    }
+    made
+}
+
 fn ending(site: &mut Site, r: &mut Random, style: &Style) -> Vec<u8> {
     let n = site.sizes.n;
     let line = |call| call_text(call) + "\n";
-    match r.below(12) {
+    match r.below(14) {
         0 => vec![],
         1 => [spoilt(&call_text(any_call(n, r)), r), b"\n".to_vec()].concat(),
         2 => (holds_text(site, r, false).unwrap() + "\n").into_bytes(),
@@ -110,11 +136,16 @@ fn ending(site: &mut Site, r: &mut Random, style: &Style) -> Vec<u8> {
                 .collect::<String>()
                 .into_bytes()
         }
-        6 => line(leader_call(site, site.leader().unwrap_or(1), 1)).into_bytes(),
+        6 => line(leader_call(site, r, site.leader().unwrap_or(1), 1)).into_bytes(),
         7 => (0..20).map(|_| line(any_call(n, r))).collect::<String>().into_bytes(),
         8 => line(some_repeat(site, r)).repeat(site.sizes.l as usize).into_bytes(),
         9 => line(Call::Offer(r.from(0, n + 1), r.below(2), r.below(2))).into_bytes(),
         10 => line(edge_trim(site, r)).into_bytes(),
+        11 => line(Call::Heard(r.from(0, n + 1))).into_bytes(),
+        12 => {
+            let calls = unanswerable_lease(site, r, style);
+            calls.into_iter().map(line).collect::<String>().into_bytes()
+        }
         _ => {
             let mut lines = String::new();
             for frame in 1000..1200 {
@@ -173,7 +204,7 @@ fn some_sizes(r: &mut Random) -> Sizes {
 /// the leader's next, which may have to wait for others.
 fn fitting_call(site: &Site, r: &mut Random) -> Call {
     if let Some(c) = site.leader().filter(|_| r.percent(10)) {
-        return leader_call(site, c, 3);
+        return leader_call(site, r, c, 3);
     }
     if let Some(trim) = some_trim(site, r).filter(|_| r.percent(5)) {
         return trim;
@@ -199,14 +230,15 @@ fn some_call(site: &Site, r: &mut Random) -> Call {
     }
     let c = site.leader().unwrap_or(1);
     if r.percent(50) {
-        return match r.below(7) {
+        return match r.below(8) {
             0 => Call::Recover(c),
             1 => Call::Collect(c),
             2 => Call::Ready(c),
             3 => Call::Offer(c, 3, 4),
             4 => Call::Propose(c),
             5 => Call::Agree(c),
-            _ => Call::Finish(c),
+            6 => Call::Finish(c),
+            _ => Call::Heard(c),
         };
     }
     any_call(site.sizes.n, r)

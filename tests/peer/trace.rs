@@ -17,7 +17,7 @@ const LONGEST_LINE: usize = 64;
 /// mails with all 4,096 records.
 pub const LONGEST_IMAGE: usize = {
     let (n, j, l) = (5, 4096, 16);
-    4 + 8 * (n + 2) + 20 + n * (76 + 4 * n + 8 * j) + n * (n - 1) * (4 + l * (24 + 8 * j))
+    4 + 8 * (n + 2) + 20 + n * (80 + 4 * n + 8 * j) + n * (n - 1) * (4 + l * (24 + 8 * j))
 };
 
 fn decimal(word: &[u8]) -> Option<u32> {
@@ -49,6 +49,7 @@ pub fn read_line(line: &[u8]) -> Option<Line> {
         (b"propose", &[c]) => Line::Call(Call::Propose(c)),
         (b"agree", &[c]) => Line::Call(Call::Agree(c)),
         (b"finish", &[c]) => Line::Call(Call::Finish(c)),
+        (b"heard", &[c]) => Line::Call(Call::Heard(c)),
         (b"stop", &[c]) => Line::Call(Call::Stop(c)),
         (b"return", &[c]) => Line::Call(Call::Return(c)),
         (b"timeout", &[c]) => Line::Call(Call::Timeout(c)),
@@ -70,6 +71,7 @@ pub fn call_text(call: Call) -> String {
         Call::Propose(c) => format!("propose {c}"),
         Call::Agree(c) => format!("agree {c}"),
         Call::Finish(c) => format!("finish {c}"),
+        Call::Heard(c) => format!("heard {c}"),
         Call::Stop(c) => format!("stop {c}"),
         Call::Return(c) => format!("return {c}"),
         Call::Timeout(c) => format!("timeout {c}"),

@@ -61,6 +61,13 @@ impl Around {
         }
     }
 
+    fn enough_hearers(&self, heard: u32) -> bool {
+        match self.fault {
+            Fault::HeardByMajority => (heard & self.present).count_ones() >= majority(self.count()),
+            _ => heard & self.present == self.present,
+        }
+    }
+
     /// The smallest number above the old one whose last two digits are the rank.
     fn new_pn(&self, old: u32, rank: u32) -> Result<u32, Refusal> {
         let near = old / 100 * 100 + rank;
@@ -191,6 +198,7 @@ impl Camera {
             Call::Propose(_) => self.propose(c, around),
             Call::Agree(_) => self.agree(c, around),
             Call::Finish(_) => self.finish(c, around),
+            Call::Heard(_) => self.heard(around),
             Call::Trim(_, k) => self.trim(c, around, k),
             _ => unreachable!("a step of the site"),
         }
@@ -233,6 +241,8 @@ impl Camera {
     fn lease(mut self, c: u32, around: Around) -> Result<Turn, Refusal> {
         self.state = State::Active;
         self.phase = Phase::Lease;
+        let before = if around.fault == Fault::HeardKept { self.heard } else { 0 };
+        self.heard = before | only(c);
         let mail = Mail::bare(Kind::Lease, 0, self.last);
         done(self, around.to_others(c, mail))
     }
@@ -258,7 +268,8 @@ impl Camera {
 
     fn propose(mut self, c: u32, around: Around) -> Result<Turn, Refusal> {
         needs(self.leads && self.state == State::Active && self.waiting != 0)?;
-        needs(self.phase == Phase::Lease || self.phase == Phase::Election)?;
+        let heard = self.phase == Phase::LeaseDone && around.fault != Fault::NoProposeWhenHeard;
+        needs(heard || self.phase == Phase::Lease || self.phase == Phase::Election)?;
         self.state = State::Updating;
         let r = std::mem::take(&mut self.waiting);
         self.start(c, around, r)
@@ -281,6 +292,14 @@ impl Camera {
         self.lease(c, around)
     }
 
+    /// All present have answered the lease.
+    fn heard(mut self, around: Around) -> Result<Turn, Refusal> {
+        needs(self.leads && self.phase == Phase::Lease)?;
+        needs(around.enough_hearers(self.heard))?;
+        self.phase = Phase::LeaseDone;
+        done(self, vec![])
+    }
+
     /// At a present box, whoever leads.
     fn trim(mut self, c: u32, around: Around, k: u32) -> Result<Turn, Refusal> {
         let most = self.last + (around.fault == Fault::TrimPastLast) as u32;
@@ -297,7 +316,9 @@ impl Camera {
             return Err(9);
         }
         if let Some(cause) = self.discards(around, mail) {
-            return Ok(Turn { answer: Answer::Discarded(cause), next: self, out: vec![] });
+            let replies = around.fault == Fault::AckOfDiscarded && mail.kind == Kind::Lease;
+            let out = if replies { vec![(from, self.lease_ack(around.fault))] } else { vec![] };
+            return Ok(Turn { answer: Answer::Discarded(cause), next: self, out });
         }
         match mail.kind {
             Kind::Collect => self.on_collect(around, from, mail),
@@ -305,7 +326,10 @@ impl Camera {
             Kind::Begin => self.on_begin(around, from, mail),
             Kind::Accept => self.on_accept(from),
             Kind::Commit => self.on_commit(around, mail),
-            Kind::Lease => self.on_lease(),
+            Kind::Lease => self.on_lease(around, from),
+            // in phase Begin by a broken rule alone
+            Kind::LeaseAck if self.phase == Phase::Begin => self.on_accept(from),
+            Kind::LeaseAck => self.on_lease_ack(from),
         }
     }
 
@@ -321,6 +345,12 @@ impl Camera {
             Kind::Begin => [self.leads, false, number, place],
             Kind::Accept => [!self.leads, self.phase != Phase::Begin, number, place],
             Kind::Lease => [self.leads, false, false, place],
+            Kind::LeaseAck => {
+                let counts = around.fault == Fault::AckAccepts && self.phase == Phase::Begin;
+                let by_place = around.fault == Fault::AckByPlace;
+                let closed = self.phase != Phase::Lease && !counts;
+                [!self.leads, closed, false, by_place && place]
+            }
         };
         let names = [Cause::Role, Cause::Phase, Cause::Number, Cause::Place];
         causes.iter().position(|applies| *applies).map(|first| names[first])
@@ -370,7 +400,7 @@ impl Camera {
             self.phase = Phase::SendCollect;
         } else if mail.pn == self.pn {
             self.answered = around.joined(self.answered, from);
-            became = self.hear(around, mail);
+            became = self.be_told(around, mail);
         }
         if !became {
             self.clear_stale_best();
@@ -379,15 +409,15 @@ impl Camera {
     }
 
     /// Whether the unagreed record of a Last became the best.
-    fn hear(&mut self, around: Around, mail: &Mail) -> bool {
+    fn be_told(&mut self, around: Around, mail: &Mail) -> bool {
         let Some(record) = mail.records.get(mail.kept()).copied() else { return false };
-        let heard = Best { pn: mail.unagreed_pn, number: mail.last + 1, record };
+        let told = Best { pn: mail.unagreed_pn, number: mail.last + 1, record };
         let better = match around.fault {
-            Fault::FirstHeard => self.best.number != heard.number,
-            _ => heard.number >= self.best.number && heard.pn >= self.best.pn,
+            Fault::FirstHeard => self.best.number != told.number,
+            _ => told.number >= self.best.number && told.pn >= self.best.pn,
         };
         if mail.last >= self.last && better {
-            self.best = heard;
+            self.best = told;
             return true;
         }
         false
@@ -417,8 +447,19 @@ impl Camera {
         taken(self, vec![])
     }
 
-    fn on_lease(mut self) -> Result<Turn, Refusal> {
+    fn lease_ack(&self, fault: Fault) -> Mail {
+        let pn = if fault == Fault::AckWithPn { self.pn } else { 0 };
+        Mail::bare(Kind::LeaseAck, pn, self.last)
+    }
+
+    fn on_lease(mut self, around: Around, from: u32) -> Result<Turn, Refusal> {
         self.state = State::Active;
+        let reply = self.lease_ack(around.fault);
+        taken(self, vec![(from, reply)])
+    }
+
+    fn on_lease_ack(mut self, from: u32) -> Result<Turn, Refusal> {
+        self.heard |= only(from);
         taken(self, vec![])
     }
 }

@@ -21,20 +21,25 @@ pub struct Told {
     trimmed: u64,
     whole: u64,
     beyond: u64,
+    acks: u64,
+    heard: u64,
 }
 
 impl Told {
     /// A step was done.
-    fn count(&mut self, site: &Site, call: Call, before: Before) {
+    fn count(&mut self, site: &Site, call: Call, answer: Answer, before: Before) {
         self.steps += 1;
         match call {
             Call::Elect(_) => self.elections += 1,
             Call::Repeat(..) => self.repeated += 1,
             Call::Trim(..) => self.trimmed += 1,
+            Call::Heard(_) => self.heard += 1,
             Call::Ready(c) if site.at(c).state == State::UpdatingPrevious => self.recovered += 1,
             Call::Deliver(_, c) => {
                 self.shared += (site.at(c).last > before.last + 1) as u64;
                 self.whole += (site.at(c).first > before.last + 1) as u64;
+                let noted = before.kind == Some(Kind::LeaseAck) && answer == Answer::Taken;
+                self.acks += noted as u64;
             }
             _ => {}
         }
@@ -50,6 +55,8 @@ impl Told {
         self.trimmed += more.trimmed;
         self.whole += more.whole;
         self.beyond += more.beyond;
+        self.acks += more.acks;
+        self.heard += more.heard;
     }
 }
 
@@ -61,7 +68,7 @@ fn demand_alone(fault: Fault) -> bool {
 /// A step that is counted, and what is wrong after it; a refused one leaves the site.
 fn looked(
     site: &mut Site,
-    journal: &mut Journal,
+    (journal, leases): (&mut Journal, &mut Leases),
     told: &mut Told,
     call: Call,
     fault: Fault,
@@ -71,10 +78,12 @@ fn looked(
         Ok(answer) => answer,
         Err(9) => return Err("refused 9".into()),
         Err(7) if !demand_alone(fault) => return look_at_room(call),
+        Err(3) if !demand_alone(fault) => return look_at_propose(site, call),
         Err(_) => return Ok(()),
     };
     journal.note(call);
-    told.count(site, call, before);
+    leases.note(call, answer, before);
+    told.count(site, call, answer, before);
     journal.look(site)?;
     if !site.by_form() {
         return Err("not by form".into());
@@ -83,6 +92,8 @@ fn looked(
         return Ok(());
     }
     look_at_begins(site)?;
+    look_at_acks(site)?;
+    leases.look(site)?;
     look_at_rule(site, call, answer, before)
 }
 
@@ -94,9 +105,9 @@ fn play(
 ) -> (Told, Option<String>) {
     let mut calls = calls;
     let mut site = Site::fresh(sizes);
-    let (mut journal, mut told) = (Journal::default(), Told::default());
+    let (mut journal, mut leases, mut told) = Default::default();
     while let Some(call) = calls(&site) {
-        if let Err(wrong) = looked(&mut site, &mut journal, &mut told, call, fault) {
+        if let Err(wrong) = looked(&mut site, (&mut journal, &mut leases), &mut told, call, fault) {
             return (told, Some(wrong));
         }
     }
@@ -188,14 +199,16 @@ pub fn right(seed: u64, walks: u64, steps: u32) -> bool {
         }
         all.add(told);
     }
-    let Told { steps, agreed, elections, recovered, shared, repeated, trimmed, whole, beyond } =
-        all;
+    let Told { steps, agreed, elections, recovered, shared, repeated, .. } = all;
+    let Told { trimmed, whole, beyond, acks, heard, .. } = all;
     println!("{walks} walks from seed {seed}, {steps} steps: demand 3 and form held after each");
     println!("  {elections} elections, {agreed} loads agreed, {recovered} started again,");
     println!("  {shared} times a box caught up by two or more, {repeated} mails repeated,");
-    println!("  {trimmed} trims, {whole} books taken whole, {beyond} loads agreed beyond J");
+    println!("  {trimmed} trims, {whole} books taken whole, {beyond} loads agreed beyond J,");
+    println!("  {acks} LeaseAcks noted, {heard} leases heard by all present");
     let much = agreed > walks && repeated > walks && trimmed > walks && beyond > walks;
-    much && recovered > walks / 10 && whole > walks / 10 && shared > 0
+    let silence = acks > walks && heard > walks;
+    much && silence && recovered > walks / 10 && whole > walks / 10 && shared > 0
 }
 
 /// Under a broken rule some walk must go wrong.

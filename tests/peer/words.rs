@@ -14,9 +14,9 @@ use std::collections::VecDeque;
 
 const GENERAL: usize = 5;
 pub const LAST: usize = 4;
-const PEERS: std::ops::Range<usize> = 15..20;
-pub const COUNT: usize = 20;
-pub const RECORDS: usize = 21;
+const PEERS: std::ops::Range<usize> = 16..21;
+pub const COUNT: usize = 21;
+pub const RECORDS: usize = 22;
 pub const ENCLOSED: usize = 6;
 
 impl Sizes {
@@ -75,11 +75,12 @@ fn read_row(words: &[u64], sizes: Sizes) -> Option<Camera> {
         first: number(words[5])?,
         stored_pn: number(words[6])?,
         stored_number: number(words[7])?,
-        best: Best { pn: number(words[8])?, number: number(words[9])?, record: words[12] },
+        best: Best { pn: number(words[8])?, number: number(words[9])?, record: words[13] },
         answered: number(words[10])?,
         accepts: number(words[11])?,
-        waiting: words[13],
-        agreeing: words[14],
+        heard: number(words[12])?,
+        waiting: words[14],
+        agreeing: words[15],
         peers: peers.iter().map(|last| number(*last)).collect::<Option<_>>()?,
         records: words[RECORDS..][..count as usize].to_vec(),
     })
@@ -89,7 +90,7 @@ fn put_row(words: &mut [u64], b: &Camera) {
     let Best { pn, number, record } = b.best;
     let numbers = [b.leads as u32, b.state as u32, b.phase as u32, b.pn, b.last, b.first]
         .into_iter()
-        .chain([b.stored_pn, b.stored_number, pn, number, b.answered, b.accepts]);
+        .chain([b.stored_pn, b.stored_number, pn, number, b.answered, b.accepts, b.heard]);
     let values = [record, b.waiting, b.agreeing];
     let head = numbers.map(u64::from).chain(values).chain(b.peers.iter().map(|k| *k as u64));
     words.iter_mut().zip(head).for_each(|(word, value)| *word = value);

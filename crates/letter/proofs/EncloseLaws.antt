@@ -28,6 +28,7 @@ enclosed-part Kind.Begin l rs h = let b : l < length rs = omega arith in rw (dro
 enclosed-part Kind.Accept l rs h = refl
 enclosed-part Kind.Commit l rs h = refl
 enclosed-part Kind.Lease l rs h = refl
+enclosed-part Kind.LeaseAck l rs h = refl
 
 -- How many they are.
 pub count-enclosed : (k : Kind) (l : ℕ) (rs : List ℕ)

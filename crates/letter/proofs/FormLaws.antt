@@ -111,6 +111,8 @@ module _ (J pn last first unagreed count : ℕ) where
       full-kind Kind.Commit (leb-true pn mostPn p) (leb-true last mostNumber l) f (none-said u)
       (rw (f, eq-eqb (first + count) (last + 1) s, le-leb count J (h .room), u)) (h .room)
   kind-says Kind.Lease p l f u c = bare-kind Kind.Lease (none-said p) l f u c (rw (c, u, f, p))
+  kind-says Kind.LeaseAck p l f u c =
+      bare-kind Kind.LeaseAck (none-said p) l f u c (rw (c, u, f, p))
 
   -- .. and what says it holds field by field.
   pub record KindFits (k : Kind) : Type 0 where
@@ -129,18 +131,21 @@ module _ (J pn last first unagreed count : ℕ) where
         second-of (eqb count 0 && eqb unagreed 0) (eqb first 0) e,
       )
 
+  bare-fits : (k : Kind) → pnFits k pn ≡ true → lastFits k last ≡ true
+      → (countFits k J first last unagreed count ≡ true) × (unagreedFits k unagreed ≡ true)
+      × (firstFits k first last ≡ true) → KindFits k
+  bare-fits k p l b = record {
+    pn-fits = p;
+    last-fits = l;
+    first-fits = b .2;
+    unagreed-fits = b .1;
+    count-fits = b .0;
+  }
+
   pub kind-fits : (k : Kind) → formKind k J pn last first unagreed count ≡ true
       → leb pn mostPn ≡ true → leb unagreed mostPn ≡ true → leb last mostNumber ≡ true → KindFits k
   unfolding formKind
-  kind-fits Kind.Collect g p u l =
-      let b = bare-says g in
-      record {
-        pn-fits = p;
-        last-fits = l;
-        first-fits = b .2;
-        unagreed-fits = b .1;
-        count-fits = b .0;
-      }
+  kind-fits Kind.Collect g p u l = bare-fits Kind.Collect p l (bare-says g)
   kind-fits Kind.Last g p u l =
       let two = first-of (firstForm first last && countForm J first last count) _ g in
       let f = first-of (firstForm first last) _ two in
@@ -184,15 +189,7 @@ module _ (J pn last first unagreed count : ℕ) where
             (eqb unagreed 0) g;
         count-fits = second-of (firstForm first last) _ two;
       }
-  kind-fits Kind.Accept g p u l =
-      let b = bare-says g in
-      record {
-        pn-fits = p;
-        last-fits = l;
-        first-fits = b .2;
-        unagreed-fits = b .1;
-        count-fits = b .0;
-      }
+  kind-fits Kind.Accept g p u l = bare-fits Kind.Accept p l (bare-says g)
   kind-fits Kind.Commit g p u l =
       let three = first-of
       (firstForm first last && eqb (first + count) (last + 1) && leb count J) _ g in
@@ -215,14 +212,11 @@ module _ (J pn last first unagreed count : ℕ) where
             });
       }
   kind-fits Kind.Lease g p u l =
-      let b = bare-says (first-of (bare first unagreed count) _ g) in
-      record {
-        pn-fits = second-of (bare first unagreed count) _ g;
-        last-fits = l;
-        first-fits = b .2;
-        unagreed-fits = b .1;
-        count-fits = b .0;
-      }
+      bare-fits Kind.Lease (second-of (bare first unagreed count) _ g) l
+      (bare-says (first-of (bare first unagreed count) _ g))
+  kind-fits Kind.LeaseAck g p u l =
+      bare-fits Kind.LeaseAck (second-of (bare first unagreed count) _ g) l
+      (bare-says (first-of (bare first unagreed count) _ g))
 
 -- ---- the words of a head
 

@@ -15,7 +15,7 @@ use Rattle.values.specs.declared.Field.{Field}
 use Rattle.letter.specs.Place.{kindOf, mostKind}
 use Rattle.letter.specs.Place.{kindAt, pnAt, lastAt, firstAt, unagreedAt, countAt}
 
--- "pn (0 in Lease)"
+-- "pn (0 in Lease)", and in LeaseAck (Q-12)
 abbrev pub pnFits : Kind → ℕ → Bool
 pnFits Kind.Collect pn = leb pn mostPn
 pnFits Kind.Last pn = leb pn mostPn
@@ -23,6 +23,7 @@ pnFits Kind.Begin pn = leb pn mostPn
 pnFits Kind.Accept pn = leb pn mostPn
 pnFits Kind.Commit pn = leb pn mostPn
 pnFits Kind.Lease pn = eqb pn 0
+pnFits Kind.LeaseAck pn = eqb pn 0
 
 -- "run to 1,000,000,000 (Begin's last below it)" (Q-4)
 abbrev pub lastFits : Kind → ℕ → Bool
@@ -32,6 +33,7 @@ lastFits Kind.Begin last = ltb last mostNumber
 lastFits Kind.Accept last = leb last mostNumber
 lastFits Kind.Commit last = leb last mostNumber
 lastFits Kind.Lease last = leb last mostNumber
+lastFits Kind.LeaseAck last = leb last mostNumber
 
 -- "Last, Commit and Begin carry the sender's first, under the same form" (Q-4)
 abbrev pub firstFits : Kind → ℕ → ℕ → Bool
@@ -41,6 +43,7 @@ firstFits Kind.Begin first last = firstForm first last
 firstFits Kind.Accept first last = eqb first 0
 firstFits Kind.Commit first last = firstForm first last
 firstFits Kind.Lease first last = eqb first 0
+firstFits Kind.LeaseAck first last = eqb first 0
 
 -- "unagreed pn is 0 except in a Last .."
 abbrev pub unagreedFits : Kind → ℕ → Bool
@@ -50,6 +53,7 @@ unagreedFits Kind.Begin unagreed = eqb unagreed 0
 unagreedFits Kind.Accept unagreed = eqb unagreed 0
 unagreedFits Kind.Commit unagreed = eqb unagreed 0
 unagreedFits Kind.Lease unagreed = eqb unagreed 0
+unagreedFits Kind.LeaseAck unagreed = eqb unagreed 0
 
 -- ".. with last+1 records"; "Last holds last or last+1 records (at most J), Commit holds last,
 -- Begin one .., the rest none"; "from [first] on" (Q-4)
@@ -61,6 +65,7 @@ countFits Kind.Begin J first last unagreed count = eqb count 1 && leb count J
 countFits Kind.Accept J first last unagreed count = eqb count 0
 countFits Kind.Commit J first last unagreed count = agreedCount J first last count
 countFits Kind.Lease J first last unagreed count = eqb count 0
+countFits Kind.LeaseAck J first last unagreed count = eqb count 0
 
 -- the first of a letter's words that is not by form
 unfoldable pub headFault : ℕ → List ℕ → Fault

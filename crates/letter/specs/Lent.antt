@@ -42,6 +42,7 @@ enclosedFrom Kind.Begin a = a
 enclosedFrom Kind.Accept a = 0
 enclosedFrom Kind.Commit a = 0
 enclosedFrom Kind.Lease a = 0
+enclosedFrom Kind.LeaseAck a = 0
 
 -- .. and how many they are, of those held
 abbrev pub enclosedCount : Kind → ℕ → ℕ → ℕ
@@ -51,6 +52,7 @@ enclosedCount Kind.Begin a held = 1
 enclosedCount Kind.Accept a held = 0
 enclosedCount Kind.Commit a held = a
 enclosedCount Kind.Lease a held = 0
+enclosedCount Kind.LeaseAck a held = 0
 
 -- rs has the records that go with m, and p has room for them
 pub record Encloses (p : List ℕ) (m : Mail) (rs : List ℕ) : Type 0 where

@@ -42,7 +42,7 @@ headWords = 6
 
 -- kinds 1 to this are by form
 abbrev pub mostKind : ℕ
-mostKind = 6
+mostKind = 7
 
 -- the kind that has this number
 abbrev pub kindOf : ℕ → Kind
@@ -52,7 +52,8 @@ kindOf (suc (suc zero)) = Kind.Last
 kindOf (suc (suc (suc zero))) = Kind.Begin
 kindOf (suc (suc (suc (suc zero)))) = Kind.Accept
 kindOf (suc (suc (suc (suc (suc zero))))) = Kind.Commit
-kindOf (suc (suc (suc (suc (suc (suc x)))))) = Kind.Lease
+kindOf (suc (suc (suc (suc (suc (suc zero)))))) = Kind.Lease
+kindOf (suc (suc (suc (suc (suc (suc (suc x))))))) = Kind.LeaseAck
 
 abbrev pub mailAt : List ℕ → Mail
 mailAt p = record {

@@ -37,6 +37,7 @@ fn is_pn(k: Kind, pn: u64) -> bool
         Kind::Accept => pn <= MOST_PN,
         Kind::Commit => pn <= MOST_PN,
         Kind::Lease => pn == 0,
+        Kind::LeaseAck => pn == 0,
     }
 }
 
@@ -51,6 +52,7 @@ fn is_last(k: Kind, last: u64) -> bool
         Kind::Accept => last <= MOST_NUMBER,
         Kind::Commit => last <= MOST_NUMBER,
         Kind::Lease => last <= MOST_NUMBER,
+        Kind::LeaseAck => last <= MOST_NUMBER,
     }
 }
 
@@ -66,6 +68,7 @@ fn is_first(k: Kind, first: u64, last: u64) -> bool
         Kind::Accept => first == 0,
         Kind::Commit => carried,
         Kind::Lease => first == 0,
+        Kind::LeaseAck => first == 0,
     }
 }
 
@@ -80,6 +83,7 @@ fn is_unagreed(k: Kind, unagreed: u64) -> bool
         Kind::Accept => unagreed == 0,
         Kind::Commit => unagreed == 0,
         Kind::Lease => unagreed == 0,
+        Kind::LeaseAck => unagreed == 0,
     }
 }
 
@@ -98,6 +102,7 @@ fn is_count(k: Kind, j: u32, first: u64, last: u64, unagreed: u64, count: u64) -
         Kind::Accept => count == 0,
         Kind::Commit => agreed,
         Kind::Lease => count == 0,
+        Kind::LeaseAck => count == 0,
     }
 }
 
@@ -108,7 +113,7 @@ pub fn head_fault(w: &[u64], j: u32) -> Fault
 {
     let number = w[KIND];
     let k = kind_of(number);
-    let kind = (1 <= number) & (number <= 6);
+    let kind = (1 <= number) & (number <= 7);
     let pn = is_pn(k, w[PN]);
     let last = is_last(k, w[LAST]);
     let first = is_first(k, w[FIRST], w[LAST]);

@@ -48,7 +48,8 @@ pub fn kind_of(x: u64) -> Kind
         3 => Kind::Begin,
         4 => Kind::Accept,
         5 => Kind::Commit,
-        _ => Kind::Lease,
+        6 => Kind::Lease,
+        _ => Kind::LeaseAck,
     }
 }
 
@@ -121,6 +122,7 @@ fn enclosed_from(k: Kind, a: u32) -> usize
         Kind::Accept => 0,
         Kind::Commit => 0,
         Kind::Lease => 0,
+        Kind::LeaseAck => 0,
     }
 }
 
@@ -135,6 +137,7 @@ fn enclosed_count(k: Kind, a: u32, held: usize) -> usize
         Kind::Accept => 0,
         Kind::Commit => a as usize,
         Kind::Lease => 0,
+        Kind::LeaseAck => 0,
     }
 }
 

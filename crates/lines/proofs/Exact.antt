@@ -57,6 +57,7 @@ word-starts s =
     (at-or Word.Propose
     (at-or Word.Agree
     (at-or Word.Finish
+    (at-or Word.Heard
     (at-or Word.Trim
     (at-or Word.Stop
     (at-or Word.Return
@@ -65,7 +66,7 @@ word-starts s =
     (at-or Word.Repeat
     (at-or Word.Mail
     (at-or Word.Holds
-    (record { start = refl })))))))))))))))))
+    (record { start = refl }))))))))))))))))))
 
 word-short : (w : Word) → length (wordBytes w) ≤ 8
 word-short Word.Site = omega arith
@@ -77,6 +78,7 @@ word-short Word.Offer = omega arith
 word-short Word.Propose = omega arith
 word-short Word.Agree = omega arith
 word-short Word.Finish = omega arith
+word-short Word.Heard = omega arith
 word-short Word.Trim = omega arith
 word-short Word.Stop = omega arith
 word-short Word.Return = omega arith
@@ -101,6 +103,7 @@ line-parts Word.Offer n = (refl, refl)
 line-parts Word.Propose n = (refl, refl)
 line-parts Word.Agree n = (refl, refl)
 line-parts Word.Finish n = (refl, refl)
+line-parts Word.Heard n = (refl, refl)
 line-parts Word.Trim n = (refl, refl)
 line-parts Word.Stop n = (refl, refl)
 line-parts Word.Return n = (refl, refl)
@@ -130,6 +133,7 @@ call-again (Call.Offer c left right) = (refl, λ t. refl, omega arith, omega ari
 call-again (Call.Propose c) = (refl, λ t. refl, omega arith, omega arith)
 call-again (Call.Agree c) = (refl, λ t. refl, omega arith, omega arith)
 call-again (Call.Finish c) = (refl, λ t. refl, omega arith, omega arith)
+call-again (Call.Heard c) = (refl, λ t. refl, omega arith, omega arith)
 call-again (Call.Trim c k) = (refl, λ t. refl, omega arith, omega arith)
 call-again (Call.Stop c) = (refl, λ t. refl, omega arith, omega arith)
 call-again (Call.Return c) = (refl, λ t. refl, omega arith, omega arith)

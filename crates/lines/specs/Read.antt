@@ -6,10 +6,11 @@ use lib.Dec.{ltb, eqb}
 use lib.ListN.{length, drop}
 use Rattle.rules.specs.Pick.{pick}
 use Rattle.rules.specs.declared.model.Call.{Call}
-use Rattle.lines.specs.Table.{wordBytes, arityOf, wordOf}
+use Rattle.lines.specs.Table.{wordBytes, arityOf, starts, wordOf}
 use Rattle.lines.specs.declared.Grown.{Grown}
 use Rattle.lines.specs.declared.Line.{Line}
 use Rattle.lines.specs.declared.Numbers.{Numbers}
+use Rattle.lines.specs.declared.One.{One}
 use Rattle.lines.specs.declared.Word.{Word}
 
 -- no number yet
@@ -93,6 +94,7 @@ lineWith Word.Offer n = Line.Call (Call.Offer (n .b) (n .c) (n .d))
 lineWith Word.Propose n = Line.Call (Call.Propose (n .d))
 lineWith Word.Agree n = Line.Call (Call.Agree (n .d))
 lineWith Word.Finish n = Line.Call (Call.Finish (n .d))
+lineWith Word.Heard n = Line.Call (Call.Heard (n .d))
 lineWith Word.Trim n = Line.Call (Call.Trim (n .c) (n .d))
 lineWith Word.Stop n = Line.Call (Call.Stop (n .d))
 lineWith Word.Return n = Line.Call (Call.Return (n .d))
@@ -112,3 +114,13 @@ unfoldable pub readLine : List ℕ → Line
 readLine s =
     pick (ltb 64 (length s)) Line.Unreadable
     (lineOf (wordOf s) (numbersOf (drop (length (wordBytes (wordOf s))) s)))
+
+-- one proper number
+unfoldable pub oneOf : Numbers → One
+oneOf n = pick (n .bad || not (eqb (n .count) 1)) One.Unreadable (One.Number (n .d))
+
+-- the one number after a word w that no trace has, by the same rules
+unfoldable pub readOne : List ℕ → List ℕ → One
+readOne w s =
+    pick (ltb 64 (length s) || not (starts w s)) One.Unreadable
+    (oneOf (numbersOf (drop (length w) s)))

@@ -18,6 +18,7 @@ wordBytes Word.Offer = bytes "offer "
 wordBytes Word.Propose = bytes "propose "
 wordBytes Word.Agree = bytes "agree "
 wordBytes Word.Finish = bytes "finish "
+wordBytes Word.Heard = bytes "heard "
 wordBytes Word.Trim = bytes "trim "
 wordBytes Word.Stop = bytes "stop "
 wordBytes Word.Return = bytes "return "
@@ -29,8 +30,8 @@ wordBytes Word.Holds = bytes "holds "
 wordBytes Word.Other = []
 
 -- how many numbers follow a word: "elect, recover, .. with c; offer c left right; mail a b; lose a
--- b; holds c k left right", "repeat a b" (Q-1), "trim c k" (Q-4); a line with no word has
--- none
+-- b; holds c k left right", "repeat a b" (Q-1), "trim c k" (Q-4), "heard c" (Q-12); a line with no
+-- word has none
 abbrev pub arityOf : Word → ℕ
 arityOf Word.Site = 3
 arityOf Word.Elect = 1
@@ -41,6 +42,7 @@ arityOf Word.Offer = 3
 arityOf Word.Propose = 1
 arityOf Word.Agree = 1
 arityOf Word.Finish = 1
+arityOf Word.Heard = 1
 arityOf Word.Trim = 2
 arityOf Word.Stop = 1
 arityOf Word.Return = 1
@@ -72,6 +74,7 @@ wordOf s =
     (orWord s Word.Propose
     (orWord s Word.Agree
     (orWord s Word.Finish
+    (orWord s Word.Heard
     (orWord s Word.Trim
     (orWord s Word.Stop
     (orWord s Word.Return
@@ -80,4 +83,4 @@ wordOf s =
     (orWord s Word.Repeat
     (orWord s Word.Mail
     (orWord s Word.Holds
-    Word.Other))))))))))))))))
+    Word.Other)))))))))))))))))

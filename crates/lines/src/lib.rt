@@ -15,6 +15,8 @@ ghost use Rattle.lines.specs.Read.{
   lineWith,
   lineOf,
   readLine,
+  oneOf,
+  readOne,
 };
 use rules::model::Call;
 
@@ -29,6 +31,7 @@ pub enum Word {
     Propose,
     Agree,
     Finish,
+    Heard,
     Trim,
     Stop,
     Return,
@@ -46,6 +49,12 @@ pub enum Line {
     Site(u32, u32, u32),
     Call(Call),
     Holds(u32, u32, u32, u32),
+    Unreadable,
+}
+
+// The number after a word that no trace has.
+pub enum One {
+    Number(u32),
     Unreadable,
 }
 
@@ -111,6 +120,7 @@ fn word_at(s: &[u8]) -> Word
     let w = or_word(b"return ", s, Word::Return, w);
     let w = or_word(b"stop ", s, Word::Stop, w);
     let w = or_word(b"trim ", s, Word::Trim, w);
+    let w = or_word(b"heard ", s, Word::Heard, w);
     let w = or_word(b"finish ", s, Word::Finish, w);
     let w = or_word(b"agree ", s, Word::Agree, w);
     let w = or_word(b"propose ", s, Word::Propose, w);
@@ -136,6 +146,7 @@ fn width(w: Word) -> usize
         Word::Propose => 8,
         Word::Agree => 6,
         Word::Finish => 7,
+        Word::Heard => 6,
         Word::Trim => 5,
         Word::Stop => 5,
         Word::Return => 7,
@@ -162,6 +173,7 @@ fn arity(w: Word) -> u32
         Word::Propose => 1,
         Word::Agree => 1,
         Word::Finish => 1,
+        Word::Heard => 1,
         Word::Trim => 2,
         Word::Stop => 1,
         Word::Return => 1,
@@ -297,6 +309,7 @@ fn line_with(w: Word, n: Numbers) -> Line
         Word::Propose => Line::Call(Call::Propose(n.d)),
         Word::Agree => Line::Call(Call::Agree(n.d)),
         Word::Finish => Line::Call(Call::Finish(n.d)),
+        Word::Heard => Line::Call(Call::Heard(n.d)),
         Word::Trim => Line::Call(Call::Trim(n.c, n.d)),
         Word::Stop => Line::Call(Call::Stop(n.d)),
         Word::Return => Line::Call(Call::Return(n.d)),
@@ -329,4 +342,23 @@ pub fn read_line(s: &[u8]) -> Line
     let w = word_at(s);
     let n = numbers_at(s, width(w));
     line_of(w, n)
+}
+
+fn one_of(n: Numbers) -> One
+    ensures { λ r. ⌜ r ≡ oneOf n ⌝ }
+{
+    if n.bad | (n.count != 1) {
+        return One::Unreadable;
+    }
+    One::Number(n.d)
+}
+
+// The one number after the word w, which has its space, for every text.
+pub fn read_one(w: &[u8], s: &[u8]) -> One
+    ensures { λ r. ⌜ r ≡ readOne (now (w .entry)) (now (s .entry)) ⌝ }
+{
+    if (64 < s.len()) | !starts(w, s) {
+        return One::Unreadable;
+    }
+    one_of(numbers_at(s, w.len()))
 }

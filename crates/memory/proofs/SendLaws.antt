@@ -74,6 +74,7 @@ module _ (J pn last first unagreed : ℕ) (rs : List ℕ) where
       let l : length (take a rs) ≡ a = omega (arith, h .all-records) in
       (omega (arith, length-take a rs), omega (arith, h .room), top)
   enclosable Kind.Lease h p = (omega arith, omega arith, omega (arith, h .bare .no-first))
+  enclosable Kind.LeaseAck h p = (omega arith, omega arith, omega (arith, h .bare .no-first))
 
 pub sendable : (J : ℕ) (m : Mail) (rs : List ℕ) → formLetter J (letterOf m rs) ≡ true
     → Sendable J m rs

@@ -148,6 +148,7 @@ fn fresh_head() -> BoxState
         },
         answered: 0,
         accepts: 0,
+        heard: 0,
         waiting: 0,
         agreeing: 0,
         peers: [4294967295; 5],

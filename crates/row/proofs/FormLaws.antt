@@ -21,7 +21,7 @@ use Rattle.values.proofs.SetLaws.{set-fits}
 use Rattle.row.specs.Row.{headOf, boxOf, rowFits, rowForm, headWords, mostState, mostPhase}
 use Rattle.row.specs.Row.{flagAt, stateAt, phaseAt, pnAt, lastAt, firstAt, storedPnAt}
 use Rattle.row.specs.Row.{storedNumberAt, bestPnAt, bestNumberAt, answeredAt, acceptsAt}
-use Rattle.row.specs.Row.{bestAt, waitingAt, agreeingAt, countAt}
+use Rattle.row.specs.Row.{heardAt, bestAt, waitingAt, agreeingAt, countAt}
 use Rattle.row.specs.Lent.{RowSized, RowReadable, recordsOf}
 use Rattle.row.specs.Faults.{numberTests, valueTests, peerTests, countTest, headFault}
 use Rattle.row.proofs.PeerLaws.{every-says, every-five, peer-fits}
@@ -44,6 +44,7 @@ pub record HeadSays (n J b : ℕ) (w : List ℕ) : Type 0 where
   pub best-number : getD w bestNumberAt 0 ≤ mostNumber
   pub answered : setForm n (getD w answeredAt 0) ≡ true
   pub accepts : setForm n (getD w acceptsAt 0) ≡ true
+  pub heard : setForm n (getD w heardAt 0) ≡ true
   pub best : recordForm (getD w bestAt 0) ≡ true
   pub waiting : recordForm (getD w waitingAt 0) ≡ true
   pub agreeing : recordForm (getD w agreeingAt 0) ≡ true
@@ -84,9 +85,10 @@ module _ (n J b : ℕ) (w : List ℕ) where
         best-number = leb-true _ _ (all-at 9 _ (one .0));
         answered = all-at 0 _ (two .0);
         accepts = all-at 1 _ (two .0);
-        best = all-at 2 _ (two .0);
-        waiting = all-at 3 _ (two .0);
-        agreeing = all-at 4 _ (two .0);
+        heard = all-at 2 _ (two .0);
+        best = all-at 3 _ (two .0);
+        waiting = all-at 4 _ (two .0);
+        agreeing = all-at 5 _ (two .0);
         peers = sym (every-five (peerForm n b (headOf n w .peers))) ∙ five (three .0);
         counted = sym (held-is w J first last) ∙ counted;
         count = held-room J (getD w firstAt 0) (getD w lastAt 0) (getD w countAt 0) counted;
@@ -120,7 +122,7 @@ module _ (n J b : ℕ) (w : List ℕ) where
         le-leb _ _ (h .best-number),
       ))
       (passed-then (valueTests n w)
-      (rw (h .answered, h .accepts, h .best, h .waiting, h .agreeing))
+      (rw (h .answered, h .accepts, h .heard, h .best, h .waiting, h .agreeing))
       (passed-then (peerTests n b w)
       (rw (
         peer 1 (omega arith) (omega arith),
@@ -166,6 +168,7 @@ readable n J b r z g = record {
   best-number = omega (arith, g .best-number);
   answered = set-fits n (getD r answeredAt 0) (z .boxes) (g .answered);
   accepts = set-fits n (getD r acceptsAt 0) (z .boxes) (g .accepts);
+  heard = set-fits n (getD r heardAt 0) (z .boxes) (g .heard);
   peers = λ k a i.
       let m : k ≤ mostBoxes = omega (arith, z .boxes) in
       peer-fits n b r k a m i (every-says mostBoxes _ k (g .peers) a m);
@@ -201,10 +204,11 @@ module _ (n J b : ℕ) (r : List ℕ) (z : RowSized n J r) where
         best-number = leb-true _ _ (all-at 8 _ box);
         answered = all-at 10 _ box;
         accepts = all-at 11 _ box;
+        heard = all-at 12 _ box;
         best = all-at 9 _ box;
-        waiting = all-at 12 _ box;
-        agreeing = all-at 13 _ box;
-        peers = all-at 15 _ box;
+        waiting = all-at 13 _ box;
+        agreeing = all-at 14 _ box;
+        peers = all-at 16 _ box;
         counted = counted;
         count = count;
       } in
@@ -238,6 +242,7 @@ module _ (n J b : ℕ) (r : List ℕ) (z : RowSized n J r) where
         le-leb _ _ (h .best-number),
         h .answered,
         h .accepts,
+        h .heard,
         h .best,
         h .waiting,
         h .agreeing,

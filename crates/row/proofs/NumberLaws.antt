@@ -7,7 +7,7 @@ use lib.Dec.{leb}
 use Rattle.rules.specs.Numbers.{flagNumber, stateNumber, phaseNumber}
 use Rattle.rules.specs.declared.model.Phase.{Phase}
 use Rattle.rules.specs.declared.model.State.{State}
-use Rattle.row.specs.Row.{stateOf, phaseOf, flagOf}
+use Rattle.row.specs.Row.{stateOf, phaseOf, flagOf, mostState, mostPhase}
 
 pub state-back : (s : State) → stateOf (stateNumber s) ≡ s
 state-back State.Recovering = refl
@@ -16,7 +16,7 @@ state-back State.Updating = refl
 state-back State.UpdatingPrevious = refl
 state-back State.Refresh = refl
 
-pub state-number-back : (x : ℕ) → x ≤ 4 → stateNumber (stateOf x) ≡ x
+pub state-number-back : (x : ℕ) → x ≤ mostState → stateNumber (stateOf x) ≡ x
 state-number-back zero h = refl
 state-number-back (suc zero) h = refl
 state-number-back (suc (suc zero)) h = refl
@@ -26,7 +26,7 @@ state-number-back (suc (suc (suc (suc x)))) h = omega arith
 pub state-rest : (x : ℕ) → 4 ≤ x → State.Refresh ≡ stateOf x
 state-rest x h = let e : x ≡ suc (suc (suc (suc (x - 4)))) = omega arith in sym (ap stateOf e)
 
-pub state-in : (s : State) → leb (stateNumber s) 4 ≡ true
+pub state-in : (s : State) → leb (stateNumber s) mostState ≡ true
 state-in State.Recovering = refl
 state-in State.Active = refl
 state-in State.Updating = refl
@@ -40,25 +40,30 @@ phase-back Phase.Collect = refl
 phase-back Phase.Lease = refl
 phase-back Phase.Begin = refl
 phase-back Phase.Commit = refl
+phase-back Phase.LeaseDone = refl
 
-pub phase-number-back : (x : ℕ) → x ≤ 5 → phaseNumber (phaseOf x) ≡ x
+pub phase-number-back : (x : ℕ) → x ≤ mostPhase → phaseNumber (phaseOf x) ≡ x
 phase-number-back zero h = refl
 phase-number-back (suc zero) h = refl
 phase-number-back (suc (suc zero)) h = refl
 phase-number-back (suc (suc (suc zero))) h = refl
 phase-number-back (suc (suc (suc (suc zero)))) h = refl
-phase-number-back (suc (suc (suc (suc (suc x))))) h = omega arith
+phase-number-back (suc (suc (suc (suc (suc zero))))) h = refl
+phase-number-back (suc (suc (suc (suc (suc (suc x)))))) h = omega arith
 
-pub phase-rest : (x : ℕ) → 5 ≤ x → Phase.Commit ≡ phaseOf x
-phase-rest x h = let e : x ≡ suc (suc (suc (suc (suc (x - 5))))) = omega arith in sym (ap phaseOf e)
+pub phase-rest : (x : ℕ) → 6 ≤ x → Phase.LeaseDone ≡ phaseOf x
+phase-rest x h =
+    let e : x ≡ suc (suc (suc (suc (suc (suc (x - 6)))))) = omega arith in
+    sym (ap phaseOf e)
 
-pub phase-in : (p : Phase) → leb (phaseNumber p) 5 ≡ true
+pub phase-in : (p : Phase) → leb (phaseNumber p) mostPhase ≡ true
 phase-in Phase.Election = refl
 phase-in Phase.SendCollect = refl
 phase-in Phase.Collect = refl
 phase-in Phase.Lease = refl
 phase-in Phase.Begin = refl
 phase-in Phase.Commit = refl
+phase-in Phase.LeaseDone = refl
 
 pub flag-back : (b : Bool) → flagOf (flagNumber b) ≡ b
 flag-back true = refl

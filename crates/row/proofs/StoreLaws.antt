@@ -57,6 +57,7 @@ box-stored n h count rest five above = λ i. record {
     best = h .best;
     answered = h .answered;
     accepts = h .accepts;
+    heard = h .heard;
     waiting = h .waiting;
     agreeing = h .agreeing;
     peers = peers-back n (h .peers) five above i;

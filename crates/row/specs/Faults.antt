@@ -14,7 +14,7 @@ use Rattle.values.specs.declared.Field.{Field}
 use Rattle.row.specs.Row.{headOf, mostState, mostPhase}
 use Rattle.row.specs.Row.{flagAt, stateAt, phaseAt, pnAt, lastAt, firstAt, storedPnAt}
 use Rattle.row.specs.Row.{storedNumberAt, bestPnAt, bestNumberAt, answeredAt, acceptsAt}
-use Rattle.row.specs.Row.{bestAt, waitingAt, agreeingAt, countAt}
+use Rattle.row.specs.Row.{heardAt, bestAt, waitingAt, agreeingAt, countAt}
 
 -- numbers, the numbers of states and phases among them
 abbrev pub numberTests : List ℕ → List Test
@@ -36,6 +36,7 @@ abbrev pub valueTests : ℕ → List ℕ → List Test
 valueTests n w =
     test Field.Answered (setForm n (getD w answeredAt 0))
     ∷ test Field.Accepts (setForm n (getD w acceptsAt 0))
+    ∷ test Field.Heard (setForm n (getD w heardAt 0))
     ∷ test Field.Best (recordForm (getD w bestAt 0))
     ∷ test Field.Waiting (recordForm (getD w waitingAt 0))
     ∷ test Field.Agreeing (recordForm (getD w agreeingAt 0))

@@ -14,7 +14,7 @@ use Rattle.letter.specs.Place.{letterAt, placeForm}
 use Rattle.letter.specs.Place.{headWords as letterHead}
 use Rattle.row.specs.Row.{boxOf, rowFits, rowForm, headWords, pnAt, lastAt, firstAt}
 use Rattle.row.specs.Row.{storedPnAt, storedNumberAt, bestPnAt, bestNumberAt, answeredAt}
-use Rattle.row.specs.Row.{acceptsAt, beforePeers, countAt}
+use Rattle.row.specs.Row.{acceptsAt, heardAt, beforePeers, countAt}
 
 -- the row of a box of n, with room for J records
 pub record RowSized (n J : ℕ) (r : List ℕ) : Type 0 where
@@ -34,6 +34,7 @@ pub record RowReadable (n : ℕ) (r : List ℕ) : Type 0 where
   pub best-number : getD r bestNumberAt 0 < 2 ^ 32
   pub answered : getD r answeredAt 0 < 2 ^ 32
   pub accepts : getD r acceptsAt 0 < 2 ^ 32
+  pub heard : getD r heardAt 0 < 2 ^ 32
   pub peers : (k : ℕ) → 1 ≤ k → k ≤ n → getD r (beforePeers + k) 0 < 2 ^ 32
 
 -- the row of box `me` of s, by form

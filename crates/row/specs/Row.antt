@@ -15,8 +15,8 @@ use Rattle.rules.specs.declared.model.Phase.{Phase}
 use Rattle.rules.specs.declared.model.State.{State}
 
 -- ---- where each field stands: "flag, state, phase, pn, last, [first, Q-4], stored pn, stored
--- number, best pn, best number, the set of boxes that answered, accept set; then three records
--- (best, waiting, being agreed); .. peers' lasts ..; count of records held"
+-- number, best pn, best number, the set of boxes that answered, accept set, [who heard, Q-12]; then
+-- three records (best, waiting, being agreed); .. peers' lasts ..; count of records held"
 
 abbrev pub flagAt : ℕ
 flagAt = 0
@@ -54,28 +54,31 @@ answeredAt = 10
 abbrev pub acceptsAt : ℕ
 acceptsAt = 11
 
+abbrev pub heardAt : ℕ
+heardAt = 12
+
 abbrev pub bestAt : ℕ
-bestAt = 12
+bestAt = 13
 
 abbrev pub waitingAt : ℕ
-waitingAt = 13
+waitingAt = 14
 
 abbrev pub agreeingAt : ℕ
-agreeingAt = 14
+agreeingAt = 15
 
 -- peer k stands k places behind this
 abbrev pub beforePeers : ℕ
-beforePeers = 14
+beforePeers = 15
 
 abbrev pub peersAt : ℕ
-peersAt = 15
+peersAt = 16
 
 abbrev pub countAt : ℕ
-countAt = 20
+countAt = 21
 
 -- the records stand behind these
 abbrev pub headWords : ℕ
-headWords = 21
+headWords = 22
 
 -- ---- what they say
 
@@ -85,7 +88,7 @@ mostState = 4
 
 -- phases 0 to this are by form
 abbrev pub mostPhase : ℕ
-mostPhase = 5
+mostPhase = 6
 
 -- the state that has this number
 abbrev pub stateOf : ℕ → State
@@ -102,7 +105,8 @@ phaseOf (suc zero) = Phase.SendCollect
 phaseOf (suc (suc zero)) = Phase.Collect
 phaseOf (suc (suc (suc zero))) = Phase.Lease
 phaseOf (suc (suc (suc (suc zero)))) = Phase.Begin
-phaseOf (suc (suc (suc (suc (suc x))))) = Phase.Commit
+phaseOf (suc (suc (suc (suc (suc zero))))) = Phase.Commit
+phaseOf (suc (suc (suc (suc (suc (suc x)))))) = Phase.LeaseDone
 
 abbrev pub flagOf : ℕ → Bool
 flagOf x = eqb x 1
@@ -125,6 +129,7 @@ headOf n r = record {
   best = record { pn = getD r bestPnAt 0; number = getD r bestNumberAt 0; value = getD r bestAt 0 };
   answered = getD r answeredAt 0;
   accepts = getD r acceptsAt 0;
+  heard = getD r heardAt 0;
   waiting = getD r waitingAt 0;
   agreeing = getD r agreeingAt 0;
   peers = peerOf n r 1 ∷ peerOf n r 2 ∷ peerOf n r 3 ∷ peerOf n r 4 ∷ peerOf n r 5 ∷ [];
@@ -156,7 +161,7 @@ abbrev pub wordsOf : BoxState → ℕ → List ℕ
 wordsOf h count =
     flagNumber (h .leads) ∷ stateNumber (h .state) ∷ phaseNumber (h .phase)
     ∷ h .kept .pn ∷ h .kept .last ∷ h .kept .first ∷ h .kept .stored .pn ∷ h .kept .stored .number
-    ∷ h .best .pn ∷ h .best .number ∷ h .answered ∷ h .accepts
+    ∷ h .best .pn ∷ h .best .number ∷ h .answered ∷ h .accepts ∷ h .heard
     ∷ h .best .value ∷ h .waiting ∷ h .agreeing
     ∷ getD (h .peers) 0 0 ∷ getD (h .peers) 1 0 ∷ getD (h .peers) 2 0 ∷ getD (h .peers) 3 0
     ∷ getD (h .peers) 4 0 ∷ count ∷ []

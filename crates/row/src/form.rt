@@ -18,6 +18,7 @@ use crate::BEST_PN;
 use crate::COUNT;
 use crate::FIRST;
 use crate::FLAG;
+use crate::HEARD;
 use crate::LAST;
 use crate::PHASE;
 use crate::PN;
@@ -46,7 +47,7 @@ fn number_fault(w: &[u64], rest: Fault) -> Fault
     let f = unless(first, Field::First, f);
     let f = unless(w[LAST] <= MOST_NUMBER, Field::Last, f);
     let f = unless(w[PN] <= MOST_PN, Field::Pn, f);
-    let f = unless(w[PHASE] <= 5, Field::Phase, f);
+    let f = unless(w[PHASE] <= 6, Field::Phase, f);
     let f = unless(w[STATE] <= 4, Field::State, f);
     unless(w[FLAG] <= 1, Field::Flag, f)
 }
@@ -59,6 +60,7 @@ fn value_fault(w: &[u64], n: u32, rest: Fault) -> Fault
     let f = unless(values::is_record(w[AGREEING]), Field::Agreeing, rest);
     let f = unless(values::is_record(w[WAITING]), Field::Waiting, f);
     let f = unless(values::is_record(w[BEST]), Field::Best, f);
+    let f = unless(values::is_set(n, w[HEARD]), Field::Heard, f);
     let f = unless(values::is_set(n, w[ACCEPTS]), Field::Accepts, f);
     unless(values::is_set(n, w[ANSWERED]), Field::Answered, f)
 }

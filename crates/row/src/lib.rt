@@ -74,20 +74,22 @@ pub const ANSWERED: usize = 10;
 
 pub const ACCEPTS: usize = 11;
 
-pub const BEST: usize = 12;
+pub const HEARD: usize = 12;
 
-pub const WAITING: usize = 13;
+pub const BEST: usize = 13;
 
-pub const AGREEING: usize = 14;
+pub const WAITING: usize = 14;
+
+pub const AGREEING: usize = 15;
 
 // Peer k stands k places behind this.
-pub const BEFORE_PEERS: usize = 14;
+pub const BEFORE_PEERS: usize = 15;
 
-pub const PEERS: usize = 15;
+pub const PEERS: usize = 16;
 
-pub const COUNT: usize = 20;
+pub const COUNT: usize = 21;
 
-pub const HEAD: usize = 21;
+pub const HEAD: usize = 22;
 
 // The last of a peer that is not known.
 pub const UNKNOWN: u64 = 4294967295;
@@ -113,7 +115,8 @@ pub fn phase_of(x: u64) -> Phase
         2 => Phase::Collect,
         3 => Phase::Lease,
         4 => Phase::Begin,
-        _ => Phase::Commit,
+        5 => Phase::Commit,
+        _ => Phase::LeaseDone,
     }
 }
 
@@ -150,6 +153,12 @@ pub fn load(row: &[u64], n: u32) -> BoxState
     requires { ⌜ RowReadable n (now row) ⌝ }
     ensures { λ r. ⌜ r ≡ headOf n (now (row .entry)) ⌝ }
 {
+    let leads = row[FLAG] == 1;
+    let answered = values::number(row[ANSWERED]);
+    let accepts = values::number(row[ACCEPTS]);
+    let heard = values::number(row[HEARD]);
+    let waiting = row[WAITING];
+    let agreeing = row[AGREEING];
     let state = state_of(row[STATE]);
     let phase = phase_of(row[PHASE]);
     let stored = Stored {
@@ -167,6 +176,7 @@ pub fn load(row: &[u64], n: u32) -> BoxState
         number: values::number(row[BEST_NUMBER]),
         value: row[BEST],
     };
+    // Last: behind these calls the row's length lies too far back for a proof to find.
     let peers = [
         peer_of(row, n, 1),
         peer_of(row, n, 2),
@@ -175,15 +185,16 @@ pub fn load(row: &[u64], n: u32) -> BoxState
         peer_of(row, n, 5),
     ];
     BoxState {
-        leads: row[FLAG] == 1,
+        leads: leads,
         state: state,
         phase: phase,
         kept: kept,
         best: best,
-        answered: values::number(row[ANSWERED]),
-        accepts: values::number(row[ACCEPTS]),
-        waiting: row[WAITING],
-        agreeing: row[AGREEING],
+        answered: answered,
+        accepts: accepts,
+        heard: heard,
+        waiting: waiting,
+        agreeing: agreeing,
         peers: peers,
     }
 }
@@ -209,6 +220,7 @@ pub fn store(row: &mut [u64], h: BoxState, held: u32)
         values::wide(h.best.number),
         values::wide(h.answered),
         values::wide(h.accepts),
+        values::wide(h.heard),
         h.best.value,
         h.waiting,
         h.agreeing,

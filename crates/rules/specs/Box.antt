@@ -61,6 +61,7 @@ enclosed Kind.Begin a rs = getD rs a 0 ∷ []
 enclosed Kind.Accept a rs = []
 enclosed Kind.Commit a rs = take a rs
 enclosed Kind.Lease a rs = []
+enclosed Kind.LeaseAck a rs = []
 
 abbrev pub letterOf : Mail → List ℕ → Letter
 letterOf m rs = record {

@@ -45,6 +45,7 @@ formBox n J b x =
     ∷ recordForm (x .head .best .value)
     ∷ setForm n (x .head .answered)
     ∷ setForm n (x .head .accepts)
+    ∷ setForm n (x .head .heard)
     ∷ recordForm (x .head .waiting)
     ∷ recordForm (x .head .agreeing)
     ∷ eqb (length (x .head .peers)) mostBoxes
@@ -57,8 +58,8 @@ bare first unagreed count = eqb count 0 && eqb unagreed 0 && eqb first 0
 
 -- "Last holds last or last+1 records (at most J), Commit holds last, Begin one (and its last is
 -- below [the most]), the rest none; unagreed pn is 0 except in a Last with last+1 records"; "pn (0
--- in Lease)"; "Last, Commit and Begin carry the sender's first, under the same form; Last and
--- Commit hold records from it on" (Q-4)
+-- in Lease)", and in LeaseAck (Q-12); "Last, Commit and Begin carry the sender's first, under the
+-- same form; Last and Commit hold records from it on" (Q-4)
 unfoldable pub formKind : Kind → ℕ → ℕ → ℕ → ℕ → ℕ → ℕ → Bool
 formKind Kind.Collect J pn last first unagreed count = bare first unagreed count
 formKind Kind.Last J pn last first unagreed count =
@@ -70,6 +71,7 @@ formKind Kind.Accept J pn last first unagreed count = bare first unagreed count
 formKind Kind.Commit J pn last first unagreed count =
     firstForm first last && eqb (first + count) (last + 1) && leb count J && eqb unagreed 0
 formKind Kind.Lease J pn last first unagreed count = bare first unagreed count && eqb pn 0
+formKind Kind.LeaseAck J pn last first unagreed count = bare first unagreed count && eqb pn 0
 
 -- "Mail: .. other ranges as for boxes"
 unfoldable pub formLetter : ℕ → Letter → Bool

@@ -22,8 +22,8 @@ unfoldable pub noted : List ℕ → ℕ → ℕ → List ℕ
 noted peers sender l = pick (ltb 0 sender && leb sender mostBoxes) (set peers (sender - 1) l) peers
 
 -- the box with the peer's last noted and its records taken
-unfoldable pub heard : BoxState → ℕ → Mail → BoxState
-heard b sender m =
+unfoldable pub told : BoxState → ℕ → Mail → BoxState
+told b sender m =
     withPeers (noted (b .peers) sender (m .last))
     (withKept (tookKept (m .first) (m .last) (b .kept)) b)
 
@@ -95,7 +95,7 @@ lastVerdict b s m =
 unfoldable pub onLast : BoxState → Setting → ℕ → Mail → Held → Turn
 onLast b s sender m next =
     settled b (lastVerdict b s m)
-    (taken (replied (heard b sender m) (s .me) sender m next)
+    (taken (replied (told b sender m) (s .me) sender m next)
     (tookBook (m .first) (m .last) (b .kept))
     (Out.To
     (lagging (noted (b .peers) sender (m .last)) (tookKept (m .first) (m .last) (b .kept) .last) s)

@@ -19,4 +19,5 @@ pub mod Form
 pub mod Needs
 pub mod Step
 pub mod Own
+pub mod Unheard
 pub mod Bounds

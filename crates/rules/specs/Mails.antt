@@ -6,7 +6,7 @@ use Rattle.rules.specs.Sizes.{even}
 use Rattle.rules.specs.Sets.{bit, joined}
 use Rattle.rules.specs.Numbers.{inPhase}
 use Rattle.rules.specs.Fields.{withState, withKept, withBest, withAccepts, promised, keeping}
-use Rattle.rules.specs.Fields.{storing}
+use Rattle.rules.specs.Fields.{storing, withHeard}
 use Rattle.rules.specs.Parts.{underOf, span, higher, dropped, tookKept, tookBook, roomNext}
 use Rattle.rules.specs.Parts.{cleared}
 use Rattle.rules.specs.Turns.{firstCause, unless, settled, taken, mailOf, mailFrom}
@@ -82,12 +82,26 @@ onCommit b m =
     (tookBook (m .first) (m .last) (b .kept))
     Out.Nothing)
 
--- "Lease (role: receiver leads; place: lasts differ). Active."
-unfoldable pub onLease : BoxState → Mail → Turn
-onLease b m =
+-- "Lease (role: receiver leads; place: lasts differ). Active." A box that takes it "replies
+-- LeaseAck(last), kind 7, pn 0, no records" (Q-12).
+unfoldable pub onLease : BoxState → ℕ → Mail → Turn
+onLease b sender m =
     settled b
     (firstCause (b .leads) false false (not (eqb (b .kept .last) (m .last))) Verdict.Go)
-    (taken (withState State.Active b) Book.Keep Out.Nothing)
+    (taken (withState State.Active b) Book.Keep
+    (Out.To (bit sender) (mailOf Kind.LeaseAck 0 (b .kept .last) 0)))
+
+-- "A LeaseAck is discarded for role (not leader) or phase (not Lease)": its last is not compared
+-- (Q-12)
+unfoldable pub leaseAckVerdict : BoxState → Verdict
+leaseAckVerdict b =
+    firstCause (not (b .leads)) (not (inPhase (b .phase) Phase.Lease)) false false Verdict.Go
+
+-- "the leader in phase Lease notes the sender in a set" (Q-12)
+unfoldable pub onLeaseAck : BoxState → ℕ → Turn
+onLeaseAck b sender =
+    settled b (leaseAckVerdict b)
+    (taken (withHeard (joined (b .heard) sender) b) Book.Keep Out.Nothing)
 
 -- each kind has its rule: `one` is the mail's first record (0: none), `next` what it holds at its
 -- last+1, `mine` what the box holds at its own
@@ -97,7 +111,8 @@ ofKind Kind.Last b s sender m one next mine = onLast b s sender m next
 ofKind Kind.Begin b s sender m one next mine = onBegin b s sender m one
 ofKind Kind.Accept b s sender m one next mine = onAccept b sender m
 ofKind Kind.Commit b s sender m one next mine = onCommit b m
-ofKind Kind.Lease b s sender m one next mine = onLease b m
+ofKind Kind.Lease b s sender m one next mine = onLease b sender m
+ofKind Kind.LeaseAck b s sender m one next mine = onLeaseAck b sender
 
 -- "All but Elect, Stop, Return and Lose need an even epoch."
 unfoldable pub onMail : BoxState → Setting → ℕ → Mail → ℕ → Held → Held → Turn

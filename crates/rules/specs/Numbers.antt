@@ -17,7 +17,8 @@ stateNumber State.Updating = 2
 stateNumber State.UpdatingPrevious = 3
 stateNumber State.Refresh = 4
 
--- "phase (Election 0, SendCollect 1, Collect 2, Lease 3, Begin 4, Commit 5)"
+-- "phase (Election 0, SendCollect 1, Collect 2, Lease 3, Begin 4, Commit 5)"; "LeaseDone is phase
+-- 6" (Q-12)
 abbrev pub phaseNumber : Phase → ℕ
 phaseNumber Phase.Election = 0
 phaseNumber Phase.SendCollect = 1
@@ -25,8 +26,9 @@ phaseNumber Phase.Collect = 2
 phaseNumber Phase.Lease = 3
 phaseNumber Phase.Begin = 4
 phaseNumber Phase.Commit = 5
+phaseNumber Phase.LeaseDone = 6
 
--- "kind (Collect 1, Last 2, Begin 3, Accept 4, Commit 5, Lease 6)"
+-- "kind (Collect 1, Last 2, Begin 3, Accept 4, Commit 5, Lease 6)"; LeaseAck "kind 7" (Q-12)
 abbrev pub kindNumber : Kind → ℕ
 kindNumber Kind.Collect = 1
 kindNumber Kind.Last = 2
@@ -34,6 +36,7 @@ kindNumber Kind.Begin = 3
 kindNumber Kind.Accept = 4
 kindNumber Kind.Commit = 5
 kindNumber Kind.Lease = 6
+kindNumber Kind.LeaseAck = 7
 
 -- "discarded for one of four causes": by their order
 abbrev pub causeNumber : Cause → ℕ

@@ -37,6 +37,7 @@ freshHead = record {
   best = none;
   answered = 0;
   accepts = 0;
+  heard = 0;
   waiting = 0;
   agreeing = 0;
   peers = allUnknown;

@@ -125,7 +125,7 @@ repeatNeeds L link =
     ∷ need Refusal.Link (ltb (length link) L)
     ∷ []
 
--- the fifteen calls
+-- the sixteen calls
 unfoldable pub step : Site → Call → Outcome
 step s (Call.Elect c) =
     ruled (refused s) (atBox s c (electNeeds (setting s c))) (did (elect s c))
@@ -136,6 +136,7 @@ step s (Call.Offer c left right) = acting s c (Act.Offer left right)
 step s (Call.Propose c) = acting s c Act.Propose
 step s (Call.Agree c) = acting s c Act.Agree
 step s (Call.Finish c) = acting s c Act.Finish
+step s (Call.Heard c) = acting s c Act.Heard
 step s (Call.Trim c k) = acting s c (Act.Trim k)
 step s (Call.Stop c) =
     ruled (refused s) (atBox s c (stopNeeds (setting s c)))

@@ -11,7 +11,7 @@ use Rattle.rules.specs.Numbers.{inPhase, inState}
 use Rattle.rules.specs.NewPn.{newPn}
 use Rattle.rules.specs.Fields.{withLeads, withState, withPhase, withKept, withBest}
 use Rattle.rules.specs.Fields.{withAnswered, withAccepts, withWaiting, withAgreeing}
-use Rattle.rules.specs.Fields.{withPeers, promised, lasting, keeping, storing}
+use Rattle.rules.specs.Fields.{withHeard, withPeers, promised, lasting, keeping, storing}
 use Rattle.rules.specs.Parts.{others, allUnknown, isHeld, underOf, none, span, dropped}
 use Rattle.rules.specs.Parts.{roomNext}
 use Rattle.rules.specs.Turns.{unless, settled, done, mailOf, mailFrom}
@@ -84,12 +84,14 @@ started b s r =
     (Book.Put 0 (span (b .kept .first) (b .kept .last)) r)
     (Out.To (others s) (mailFrom (b .kept .first) Kind.Begin (b .kept .pn) (b .kept .last) 0))
 
--- "Active, Lease(last) to others, phase Lease"
+-- "Active, Lease(last) to others, phase Lease"; the senders of LeaseAcks are noted "in a set that
+-- starts as itself" (Q-12)
 unfoldable pub leased : BoxState → Setting → Turn
 leased b s =
     done
     (withState State.Active
-    (withPhase Phase.Lease b))
+    (withHeard (bit (s .me))
+    (withPhase Phase.Lease b)))
     Book.Keep
     (Out.To (others s) (mailOf Kind.Lease 0 (b .kept .last) 0))
 
@@ -128,11 +130,13 @@ offer b s left right =
     Verdict.Go))
     (done (withWaiting (recordOf left right) b) Book.Keep Out.Nothing)
 
--- "Propose c: leader, Active, phase Lease or Election, an offer waits."
+-- "Propose c: leader, Active, phase Lease or Election, an offer waits"; "allowed in LeaseDone too"
+-- (Q-12)
 unfoldable pub canPropose : BoxState → Setting → Bool
 canPropose b s =
     even (s .epoch) && b .leads && inState (b .state) State.Active
-    && (inPhase (b .phase) Phase.Lease || inPhase (b .phase) Phase.Election)
+    && (inPhase (b .phase) Phase.Lease || inPhase (b .phase) Phase.LeaseDone
+    || inPhase (b .phase) Phase.Election)
     && not (eqb (b .waiting) 0)
 
 -- "The offer is taken out; Updating; start it." Refusal 7, as Q-4 has it.
@@ -176,6 +180,18 @@ canFinish b s =
 unfoldable pub finish : BoxState → Setting → Turn
 finish b s = settled b (unless (canFinish b s) Refusal.Condition Verdict.Go) (leased b s)
 
+-- "The step `heard c` is allowed in phase Lease when the set includes all present" (Q-12) ..
+unfoldable pub canHeard : BoxState → Setting → Bool
+canHeard b s =
+    even (s .epoch) && b .leads && inPhase (b .phase) Phase.Lease
+    && includes (b .heard) (s .present)
+
+-- .. "and changes the phase to LeaseDone"
+unfoldable pub leaseHeard : BoxState → Setting → Turn
+leaseHeard b s =
+    settled b (unless (canHeard b s) Refusal.Condition Verdict.Go)
+    (done (withPhase Phase.LeaseDone b) Book.Keep Out.Nothing)
+
 -- "The step `trim c k` at a present box in an even epoch, with first < k and k ≤ last" (Q-4) ..
 unfoldable pub canTrim : BoxState → Setting → ℕ → Bool
 canTrim b s k =
@@ -196,4 +212,5 @@ acted (Act.Offer left right) b s mine = offer b s left right
 acted Act.Propose b s mine = propose b s
 acted Act.Agree b s mine = agree b s mine
 acted Act.Finish b s mine = finish b s
+acted Act.Heard b s mine = leaseHeard b s
 acted (Act.Trim k) b s mine = trim b s k

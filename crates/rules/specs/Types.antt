@@ -17,4 +17,5 @@ pub use Rattle.rules.specs.declared.model.Setting.{Setting}
 pub use Rattle.rules.specs.declared.model.State.{State}
 pub use Rattle.rules.specs.declared.model.Stored.{Stored}
 pub use Rattle.rules.specs.declared.model.Turn.{Turn}
+pub use Rattle.rules.specs.declared.model.Unheard.{Unheard}
 pub use Rattle.rules.specs.declared.model.Verdict.{Verdict}

@@ -4,7 +4,7 @@ ghost use Prim.Native.Nat.{_+_, _≤_};
 ghost use Rattle.rules.specs.Sizes.{mostBoxes, mostNumber, mostPn};
 ghost use Rattle.rules.specs.Last.{
   noted,
-  heard,
+  told,
   behind,
   lagging,
   improves,
@@ -92,8 +92,8 @@ impl Best {
 }
 
 impl BoxState {
-    pub(crate) fn hear(self, sender: u32, m: Mail) -> BoxState
-        ensures { λ r. ⌜ r ≡ heard self sender m ⌝ }
+    pub(crate) fn be_told(self, sender: u32, m: Mail) -> BoxState
+        ensures { λ r. ⌜ r ≡ told self sender m ⌝ }
     {
         let known = self.peers;
         let k = self.kept;
@@ -184,7 +184,7 @@ impl BoxState {
         let k = self.kept;
         let book = k.take_book(m.first, m.last);
         let v = self.judge_last(s, m);
-        let told = self.hear(sender, m);
+        let told = self.be_told(sender, m);
         let b = told.answer(s.me, sender, m, next);
         let known = self.peers;
         let took = k.take(m.first, m.last);

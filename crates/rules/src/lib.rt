@@ -10,3 +10,4 @@ pub mod ranges;
 pub mod sets;
 mod steps;
 mod turns;
+pub mod unheard;

@@ -11,6 +11,8 @@ ghost use Rattle.rules.specs.Mails.{
   onAccept,
   onCommit,
   onLease,
+  leaseAckVerdict,
+  onLeaseAck,
   ofKind,
   onMail,
 };
@@ -152,8 +154,8 @@ impl BoxState {
         self.settle(v, t)
     }
 
-    pub(crate) fn on_lease(self, m: Mail) -> Turn
-        ensures { λ t. ⌜ t ≡ onLease self m ⌝ }
+    pub(crate) fn on_lease(self, sender: u32, m: Mail) -> Turn
+        ensures { λ t. ⌜ t ≡ onLease self sender m ⌝ }
     {
         let v = turns::first_cause(
             self.leads,
@@ -164,6 +166,32 @@ impl BoxState {
         );
         let b = BoxState {
             state: State::Active,
+            ..self
+        };
+        let ack = turns::mail_of(Kind::LeaseAck, 0, self.kept.last, 0);
+        let t = b.takes(Book::Keep, Out::To(sets::bit_of(sender), ack));
+        self.settle(v, t)
+    }
+
+    pub(crate) fn judge_lease_ack(self) -> Verdict
+        ensures { λ r. ⌜ r ≡ leaseAckVerdict self ⌝ }
+    {
+        let p = self.phase;
+        turns::first_cause(
+            !self.leads,
+            !numbers::in_phase(p, Phase::Lease),
+            false,
+            false,
+            Verdict::Go,
+        )
+    }
+
+    pub(crate) fn on_lease_ack(self, sender: u32) -> Turn
+        ensures { λ t. ⌜ t ≡ onLeaseAck self sender ⌝ }
+    {
+        let v = self.judge_lease_ack();
+        let b = BoxState {
+            heard: sets::with_box(self.heard, sender),
             ..self
         };
         self.settle(v, b.takes(Book::Keep, Out::Nothing))
@@ -194,7 +222,8 @@ impl BoxState {
             Kind::Begin => self.on_begin(s, sender, m, one),
             Kind::Accept => self.on_accept(sender, m),
             Kind::Commit => self.on_commit(m),
-            Kind::Lease => self.on_lease(m),
+            Kind::Lease => self.on_lease(sender, m),
+            Kind::LeaseAck => self.on_lease_ack(sender),
         }
     }
 

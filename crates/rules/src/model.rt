@@ -16,6 +16,7 @@ pub enum Phase {
     Lease,
     Begin,
     Commit,
+    LeaseDone,
 }
 
 pub enum Kind {
@@ -25,6 +26,7 @@ pub enum Kind {
     Accept,
     Commit,
     Lease,
+    LeaseAck,
 }
 
 // Why a mail is discarded.
@@ -105,6 +107,7 @@ pub struct BoxState {
     pub best: Best,
     pub answered: u32,
     pub accepts: u32,
+    pub heard: u32,
     pub waiting: u64,
     pub agreeing: u64,
     pub peers: [u32; 5],
@@ -138,6 +141,7 @@ pub enum Act {
     Propose,
     Agree,
     Finish,
+    Heard,
     Trim(u32),
 }
 
@@ -165,7 +169,13 @@ pub struct Turn {
     pub out: Out,
 }
 
-// The fifteen calls, with box numbers, frame numbers and load numbers.
+// The present boxes that have not answered a lease.
+pub enum Unheard {
+    Boxes(u32),
+    Refused(Refusal),
+}
+
+// The sixteen calls, with box numbers, frame numbers and load numbers.
 pub enum Call {
     Elect(u32),
     Recover(u32),
@@ -175,6 +185,7 @@ pub enum Call {
     Propose(u32),
     Agree(u32),
     Finish(u32),
+    Heard(u32),
     Trim(u32, u32),
     Stop(u32),
     Return(u32),

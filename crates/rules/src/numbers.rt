@@ -39,6 +39,7 @@ pub fn phase_number(p: Phase) -> u32
         Phase::Lease => 3,
         Phase::Begin => 4,
         Phase::Commit => 5,
+        Phase::LeaseDone => 6,
     }
 }
 
@@ -52,6 +53,7 @@ pub fn kind_number(k: Kind) -> u32
         Kind::Accept => 4,
         Kind::Commit => 5,
         Kind::Lease => 6,
+        Kind::LeaseAck => 7,
     }
 }
 

@@ -22,6 +22,8 @@ ghost use Rattle.rules.specs.Steps.{
   agree,
   canFinish,
   finish,
+  canHeard,
+  leaseHeard,
   canTrim,
   trim,
   acted,
@@ -162,6 +164,7 @@ impl BoxState {
     {
         let b = BoxState {
             state: State::Active,
+            heard: sets::bit_of(s.me),
             phase: Phase::Lease,
             ..self
         };
@@ -234,7 +237,9 @@ impl BoxState {
     {
         let p = self.phase;
         let state = self.state;
-        let waits = numbers::in_phase(p, Phase::Lease) | numbers::in_phase(p, Phase::Election);
+        let waits = numbers::in_phase(p, Phase::Lease)
+            | numbers::in_phase(p, Phase::LeaseDone)
+            | numbers::in_phase(p, Phase::Election);
         sets::is_even(s.epoch)
             & self.leads
             & numbers::in_state(state, State::Active)
@@ -313,6 +318,27 @@ impl BoxState {
         self.settle(v, self.lease(s))
     }
 
+    pub(crate) fn can_heard(self, s: Setting) -> bool
+        ensures { λ r. ⌜ r ≡ canHeard self s ⌝ }
+    {
+        let p = self.phase;
+        sets::is_even(s.epoch)
+            & self.leads
+            & numbers::in_phase(p, Phase::Lease)
+            & sets::includes_all(self.heard, s.present)
+    }
+
+    pub(crate) fn lease_heard(self, s: Setting) -> Turn
+        ensures { λ t. ⌜ t ≡ leaseHeard self s ⌝ }
+    {
+        let v = turns::unless(self.can_heard(s), Refusal::Condition, Verdict::Go);
+        let b = BoxState {
+            phase: Phase::LeaseDone,
+            ..self
+        };
+        self.settle(v, b.does(Book::Keep, Out::Nothing))
+    }
+
     pub(crate) fn can_trim(self, s: Setting, k: u32) -> bool
         requires { ⌜ s .me ≤ mostBoxes ⌝ }
         ensures { λ r. ⌜ r ≡ canTrim self s k ⌝ }
@@ -351,6 +377,7 @@ impl BoxState {
             Act::Propose => self.propose(s),
             Act::Agree => self.agree(s, mine),
             Act::Finish => self.finish(s),
+            Act::Heard => self.lease_heard(s),
             Act::Trim(k) => self.trim(s, k),
         }
     }

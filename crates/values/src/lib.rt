@@ -26,6 +26,7 @@ pub enum Field {
     BestNumber,
     Answered,
     Accepts,
+    Heard,
     Best,
     Waiting,
     Agreeing,

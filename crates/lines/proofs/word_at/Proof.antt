@@ -9,7 +9,8 @@ use Rattle.lines.proofs.word_at.Tie as tie
 returns : tie.Need-returns
 unfolding wordOf
 returns c =
-    let w16 = c .before .before in
+    let w17 = c .before .before in
+    let w16 = w17 .before .before in
     let w15 = w16 .before .before in
     let w14 = w15 .before .before in
     let w13 = w14 .before .before in
@@ -25,7 +26,8 @@ returns c =
     let w3 = w4 .before .before in
     let w2 = w3 .before .before in
     let w1 = w2 .before .before in
-    c .or-word17 .ensures ∙ ap (pick _ _) (
+    c .or-word18 .ensures ∙ ap (pick _ _) (
+    w17 .or-word17 .ensures ∙ ap (pick _ _) (
     w16 .or-word16 .ensures ∙ ap (pick _ _) (
     w15 .or-word15 .ensures ∙ ap (pick _ _) (
     w14 .or-word14 .ensures ∙ ap (pick _ _) (
@@ -41,7 +43,7 @@ returns c =
     w4 .or-word4 .ensures ∙ ap (pick _ _) (
     w3 .or-word3 .ensures ∙ ap (pick _ _) (
     w2 .or-word2 .ensures ∙ ap (pick _ _) (
-    w1 .or-word .ensures))))))))))))))))
+    w1 .or-word .ensures)))))))))))))))))
 
 pub word-at-spec : {M : Type 1} → statement M
 word-at-spec =
@@ -55,4 +57,4 @@ word-at-spec =
     (λ c. search needs) (λ c κs. search needs) (λ c. search needs) (λ c κs. search needs)
     (λ c. search needs) (λ c κs. search needs) (λ c. search needs) (λ c κs. search needs)
     (λ c. search needs) (λ c κs. search needs) (λ c. search needs) (λ c κs. search needs)
-    (λ c. search needs) (λ c κs. search needs) returns)
+    (λ c. search needs) (λ c κs. search needs) (λ c. search needs) (λ c κs. search needs) returns)

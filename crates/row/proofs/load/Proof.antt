@@ -1,34 +1,11 @@
 -- `row::load` meets its contract.
 use borrow.Author.Needs.{needs}
-use native.Mathlib.Omega.{arith}
 use Rattle.row.proofs.load.Statement.{statement}
 use Rattle.row.proofs.load.Tie as tie
 
--- The row's length lies too far back to be found.
-waiting-there : tie.Need-shared-slice-read-t32
-waiting-there c =
-    let five = c .before .before .before .before .before .before in
-    let one = five .before .before .before .before in
-    let first = one .before .before .before .before .before .before in
-    let stored-pn = first .before .before .before .before .before .before .before .before in
-    let start = stored-pn .before .before .before .before .before .before .before in
-    omega (arith, start .pre .room)
-
-agreeing-there : tie.Need-shared-slice-read-t34
-agreeing-there c =
-    let five = c .before .before .before .before .before .before .before in
-    let one = five .before .before .before .before in
-    let first = one .before .before .before .before .before .before in
-    let stored-pn = first .before .before .before .before .before .before .before .before in
-    let start = stored-pn .before .before .before .before .before .before .before in
-    omega (arith, start .pre .room)
-
 returns : tie.Need-returns
 returns c =
-    let accepts = c .before .before in
-    let answered = accepts .before .before in
-    let five = answered .before .before .before in
-    let four = five .before in
+    let four = c .before in
     let three = four .before in
     let two = three .before in
     let one = two .before in
@@ -40,34 +17,39 @@ returns c =
     let stored-number = pn .before .before in
     let stored-pn = stored-number .before .before in
     let phase = stored-pn .before .before in
+    let state = phase .before .before in
+    let heard = state .before .before .before .before in
+    let accepts = heard .before .before in
     simp (
-      accepts .number9 .ensures,
-      answered .number8 .ensures,
-      five .peer-of5 .ensures,
+      c .peer-of5 .ensures,
       four .peer-of4 .ensures,
       three .peer-of3 .ensures,
       two .peer-of2 .ensures,
       one .peer-of .ensures,
-      best-number .number7 .ensures,
-      best-pn .number6 .ensures,
-      first .number5 .ensures,
-      last .number4 .ensures,
-      pn .number3 .ensures,
-      stored-number .number2 .ensures,
-      stored-pn .number .ensures,
+      best-number .number10 .ensures,
+      best-pn .number9 .ensures,
+      first .number8 .ensures,
+      last .number7 .ensures,
+      pn .number6 .ensures,
+      stored-number .number5 .ensures,
+      stored-pn .number4 .ensures,
       phase .phase-of .ensures,
-      phase .before .before .state-of .ensures,
+      state .state-of .ensures,
+      heard .number3 .ensures,
+      accepts .number2 .ensures,
+      accepts .before .before .number .ensures,
     )
 
 pub load-spec : {M : Type 1} → statement M
 load-spec =
     tie.close
     (tie.spec
-    (λ c. search needs) (λ c κs. search needs) (λ c. search needs) (λ c κs. search needs)
-    (λ c. search needs) (λ c κs. search needs) (λ c. search needs) (λ c κs. search needs)
-    (λ c. search needs) (λ c κs. search needs) (λ c. search needs) (λ c κs. search needs)
-    (λ c. search needs) (λ c κs. search needs) (λ c. search needs) (λ c κs. search needs)
-    (λ c. search needs) (λ c κs. search needs) (λ c. search needs) (λ c κs. search needs)
-    (λ c κs. search needs) (λ c κs. search needs) (λ c κs. search needs) (λ c κs. search needs)
     (λ c. search needs) (λ c. search needs) (λ c κs. search needs) (λ c. search needs)
-    (λ c κs. search needs) waiting-there agreeing-there returns)
+    (λ c κs. search needs) (λ c. search needs) (λ c κs. search needs) (λ c. search needs)
+    (λ c. search needs) (λ c. search needs) (λ c κs. search needs) (λ c. search needs)
+    (λ c κs. search needs) (λ c. search needs) (λ c κs. search needs) (λ c. search needs)
+    (λ c κs. search needs) (λ c. search needs) (λ c κs. search needs) (λ c. search needs)
+    (λ c κs. search needs) (λ c. search needs) (λ c κs. search needs) (λ c. search needs)
+    (λ c κs. search needs) (λ c. search needs) (λ c κs. search needs) (λ c. search needs)
+    (λ c κs. search needs) (λ c κs. search needs) (λ c κs. search needs) (λ c κs. search needs)
+    (λ c κs. search needs) returns)

@@ -5,12 +5,12 @@ use borrow.Author.Needs.{needs}
 use Rattle.row.proofs.phase_of.Statement.{statement}
 use Rattle.row.proofs.phase_of.Tie as tie
 
-returns-6 : tie.Need-returns-6
-returns-6 c = phase-rest (c .before .args .x) (omega arith)
+returns-7 : tie.Need-returns-7
+returns-7 c = phase-rest (c .before .args .x) (omega arith)
 
 pub phase-of-spec : {M : Type 1} → statement M
 phase-of-spec =
     tie.close
     (tie.spec
     (λ c. search needs) (λ c. search needs) (λ c. search needs) (λ c. search needs)
-    (λ c. search needs) returns-6)
+    (λ c. search needs) (λ c. search needs) returns-7)

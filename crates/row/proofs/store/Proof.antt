@@ -14,7 +14,8 @@ returns c =
     let three = four .before in
     let two = three .before in
     let one = two .before in
-    let accepts = one .before in
+    let heard = one .before in
+    let accepts = heard .before in
     let answered = accepts .before in
     let best-number = answered .before in
     let best-pn = best-number .before in
@@ -30,12 +31,13 @@ returns c =
     store-law (start .args .row .now) (start .args .h) (start .args .held) _
     (copied .copy .ensures
     ∙ simp (
-      held .wide17 .ensures,
-      five .wide16 .ensures,
-      four .wide15 .ensures,
-      three .wide14 .ensures,
-      two .wide13 .ensures,
-      one .wide12 .ensures,
+      held .wide18 .ensures,
+      five .wide17 .ensures,
+      four .wide16 .ensures,
+      three .wide15 .ensures,
+      two .wide14 .ensures,
+      one .wide13 .ensures,
+      heard .wide12 .ensures,
       accepts .wide11 .ensures,
       answered .wide10 .ensures,
       best-number .wide9 .ensures,
@@ -59,8 +61,8 @@ store-spec =
     (λ c κs. search needs) (λ c κs. search needs) (λ c κs. search needs) (λ c κs. search needs)
     (λ c κs. search needs) (λ c κs. search needs) (λ c κs. search needs) (λ c κs. search needs)
     (λ c κs. search needs) (λ c κs. search needs) (λ c κs. search needs) (λ c κs. search needs)
-    (λ c κs. search needs) (λ c κs. search needs) (λ c. search needs) (λ c κs. search needs)
-    (λ c. search needs) (λ c κs. search needs) (λ c. search needs) (λ c κs. search needs)
-    (λ c. search needs) (λ c κs. search needs) (λ c. search needs) (λ c κs. search needs)
-    (λ c κs. search needs) (λ c. search needs) (λ c. search needs) (λ c. search needs)
-    (λ c. search needs) (λ c κs. search needs) (λ c. search needs) returns)
+    (λ c κs. search needs) (λ c κs. search needs) (λ c κs. search needs) (λ c. search needs)
+    (λ c κs. search needs) (λ c. search needs) (λ c κs. search needs) (λ c. search needs)
+    (λ c κs. search needs) (λ c. search needs) (λ c κs. search needs) (λ c. search needs)
+    (λ c κs. search needs) (λ c κs. search needs) (λ c. search needs) (λ c. search needs)
+    (λ c. search needs) (λ c. search needs) (λ c κs. search needs) (λ c. search needs) returns)

@@ -29,6 +29,9 @@ enum-told-5 c = search needs
 enum-told-6 : tie.Need-enum-told-6
 enum-told-6 c = search needs
 
+enum-told-7 : tie.Need-enum-told-7
+enum-told-7 c = search needs
+
 returns : tie.Need-returns
 returns c =
     simp (
@@ -83,6 +86,15 @@ returns-6 c =
       c .before .before .before .before .is-count .ensures,
     )
 
+returns-7 : tie.Need-returns-7
+returns-7 c =
+    simp (
+      c .enum-told7 .given .1,
+      c .before .before .is-full .ensures,
+      c .before .before .before .is-agreed .ensures,
+      c .before .before .before .before .is-count .ensures,
+    )
+
 pub is-count-spec : {M : Type 1} → statement M
 is-count-spec =
     tie.close
@@ -96,9 +108,11 @@ is-count-spec =
     enum-told-4
     enum-told-5
     enum-told-6
+    enum-told-7
     returns
     returns-2
     returns-3
     returns-4
     returns-5
-    returns-6)
+    returns-6
+    returns-7)

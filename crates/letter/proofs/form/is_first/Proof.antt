@@ -23,6 +23,9 @@ enum-told-5 c = search needs
 enum-told-6 : tie.Need-enum-told-6
 enum-told-6 c = search needs
 
+enum-told-7 : tie.Need-enum-told-7
+enum-told-7 c = search needs
+
 returns : tie.Need-returns
 returns c =
     simp (
@@ -65,6 +68,13 @@ returns-6 c =
       c .before .before .is-first .ensures,
     )
 
+returns-7 : tie.Need-returns-7
+returns-7 c =
+    simp (
+      c .enum-told7 .given .1,
+      c .before .before .is-first .ensures,
+    )
+
 pub is-first-spec : {M : Type 1} → statement M
 is-first-spec =
     tie.close
@@ -76,9 +86,11 @@ is-first-spec =
     enum-told-4
     enum-told-5
     enum-told-6
+    enum-told-7
     returns
     returns-2
     returns-3
     returns-4
     returns-5
-    returns-6)
+    returns-6
+    returns-7)

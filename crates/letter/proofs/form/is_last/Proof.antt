@@ -33,10 +33,15 @@ returns-6 c =
     simp
     (c .enum-told6 .given .1)
 
+returns-7 : tie.Need-returns-7
+returns-7 c =
+    simp
+    (c .enum-told7 .given .1)
+
 pub is-last-spec : {M : Type 1} → statement M
 is-last-spec =
     tie.close
     (tie.spec
     (λ c. search needs) (λ c. search needs) (λ c. search needs) (λ c. search needs)
-    (λ c. search needs) (λ c. search needs) returns returns-2 returns-3 returns-4 returns-5
-    returns-6)
+    (λ c. search needs) (λ c. search needs) (λ c. search needs) returns returns-2 returns-3
+    returns-4 returns-5 returns-6 returns-7)

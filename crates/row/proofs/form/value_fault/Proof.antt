@@ -7,7 +7,9 @@ use Rattle.row.proofs.form.value_fault.Tie as tie
 returns : tie.Need-returns
 unfolding faultThen
 returns c =
-    let at-unless4 = c .before .before .before in
+    let at-unless5 = c .before .before .before in
+    let at-is-set2 = at-unless5 .before in
+    let at-unless4 = at-is-set2 .before .before in
     let at-is-set = at-unless4 .before in
     let at-unless3 = at-is-set .before .before in
     let at-is-record3 = at-unless3 .before in
@@ -16,8 +18,10 @@ returns c =
     let at-unless = at-is-record2 .before .before in
     let at-is-record = at-unless .before in
     rw (
-      c .unless5 .ensures,
-      c .before .is-set2 .ensures,
+      c .unless6 .ensures,
+      c .before .is-set3 .ensures,
+      at-unless5 .unless5 .ensures,
+      at-is-set2 .is-set2 .ensures,
       at-unless4 .unless4 .ensures,
       at-is-set .is-set .ensures,
       at-unless3 .unless3 .ensures,
@@ -35,4 +39,5 @@ value-fault-spec =
     (λ c. search needs) (λ c κs. search needs) (λ c κs. search needs) (λ c. search needs)
     (λ c κs. search needs) (λ c κs. search needs) (λ c. search needs) (λ c κs. search needs)
     (λ c κs. search needs) (λ c. search needs) (λ c κs. search needs) (λ c κs. search needs)
-    (λ c. search needs) (λ c κs. search needs) (λ c κs. search needs) returns)
+    (λ c. search needs) (λ c κs. search needs) (λ c κs. search needs) (λ c. search needs)
+    (λ c κs. search needs) (λ c κs. search needs) returns)

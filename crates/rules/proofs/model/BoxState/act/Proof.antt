@@ -64,6 +64,14 @@ returns-8 : tie.Need-returns-8
 unfolding acted
 returns-8 c =
     simp (
+      c .lease-heard .ensures,
+      c .before .enum-told7 .given .1,
+    )
+
+returns-9 : tie.Need-returns-9
+unfolding acted
+returns-9 c =
+    simp (
       c .trim .ensures,
       c .before .before .a2 .given .1,
     )
@@ -75,5 +83,5 @@ act-spec =
     (λ c. search needs) (λ c κs. search needs) (λ c. search needs) (λ c κs. search needs)
     (λ c. search needs) (λ c κs. search needs) (λ c. search needs) (λ c κs. tt) (λ c. search needs)
     (λ c κs. search needs) (λ c. search needs) (λ c κs. search needs) (λ c. search needs)
-    (λ c κs. tt) (λ c. search needs) (λ c κs. search needs) returns returns-2 returns-3 returns-4
-    returns-5 returns-6 returns-7 returns-8)
+    (λ c κs. tt) (λ c. search needs) (λ c κs. tt) (λ c. search needs) (λ c κs. search needs)
+    returns returns-2 returns-3 returns-4 returns-5 returns-6 returns-7 returns-8 returns-9)

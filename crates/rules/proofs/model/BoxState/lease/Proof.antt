@@ -10,12 +10,14 @@ returns c =
       c .does .ensures,
       c .before .others .ensures,
       c .before .before .mail-of .ensures,
+      c .before .before .before .before .before .before .bit-of .ensures .0,
     )
 
 pub lease-spec : {M : Type 1} → statement M
 lease-spec =
     tie.close
     (tie.spec
+    (λ c κs. tt)
     (λ c κs. tt)
     (λ c κs. tt)
     (λ c κs. tt)

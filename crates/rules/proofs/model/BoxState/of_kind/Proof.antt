@@ -52,11 +52,19 @@ returns-6 c =
       c .before .enum-told6 .given .1,
     )
 
+returns-7 : tie.Need-returns-7
+unfolding ofKind
+returns-7 c =
+    simp (
+      c .on-lease-ack .ensures,
+      c .before .enum-told7 .given .1,
+    )
+
 pub of-kind-spec : {M : Type 1} → statement M
 of-kind-spec =
     tie.close
     (tie.spec
     (λ c. search needs) (λ c κs. search needs) (λ c. search needs) (λ c κs. search needs)
     (λ c. search needs) (λ c κs. search needs) (λ c. search needs) (λ c κs. tt) (λ c. search needs)
-    (λ c κs. search needs) (λ c. search needs) (λ c κs. tt) returns returns-2 returns-3 returns-4
-    returns-5 returns-6)
+    (λ c κs. search needs) (λ c. search needs) (λ c κs. tt) (λ c. search needs)
+    (λ c κs. tt) returns returns-2 returns-3 returns-4 returns-5 returns-6 returns-7)

@@ -12,8 +12,8 @@ returns c =
     let at-note = at-laggards .before in
     let at-take = at-note .before in
     let at-answer = at-take .before .before in
-    let at-hear = at-answer .before in
-    let at-judge-last = at-hear .before in
+    let at-be-told = at-answer .before in
+    let at-judge-last = at-be-told .before in
     let at-take-book = at-judge-last .before in
     simp (
       c .settle .ensures,
@@ -23,7 +23,7 @@ returns c =
       at-note .note .ensures,
       at-take .take .ensures,
       at-answer .answer .ensures,
-      at-hear .hear .ensures,
+      at-be-told .be-told .ensures,
       at-judge-last .judge-last .ensures,
       at-take-book .take-book .ensures,
     )

@@ -9,13 +9,17 @@ returns c =
     simp (
       c .settle .ensures,
       c .before .takes .ensures,
-      c .before .before .before .before .before .first-cause .ensures,
+      c .before .before .bit-of .ensures .0,
+      c .before .before .before .mail-of .ensures,
+      c .before .before .before .before .before .before .before .first-cause .ensures,
     )
 
 pub on-lease-spec : {M : Type 1} → statement M
 on-lease-spec =
     tie.close
     (tie.spec
+    (λ c κs. tt)
+    (λ c κs. tt)
     (λ c κs. tt)
     (λ c κs. tt)
     (λ c κs. tt)
