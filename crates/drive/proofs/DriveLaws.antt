@@ -37,7 +37,7 @@ use Rattle.drive.specs.Driven.{Answered, Asked, Drives, Driven}
 pub call-at : (k : ℕ) {w : ℕ} (a b c : ℕ) → w ≡ k → callOf k a b c ≡ callOf w a b c
 call-at k a b c e = ap (λ (x : ℕ). callOf x a b c) (sym e)
 
-pub call-rest : {w : ℕ} (a b c : ℕ) → 14 ≤ w → Call.Deliver a b ≡ callOf w a b c
+pub call-rest : {w : ℕ} (a b c : ℕ) → 15 ≤ w → Call.Deliver a b ≡ callOf w a b c
 unfolding callOf
 call-rest a b c h = sym (List·getD-eq-default (firstCalls a b c) (Call.Deliver a b) h)
 
@@ -65,30 +65,30 @@ unfolding callOf
 call-fits w a b c fb fc =
     fits-at (firstCalls a b c) w (Call.Deliver a b)
     (cons tt (cons tt (cons tt (cons tt (cons {x = Call.Offer a b c} (fb, fc) (cons tt (cons tt
-    (cons tt (cons tt (cons tt (cons tt (cons tt (cons tt (cons tt nil)))))))))))))) tt
+    (cons tt (cons tt (cons tt (cons tt (cons tt (cons tt (cons tt (cons tt nil))))))))))))))) tt
 
 -- ---- one question
 
 module _ {xs ls xs' ls' : List ℕ} (which a b c d r : ℕ) where
-  pub step-answered : {v : Answer} {e : Call} → which < 15 → b < 4294967296 → c < 4294967296
+  pub step-answered : {v : Answer} {e : Call} → which < 16 → b < 4294967296 → c < 4294967296
       → e ≡ callOf which a b c → After (stepOn xs ls e) xs ls xs' ls' v → r ≡ answerNumber v
       → Answered (asking which a b c d r) xs ls xs' ls'
   unfolding asking
   step-answered {v} h fb fc e after n =
       subst (λ (t : Bool). Answered (cond t (called (callOf which a b c) r) (held a b c d r))
-      xs ls xs' ls') (sym (lt-ltb which 15 h)) (
+      xs ls xs' ls') (sym (lt-ltb which 16 h)) (
         call-fits which a b c fb fc,
         v,
         n,
         subst (λ (f : Call). After (stepOn xs ls f) xs ls xs' ls' v) e after,
       )
 
-pub holds-answered : (xs ls : List ℕ) (which a b c d r : ℕ) → 15 ≤ which
+pub holds-answered : (xs ls : List ℕ) (which a b c d r : ℕ) → 16 ≤ which
     → r ≡ answerNumber (holdsOn xs ls a b c d) → Answered (asking which a b c d r) xs ls xs ls
 unfolding asking
 holds-answered xs ls which a b c d r h n =
     subst (λ (t : Bool). Answered (cond t (called (callOf which a b c) r) (held a b c d r))
-    xs ls xs ls) (sym (le-ltb which 15 h)) (n, refl, refl)
+    xs ls xs ls) (sym (le-ltb which 16 h)) (n, refl, refl)
 
 -- ---- the questions before, and one more
 

@@ -15,18 +15,18 @@ script =
     asks 0 1 0 0 0
     (asks 1 1 0 0 0
     (asks 2 1 0 0 0
-    (asks 14 1 2 0 0
-    (asks 14 2 1 0 0
+    (asks 15 1 2 0 0
+    (asks 15 2 1 0 0
     (asks 3 1 0 0 0
-    (asks 12 1 2 0 0
+    (asks 13 1 2 0 0
     (asks 4 1 71 72 0
     (asks 5 1 0 0 0
-    (asks 14 1 2 0 0
-    (asks 14 2 1 0 0
+    (asks 15 1 2 0 0
+    (asks 15 2 1 0 0
     (asks 6 1 0 0 0
-    (asks 14 1 2 0 0
-    (asks 15 1 1 71 72
-    (asks 15 2 1 71 72 []))))))))))))))
+    (asks 15 1 2 0 0
+    (asks 16 1 1 71 72
+    (asks 16 2 1 71 72 []))))))))))))))
 
 pub record NotEmpty : Type 0 where
   -- on whatever words have room, and with room for 15 answers, both lines are answered 0

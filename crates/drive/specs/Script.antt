@@ -18,6 +18,7 @@ firstCalls a b c =
     ∷ Call.Propose a
     ∷ Call.Agree a
     ∷ Call.Finish a
+    ∷ Call.Heard a
     ∷ Call.Trim a b
     ∷ Call.Stop a
     ∷ Call.Return a
@@ -30,10 +31,10 @@ firstCalls a b c =
 unfoldable pub callOf : ℕ → ℕ → ℕ → ℕ → Call
 callOf which a b c = getD (firstCalls a b c) which (Call.Deliver a b)
 
--- 0 to 14 asks for a call, and any other number for the holds line of the four that follow
+-- 0 to 15 asks for a call, and any other number for the holds line of the four that follow
 unfoldable pub asking : ℕ → ℕ → ℕ → ℕ → ℕ → ℕ → Said ℕ
 asking which a b c d answer =
-    cond (ltb which 15) (called (callOf which a b c) answer) (held a b c d answer)
+    cond (ltb which 16) (called (callOf which a b c) answer) (held a b c d answer)
 
 -- question i of a script, counted from 0, with its answer
 abbrev pub saidAt : List ℕ → ℕ → ℕ → Said ℕ

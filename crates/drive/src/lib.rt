@@ -12,7 +12,7 @@ use rules::numbers::answer_number;
 const WIDTH: usize = 5;
 
 // How many calls there are.
-const CALLS: u32 = 15;
+const CALLS: u32 = 16;
 
 fn call_of(which: u32, a: u32, b: u32, c: u32) -> Call
     ensures { λ r. ⌜ r ≡ callOf which a b c ⌝ }
@@ -26,12 +26,13 @@ fn call_of(which: u32, a: u32, b: u32, c: u32) -> Call
         5 => Call::Propose(a),
         6 => Call::Agree(a),
         7 => Call::Finish(a),
-        8 => Call::Trim(a, b),
-        9 => Call::Stop(a),
-        10 => Call::Return(a),
-        11 => Call::Timeout(a),
-        12 => Call::Lose(a, b),
-        13 => Call::Repeat(a, b),
+        8 => Call::Heard(a),
+        9 => Call::Trim(a, b),
+        10 => Call::Stop(a),
+        11 => Call::Return(a),
+        12 => Call::Timeout(a),
+        13 => Call::Lose(a, b),
+        14 => Call::Repeat(a, b),
         _ => Call::Deliver(a, b),
     }
 }

@@ -16,7 +16,7 @@ use Rattle.rules.specs.NewPn.{newPn}
 use Rattle.rules.specs.Turns.{firstCause, unless, settled}
 use Rattle.rules.specs.Parts.{others, isHeld, underOf, higher, tookKept, tookBook, roomNext}
 use Rattle.rules.specs.Parts.{cleared}
-use Rattle.rules.specs.Last.{noted, heard, behind, lagging, improves, bettered, raised, counted}
+use Rattle.rules.specs.Last.{noted, told, behind, lagging, improves, bettered, raised, counted}
 use Rattle.rules.specs.Last.{uncounted, replied, lastVerdict, onLast}
 use Rattle.rules.specs.Mails.{unagreedOf, onCollect, beginVerdict, onBegin, acceptVerdict, onAccept}
 use Rattle.rules.specs.Mails.{onCommit, ofKind, onMail}
@@ -84,7 +84,7 @@ pub computed : Computed (run (fresh 2 16 8) load)
 unfolding pick
     all each every tally sizesForm proper recordForm bit joined without digit has setForm
     fullSet inState inPhase newPn firstCause unless settled others isHeld underOf tookKept
-    tookBook cleared noted heard behind lagging improves bettered raised counted uncounted
+    tookBook cleared noted told behind lagging improves bettered raised counted uncounted
     replied lastVerdict onLast unagreedOf onCollect beginVerdict onBegin acceptVerdict onAccept
     onCommit ofKind onMail elected canRecover recover canCollect bestHeld collect
     started leased canReady hasPrevious ready canOffer offer canPropose propose canAgree agree

@@ -75,6 +75,7 @@ call-fits (Call.Offer c left right) e =
 call-fits (Call.Propose c) e = tt
 call-fits (Call.Agree c) e = tt
 call-fits (Call.Finish c) e = tt
+call-fits (Call.Heard c) e = tt
 call-fits (Call.Trim c k) e = tt
 call-fits (Call.Stop c) e = tt
 call-fits (Call.Return c) e = tt

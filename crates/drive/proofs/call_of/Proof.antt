@@ -12,10 +12,10 @@ module _ (s : tie.Start) where
       ≡ callOf (s .args .which) (s .args .a) (s .args .b) (s .args .c)
   at k e = call-at k (s .args .a) (s .args .b) (s .args .c) e
 
-returns-15 : tie.Need-returns-15
-returns-15 c =
+returns-16 : tie.Need-returns-16
+returns-16 c =
     let a = c .before .args in
-    call-rest (a .a) (a .b) (a .c) (none-below 14 (a .which) (c .match .rest))
+    call-rest (a .a) (a .b) (a .c) (none-below 15 (a .which) (c .match .rest))
 
 pub call-of-spec : {M : Type 1} → statement M
 unfolding callOf
@@ -29,4 +29,4 @@ call-of-spec =
     (λ c. at (c .before) 8 (c .match .keys9)) (λ c. at (c .before) 9 (c .match .keys10))
     (λ c. at (c .before) 10 (c .match .keys11)) (λ c. at (c .before) 11 (c .match .keys12))
     (λ c. at (c .before) 12 (c .match .keys13)) (λ c. at (c .before) 13 (c .match .keys14))
-    returns-15)
+    (λ c. at (c .before) 14 (c .match .keys15)) returns-16)
