@@ -2,11 +2,12 @@
 -- numbers by counting.
 use Prim.Native.Nat.{ℕ}
 use mathlib.Core.Path.{_≡_, refl, subst}
-use mathlib.Core.Bool.{true}
+use mathlib.Core.Bool.{Bool, true, not, _&&_}
 use mathlib.Core.List.{List, [], _∷_}
 use native.Mathlib.Omega.{arith}
 use lib.ListN.{length}
 use lib.Count.{ones, onesIn}
+use Rattle.rules.specs.Answers.{isRefusal}
 use Rattle.rules.specs.Pick.{pick}
 use Rattle.rules.specs.Every.{all, each, every, tally}
 use Rattle.rules.specs.Sizes.{sizesForm, proper, recordForm}
@@ -37,7 +38,7 @@ use Rattle.said.specs.Said.{Talk, called, held, At, latest, before, True
 use Rattle.said.specs.Spoken.{Spoken, begun, stepped, asked}
 
 -- what is said where only calls are made
-answers : ℕ → ℕ → ℕ → List Call → Talk
+unfoldable pub answers : ℕ → ℕ → ℕ → List Call → Talk
 answers n J L [] = []
 answers n J L (d ∷ ds) = called d (step (run (fresh n J L) ds) d .answer) ∷ answers n J L ds
 
@@ -75,13 +76,20 @@ sizes : sizesForm 2 16 8 ≡ true
 unfolding sizesForm all
 sizes = refl
 
+-- no call among them was refused
+abbrev pub unrefused : Talk → Bool
+unrefused [] = true
+unrefused (called d a ∷ h) = not (isRefusal a) && unrefused h
+unrefused (held b k l r a ∷ h) = not (isRefusal a) && unrefused h
+
 pub record Computed (s : Site) : Type 0 where
   pub one : holds s 1 1 71 72 ≡ Answer.Done
   pub two : holds s 2 1 71 72 ≡ Answer.Done
+  pub taken : unrefused (answers 2 16 8 load) ≡ true
 
 -- load 1 is held at both
 pub computed : Computed (run (fresh 2 16 8) load)
-unfolding pick
+unfolding answers pick
     all each every tally sizesForm proper recordForm bit joined without digit has setForm
     fullSet inState inPhase newPn firstCause unless settled others isHeld underOf tookKept
     tookBook cleared noted told behind lagging improves bettered raised counted uncounted
@@ -91,7 +99,7 @@ unfolding pick
     acted heldAt written enclosed freshHead fresh posted room
     countForm peerForm formBox formKind formLetter formLink form ruled byAnswer delivered elect
     step run agreedAs holds ones onesIn firstForm higher roomNext
-computed = record { one = refl; two = refl }
+computed = record { one = refl; two = refl; taken = refl }
 
 said-so : {h : Talk} {b k l r : ℕ} {a : Answer} → a ≡ Answer.Done
     → TrueAt Answer.Done (held b k l r a ∷ h) (length h) b k l r

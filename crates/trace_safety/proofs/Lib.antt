@@ -1,2 +1,3 @@
 -- Demand 3 of the lines of a trace.
+pub mod Load
 pub mod Traced

@@ -30,6 +30,7 @@ use Rattle.said.proofs.Lines.{line-done}
 use Rattle.said.proofs.Past.{past}
 use Rattle.said.proofs.Retold.{retold-safely}
 use Rattle.said.proofs.Spoke.{spoken-safely}
+use Rattle.trace_safety.proofs.Load.{said-more, two-lines}
 use Rattle.trace_safety.specs.Taken.{saidFrom, taken, answeredLines, runAfter}
 use Rattle.trace_safety.specs.Taken.{TracedSafely}
 
@@ -94,14 +95,6 @@ fit-first [] rest fs = nil
 fit-first (l ∷ ls) rest (cons f fs) = cons f (fit-first ls rest fs)
 
 -- ---- what the lines say
-
-said-more : (h : List (Said Bool)) (ls : List Line) (l : Line)
-    → saidFrom h (ls ++ (l ∷ [])) ≡ saidFrom (saidFrom h ls) (l ∷ [])
-said-more h [] l = refl
-said-more h (Line.Site n J L ∷ ls) l = said-more h ls l
-said-more h (Line.Call d ∷ ls) l = said-more (called d true ∷ h) ls l
-said-more h (Line.Holds b k left right ∷ ls) l = said-more (held b k left right true ∷ h) ls l
-said-more h (Line.Unreadable ∷ ls) l = said-more h ls l
 
 abbrev passes : Answer → Bool
 passes a = not (isRefusal a)
@@ -189,4 +182,5 @@ pub traced-safely : TracedSafely
 traced-safely = record {
   demand-3 = first-lines;
   replayed = λ input o k s e. whole-output input o k s e;
+  not-empty = two-lines;
 }

@@ -11,7 +11,7 @@ use Rattle.lines.specs.declared.Line.{Line}
 use Rattle.trace.specs.Lines.{linesOf}
 use Rattle.trace.specs.Replay.{Run, going, replay}
 use Rattle.trace.specs.Stops.{Ran, Output, all-taken, stopped}
-use Rattle.said.specs.Said.{Said, called, held}
+use Rattle.said.specs.Said.{Said, called, held, TrueAt}
 use Rattle.said.specs.Demand3.{Demand3}
 use Rattle.said.specs.Spoken.{firsts}
 
@@ -45,3 +45,8 @@ pub record TracedSafely : Type 0 where
   pub replayed : (input : List ℕ) (o : Output (linesOf input) (replay input)) (k : ℕ) (s : Site)
       → runAfter o ≡ going k s
       → Demand3 true false (saidFrom [] (answeredLines o)) (taken s) (firsts s)
+  -- Not empty: lines that the rules take, with a true holds line of each of two boxes.
+  pub not-empty : (ls : List Line) × (k : ℕ) × (s : Site) × (text : List ℕ)
+      × Ran ls (going k s) text
+      × (i : ℕ) × TrueAt true (saidFrom [] ls) i 1 1 71 72
+      × (j : ℕ) × TrueAt true (saidFrom [] ls) j 2 1 71 72
