@@ -14,9 +14,9 @@ use Rattle.rules.specs.NewPn.{newPn}
 use Rattle.rules.specs.Parts.{isHeld, higher, roomNext}
 use Rattle.rules.specs.Turns.{firstCause, unless}
 use Rattle.rules.specs.Last.{lastVerdict}
-use Rattle.rules.specs.Mails.{beginVerdict, acceptVerdict}
+use Rattle.rules.specs.Mails.{beginVerdict, acceptVerdict, leaseAckVerdict}
 use Rattle.rules.specs.Steps.{canRecover, canCollect, canReady, hasPrevious, canOffer, canPropose}
-use Rattle.rules.specs.Steps.{canAgree, canFinish, canTrim}
+use Rattle.rules.specs.Steps.{canAgree, canFinish, canHeard, canTrim}
 use Rattle.laws.proofs.Types.{BoxState, Held, Mail, Phase, Refusal, Setting, State, Verdict}
 use Rattle.laws.proofs.Logic.{Or, left, right, both-no, eqb-yes, eqb-no, and-yes, and4}
 use Rattle.laws.proofs.Logic.{and5, and6, or-cases}
@@ -132,6 +132,17 @@ go-accept {b} {m} e = let g = go-cause _ _ _ _ _ e in record {
   place = eqb-yes _ _ (not-false _ (g .no-place));
 }
 
+pub record LeaseAckTaken (b : BoxState) : Type 0 where
+  pub leads : b .leads ≡ true
+  pub phase : phaseNumber (b .phase) ≡ 3
+
+pub go-lease-ack : {b : BoxState} → leaseAckVerdict b ≡ Verdict.Go → LeaseAckTaken b
+unfolding leaseAckVerdict
+go-lease-ack e = let g = go-cause _ _ _ _ _ e in record {
+  leads = not-false _ (g .no-role);
+  phase = in-phase _ _ (not-false _ (g .no-phase));
+}
+
 -- ---- steps
 
 -- in every step but Trim the epoch is even and the box leads, in a phase and a state of these
@@ -192,9 +203,16 @@ module _ {b : BoxState} {s : Setting} where
   can-propose e = let p = and5 _ _ _ _ _ e in
       (led (p .0) (p .1) (idle (or-cases _ _ (p .3))) (in-state _ _ (p .2)), some (p .4))
     where
-      idle : Or (inPhase (b .phase) Phase.Lease ≡ true) (inPhase (b .phase) Phase.Election ≡ true)
+      leased : Or (inPhase (b .phase) Phase.Lease ≡ true)
+          (inPhase (b .phase) Phase.LeaseDone ≡ true)
           → phaseNumber (b .phase) ≡ 4 → ⊥
-      idle (left f) g = omega (arith, in-phase _ _ f, g)
+      leased (left f) g = omega (arith, in-phase _ _ f, g)
+      leased (right f) g = omega (arith, in-phase _ _ f, g)
+
+      idle : Or ((inPhase (b .phase) Phase.Lease || inPhase (b .phase) Phase.LeaseDone) ≡ true)
+          (inPhase (b .phase) Phase.Election ≡ true)
+          → phaseNumber (b .phase) ≡ 4 → ⊥
+      idle (left f) g = leased (or-cases _ _ f) g
       idle (right f) g = omega (arith, in-phase _ _ f, g)
 
       some : not (eqb (b .waiting) 0) ≡ true → b .waiting ≡ 0 → ⊥
@@ -218,6 +236,11 @@ module _ {b : BoxState} {s : Setting} where
   unfolding canFinish
   can-finish e = let p = and4 _ _ _ _ e in
       led (p .0) (p .1) (in-phase _ _ (p .3)) (in-state _ _ (p .2))
+
+  pub can-heard : canHeard b s ≡ true
+      → Leading (Is 3) Any b s × (includes (b .heard) (s .present) ≡ true)
+  unfolding canHeard
+  can-heard e = let p = and4 _ _ _ _ e in (led (p .0) (p .1) (in-phase _ _ (p .2)) tt, p .3)
 
   pub can-trim : {k : ℕ} → canTrim b s k ≡ true → CanTrim b s k
   unfolding canTrim

@@ -22,8 +22,8 @@ use Rattle.laws.proofs.SetLaws.{set-full, set-zero}
 use Rattle.laws.proofs.FormLaws.{FormedBox, FormedLetter, Formed, form-says, form-made}
 use Rattle.laws.proofs.FormLaws.{sizes-says, box-is}
 use Rattle.laws.proofs.StepLaws.{by-step, changed, Plays, Elects, recovers, collects}
-use Rattle.laws.proofs.StepLaws.{readies, offers, proposes, agrees, finishes, trims}
-use Rattle.laws.proofs.StepLaws.{delivers}
+use Rattle.laws.proofs.StepLaws.{readies, offers, proposes, agrees, finishes, hears}
+use Rattle.laws.proofs.StepLaws.{trims, delivers}
 use Rattle.laws.proofs.FrameLaws.{upd-all, posted-room}
 use Rattle.laws.proofs.StoreForm.{box-of, kept-part, best-part, peers-part, none-form}
 use Rattle.laws.proofs.StoreForm.{unknown-form}
@@ -121,8 +121,8 @@ elected-form s c f e = record {
   few-epochs = omega (arith, f .few-epochs, eqb-false (s .epoch % 2) 0 (not-true _ (e .due)));
   present = f .present;
   boxes = λ b h. rw (box-is h) (let x = f .boxes b h in
-      box-of (kept-part x) (best-part x) (x .answered) (x .accepts) (left refl) (left refl)
-      (peers-part x));
+      box-of (kept-part x) (best-part x) (x .answered) (x .accepts) (x .heard) (left refl)
+      (left refl) (peers-part x));
   one-leader = λ i j hi hj p q. leader i hi p ∙ sym (leader j hj q);
   links = λ a b ha hb ab. record { room = omega arith; letters = nil };
 }
@@ -168,6 +168,7 @@ module _ (s : Site) where
   event-fits h f hc proposes = tt
   event-fits h f hc agrees = tt
   event-fits h f hc finishes = tt
+  event-fits h f hc hears = tt
   event-fits h f hc (trims k) = tt
   event-fits h f hc (delivers ha ac e) = (ha, ac, head-of e (f .links _ _ ha hc ac .letters))
 
@@ -182,6 +183,7 @@ module _ (s : Site) where
   base-form f proposes = f
   base-form f agrees = f
   base-form f finishes = f
+  base-form f hears = f
   base-form f (trims k) = f
   base-form {c = c} f (delivers {a = a} ha ac e) = popped-form s a c f
 
@@ -227,7 +229,7 @@ fresh-form n J L e = form-made (record {
         stored-pn = omega arith;
         stored-number = omega arith;
       })
-      none-form (set-zero n) (set-zero n) (left refl) (left refl) (unknown-form n b);
+      none-form (set-zero n) (set-zero n) (set-zero n) (left refl) (left refl) (unknown-form n b);
   one-leader = λ i j hi hj p q. absurd (both-no p refl);
   links = λ a b ha hb ab. record { room = omega arith; letters = nil };
 })

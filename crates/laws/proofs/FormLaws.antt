@@ -225,6 +225,7 @@ pub record FormedBox (n J b : ℕ) (x : Box) : Type 0 where
   pub best : Or (x .head .best .value ≡ 0) (Proper (x .head .best .value))
   pub answered : setForm n (x .head .answered) ≡ true
   pub accepts : setForm n (x .head .accepts) ≡ true
+  pub heard : setForm n (x .head .heard) ≡ true
   pub waiting : Or (x .head .waiting ≡ 0) (Proper (x .head .waiting))
   pub agreeing : Or (x .head .agreeing ≡ 0) (Proper (x .head .agreeing))
   pub places : length (x .head .peers) ≡ mostBoxes
@@ -246,12 +247,13 @@ module _ {n J b : ℕ} {x : Box} where
     best = record-says (q .1 .0);
     answered = q .1 .1 .0;
     accepts = q .1 .1 .1 .0;
-    waiting = record-says (q .1 .1 .1 .1 .0);
-    agreeing = record-says (q .1 .1 .1 .1 .1 .0);
-    places = eqb-yes _ _ (q .1 .1 .1 .1 .1 .1 .0);
+    heard = q .1 .1 .1 .1 .0;
+    waiting = record-says (q .1 .1 .1 .1 .1 .0);
+    agreeing = record-says (q .1 .1 .1 .1 .1 .1 .0);
+    places = eqb-yes _ _ (q .1 .1 .1 .1 .1 .1 .1 .0);
     peers = λ k h.
         peer-says n b (x .head .peers) k
-        (every-at mostBoxes _ (q .1 .1 .1 .1 .1 .1 .1 .0) k h);
+        (every-at mostBoxes _ (q .1 .1 .1 .1 .1 .1 .1 .1 .0) k h);
   }
 
   pub box-made : FormedBox n J b x → formBox n J b x ≡ true
@@ -270,6 +272,7 @@ module _ {n J b : ℕ} {x : Box} where
       & record-made (h .best)
       & h .answered
       & h .accepts
+      & h .heard
       & record-made (h .waiting)
       & record-made (h .agreeing)
       & eq-eqb _ _ (h .places)
@@ -303,6 +306,7 @@ pub record FormedCommit (J last F unagreed count : ℕ) : Type 0 where
   pub room : count ≤ J
   pub no-unagreed : unagreed ≡ 0
 
+-- of a Lease and of a LeaseAck
 pub record FormedLease (pn first unagreed count : ℕ) : Type 0 where
   pub bare : Bare first unagreed count
   pub no-pn : pn ≡ 0
@@ -314,6 +318,7 @@ FormedKind Kind.Begin J pn last first unagreed count = FormedBegin J last first 
 FormedKind Kind.Accept J pn last first unagreed count = Bare first unagreed count
 FormedKind Kind.Commit J pn last first unagreed count = FormedCommit J last first unagreed count
 FormedKind Kind.Lease J pn last first unagreed count = FormedLease pn first unagreed count
+FormedKind Kind.LeaseAck J pn last first unagreed count = FormedLease pn first unagreed count
 
 bare-says : (first u count : ℕ) → bare first u count ≡ true → Bare first u count
 bare-says first u count e =
@@ -328,6 +333,17 @@ bare-made : (first u count : ℕ) → Bare first u count → bare first u count 
 bare-made first u count h =
     and-both (and-both (eq-eqb count 0 (h .no-records)) (eq-eqb u 0 (h .no-unagreed)))
     (eq-eqb first 0 (h .no-first))
+
+lease-says : (pn first u count : ℕ) → (bare first u count && eqb pn 0) ≡ true
+    → FormedLease pn first u count
+lease-says pn first u count e =
+    let p = and-yes (bare first u count) (eqb pn 0) e in
+    record { bare = bare-says first u count (p .0); no-pn = eqb-yes pn 0 (p .1) }
+
+lease-made : (pn first u count : ℕ) → FormedLease pn first u count
+    → (bare first u count && eqb pn 0) ≡ true
+lease-made pn first u count h =
+    and-both (bare-made first u count (h .bare)) (eq-eqb pn 0 (h .no-pn))
 
 pub kind-says : (k : Kind) (J pn last first unagreed count : ℕ)
     → formKind k J pn last first unagreed count ≡ true
@@ -368,9 +384,8 @@ kind-says Kind.Commit J pn last first u count e =
       room = leb-true count J (p .2);
       no-unagreed = eqb-yes u 0 (p .3);
     }
-kind-says Kind.Lease J pn last first u count e =
-    let p = and-yes (bare first u count) (eqb pn 0) e in
-    record { bare = bare-says first u count (p .0); no-pn = eqb-yes pn 0 (p .1) }
+kind-says Kind.Lease J pn last first u count e = lease-says pn first u count e
+kind-says Kind.LeaseAck J pn last first u count e = lease-says pn first u count e
 
 pub kind-made : (k : Kind) (J pn last first unagreed count : ℕ)
     → FormedKind k J pn last first unagreed count
@@ -398,8 +413,8 @@ kind-made Kind.Commit J pn last first u count h =
     (and-both (first-made (h .first)) (eq-eqb (first + count) (last + 1) (h .all-records)))
     (le-leb count J (h .room)))
     (eq-eqb u 0 (h .no-unagreed))
-kind-made Kind.Lease J pn last first u count h =
-    and-both (bare-made first u count (h .bare)) (eq-eqb pn 0 (h .no-pn))
+kind-made Kind.Lease J pn last first u count h = lease-made pn first u count h
+kind-made Kind.LeaseAck J pn last first u count h = lease-made pn first u count h
 
 pub record FormedLetter (J : ℕ) (y : Letter) : Type 0 where
   pub kind :

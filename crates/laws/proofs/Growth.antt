@@ -7,10 +7,11 @@ use native.Mathlib.Omega.{arith}
 use lib.Dec.{eqb, ltb}
 use lib.ListN.{getD}
 use Rattle.rules.specs.Parts.{higher, dropped, tookKept}
-use Rattle.rules.specs.Last.{heard, raised, counted, uncounted, replied, onLast}
-use Rattle.rules.specs.Mails.{onCollect, onBegin, onAccept, onCommit, onLease, ofKind, onMail}
+use Rattle.rules.specs.Last.{told, raised, counted, uncounted, replied, onLast}
+use Rattle.rules.specs.Mails.{onCollect, onBegin, onAccept, onCommit, onLease, onLeaseAck, ofKind}
+use Rattle.rules.specs.Mails.{onMail}
 use Rattle.rules.specs.Steps.{elected, recover, collect, started, leased, ready, offer, propose}
-use Rattle.rules.specs.Steps.{agree, finish, trim, acted}
+use Rattle.rules.specs.Steps.{agree, finish, leaseHeard, trim, acted}
 use Rattle.rules.specs.Box.{Box, Letter, Event, own, mail, mine, nextOf, written, turnOf, turned}
 use Rattle.rules.specs.Box.{brought}
 use Rattle.rules.specs.Site.{Site, setting, isBox, upd}
@@ -91,7 +92,7 @@ module _ (s : Setting) (x : Box) (shape : Shaped (store x)) where
       rw e (record { up = omega arith; first = omega arith; same = g .same })
 
   grow-act : (a : Act) → Turning x [] (acted a (x .head) s (mine x))
-  unfolding acted recover collect ready offer propose agree finish trim leased written
+  unfolding acted recover collect ready offer propose agree finish leaseHeard trim leased written
   grow-act Act.Recover =
       by-verdict (Turning x []) _ _ _ (λ a. stays) (λ go. grows-promised (store x) _)
   grow-act Act.Collect = by-verdict (Turning x []) _ _ _ (λ a. stays) (λ go. stays)
@@ -105,6 +106,7 @@ module _ (s : Setting) (x : Box) (shape : Shaped (store x)) where
   grow-act Act.Agree =
       by-verdict (Turning x []) _ _ _ (λ a. stays) (λ go. grows-agreed (store x))
   grow-act Act.Finish = by-verdict (Turning x []) _ _ _ (λ a. stays) (λ go. stays)
+  grow-act Act.Heard = by-verdict (Turning x []) _ _ _ (λ a. stays) (λ go. stays)
   grow-act (Act.Trim k) =
       by-verdict (Turning x []) _ _ _ (λ a. stays)
       (λ go. let can = can-trim {b = x .head} (go-unless _ _ _ go .0) in
@@ -132,7 +134,8 @@ module _ (s : Setting) (x : Box) (shape : Shaped (store x)) where
 
     grow-kind : (k : Kind)
         → Mailed (ofKind k (x .head) s a (y .head) (getD (y .records) 0 0) (nextOf y) (mine x))
-    unfolding ofKind onCollect onLast onBegin onAccept onCommit onLease heard tookKept written
+    unfolding ofKind onCollect onLast onBegin onAccept onCommit onLease onLeaseAck told tookKept
+        written
     grow-kind Kind.Collect =
         by-verdict Mailed _ _ _ (λ a. stays) (λ go. grows-promised (store x) _)
     grow-kind Kind.Last =
@@ -146,6 +149,7 @@ module _ (s : Setting) (x : Box) (shape : Shaped (store x)) where
     grow-kind Kind.Accept = by-verdict Mailed _ _ _ (λ a. stays) (λ go. stays)
     grow-kind Kind.Commit = by-verdict Mailed _ _ _ (λ a. stays) (λ go. took-records)
     grow-kind Kind.Lease = by-verdict Mailed _ _ _ (λ a. stays) (λ go. stays)
+    grow-kind Kind.LeaseAck = by-verdict Mailed _ _ _ (λ a. stays) (λ go. stays)
 
   pub grow-turn : (e : Event) → Turning x (brought e) (turnOf s x e)
   unfolding onMail written

@@ -10,9 +10,10 @@ use Rattle.rules.specs.Sets.{has, bit}
 use Rattle.rules.specs.Turns.{settled}
 use Rattle.rules.specs.Parts.{others}
 use Rattle.rules.specs.Last.{lagging, onLast}
-use Rattle.rules.specs.Mails.{onCollect, onBegin, onAccept, onCommit, onLease, ofKind, onMail}
+use Rattle.rules.specs.Mails.{onCollect, onBegin, onAccept, onCommit, onLease, onLeaseAck, ofKind}
+use Rattle.rules.specs.Mails.{onMail}
 use Rattle.rules.specs.Steps.{recover, collect, started, leased, hasPrevious, ready, offer, propose}
-use Rattle.rules.specs.Steps.{agree, finish, trim, acted}
+use Rattle.rules.specs.Steps.{agree, finish, leaseHeard, trim, acted}
 use Rattle.rules.specs.Box.{Box, Letter, Event, own, mail, mine, nextOf, turnOf}
 use Rattle.laws.proofs.Types.{Act, Kind, Setting, Turn, Verdict}
 use Rattle.laws.proofs.Logic.{In, eqb-same, pick-elim}
@@ -42,7 +43,7 @@ module _ (s : Setting) (x : Box) (me : In (s .me) mostBoxes) where
       ∙ and-off (has (s .present) (s .me))
 
   act-apart : (a : Act) → Apart (acted a (x .head) s (mine x))
-  unfolding acted recover collect ready offer propose agree finish trim started leased
+  unfolding acted recover collect ready offer propose agree finish leaseHeard trim started leased
   act-apart Act.Recover = settled-apart _ _ tt
   act-apart Act.Collect = settled-apart _ _ not-others
   act-apart Act.Ready =
@@ -52,6 +53,7 @@ module _ (s : Setting) (x : Box) (me : In (s .me) mostBoxes) where
   act-apart Act.Propose = settled-apart _ _ not-others
   act-apart Act.Agree = settled-apart _ _ not-others
   act-apart Act.Finish = settled-apart _ _ not-others
+  act-apart Act.Heard = settled-apart _ _ tt
   act-apart (Act.Trim k) = settled-apart _ _ tt
 
   module _ (a : ℕ) (from : In a mostBoxes) (other : a ≡ s .me → ⊥) (y : Letter) where
@@ -64,13 +66,14 @@ module _ (s : Setting) (x : Box) (me : In (s .me) mostBoxes) where
 
     kind-apart : (k : Kind)
         → Apart (ofKind k (x .head) s a (y .head) (getD (y .records) 0 0) (nextOf y) (mine x))
-    unfolding ofKind onCollect onLast onBegin onAccept onCommit onLease
+    unfolding ofKind onCollect onLast onBegin onAccept onCommit onLease onLeaseAck
     kind-apart Kind.Collect = settled-apart _ _ not-sender
     kind-apart Kind.Last = settled-apart _ _ (not-lagging _ _)
     kind-apart Kind.Begin = settled-apart _ _ not-sender
     kind-apart Kind.Accept = settled-apart _ _ tt
     kind-apart Kind.Commit = settled-apart _ _ tt
-    kind-apart Kind.Lease = settled-apart _ _ tt
+    kind-apart Kind.Lease = settled-apart _ _ not-sender
+    kind-apart Kind.LeaseAck = settled-apart _ _ tt
 
     mail-apart : Apart (turnOf s x (mail a y))
     unfolding onMail

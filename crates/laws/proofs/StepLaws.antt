@@ -157,6 +157,7 @@ pub data Plays (s : Site) (c : ℕ) : Call → Event → Links → Type 0 where
   proposes : Plays s c (Call.Propose c) (own Act.Propose) (s .link)
   agrees : Plays s c (Call.Agree c) (own Act.Agree) (s .link)
   finishes : Plays s c (Call.Finish c) (own Act.Finish) (s .link)
+  hears : Plays s c (Call.Heard c) (own Act.Heard) (s .link)
   trims : (k : ℕ) → Plays s c (Call.Trim c k) (own (Act.Trim k)) (s .link)
   delivers : {a : ℕ} {y : Letter} {ys : List Letter} → In a (s .n) → (a ≡ c → ⊥)
       → s .link a c ≡ y ∷ ys
@@ -215,6 +216,7 @@ module _ {κ} (P : Site → Type κ) (s : Site) (old : P s)
   by-step (Call.Propose c) plays = by-act proposes plays
   by-step (Call.Agree c) plays = by-act agrees plays
   by-step (Call.Finish c) plays = by-act finishes plays
+  by-step (Call.Heard c) plays = by-act hears plays
   by-step (Call.Trim c k) plays = by-act (trims k) plays
   by-step (Call.Stop c) plays =
       by-ruled P s _ _ old

@@ -331,10 +331,11 @@ module _ {n J c : ℕ} {x : Box} (f : FormedBox n J c x) where
 
 pub box-of : {n J c : ℕ} {h : BoxState} {rs : List ℕ} → KeptForm J (h .kept) rs
     → BestForm (h .best) → setForm n (h .answered) ≡ true
-    → setForm n (h .accepts) ≡ true → Or (h .waiting ≡ 0) (Proper (h .waiting))
+    → setForm n (h .accepts) ≡ true → setForm n (h .heard) ≡ true
+    → Or (h .waiting ≡ 0) (Proper (h .waiting))
     → Or (h .agreeing ≡ 0) (Proper (h .agreeing)) → PeersForm n c (h .peers)
     → FormedBox n J c (record { head = h; records = rs })
-box-of k b answered accepts waiting agreeing p = record {
+box-of k b answered accepts heard waiting agreeing p = record {
   last = k .last;
   first = k .first;
   held = k .held;
@@ -347,6 +348,7 @@ box-of k b answered accepts waiting agreeing p = record {
   best = b .value;
   answered = answered;
   accepts = accepts;
+  heard = heard;
   waiting = waiting;
   agreeing = agreeing;
   places = p .places;

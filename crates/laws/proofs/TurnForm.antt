@@ -12,11 +12,12 @@ use Rattle.rules.specs.Sets.{setForm, bit}
 use Rattle.rules.specs.NewPn.{newPn}
 use Rattle.rules.specs.Turns.{settled, still, mailOf, mailFrom}
 use Rattle.rules.specs.Parts.{others, span, higher, tookKept, tookBook}
-use Rattle.rules.specs.Last.{noted, heard, lagging, raised, counted, uncounted, replied, onLast}
-use Rattle.rules.specs.Mails.{unagreedOf, onCollect, onBegin, onAccept, onCommit, onLease, ofKind}
-use Rattle.rules.specs.Mails.{onMail}
+use Rattle.rules.specs.Last.{noted, told, lagging, raised, counted, uncounted, replied, onLast}
+use Rattle.rules.specs.Mails.{unagreedOf, onCollect, onBegin, onAccept, onCommit, onLease}
+use Rattle.rules.specs.Mails.{onLeaseAck, ofKind, onMail}
 use Rattle.rules.specs.Steps.{recover, collect, started, leased, hasPrevious, canReady, ready}
-use Rattle.rules.specs.Steps.{offer, canPropose, propose, canAgree, agree, finish, trim, acted}
+use Rattle.rules.specs.Steps.{offer, canPropose, propose, canAgree, agree, finish, leaseHeard, trim}
+use Rattle.rules.specs.Steps.{acted}
 use Rattle.rules.specs.Box.{Box, Letter, Event, own, mail, mine, nextOf, written, enclosed}
 use Rattle.rules.specs.Box.{BookFits, letterOf, turnOf, turned, brought}
 use Rattle.laws.specs.Frames.{ActFits}
@@ -25,8 +26,8 @@ use Rattle.laws.proofs.Types.{Turn, Verdict}
 use Rattle.laws.proofs.Logic.{Or, left, right, In, nil, cons, All-at, All-take, and-yes}
 use Rattle.laws.proofs.Logic.{and-both, pick-elim}
 use Rattle.laws.proofs.SetLaws.{set-bit, set-joined, set-without, set-and}
-use Rattle.laws.proofs.FormLaws.{Proper, FormedFirst, FormedBox, Bare, FormedKind}
-use Rattle.laws.proofs.FormLaws.{FormedLetter}
+use Rattle.laws.proofs.FormLaws.{Proper, FormedFirst, FormedBox, Bare, FormedLease}
+use Rattle.laws.proofs.FormLaws.{FormedKind, FormedLetter}
 use Rattle.laws.proofs.View.{store, at, Spans, last-spans, commit-spans, held-elim}
 use Rattle.laws.proofs.View.{higher-max, stored, Raises, raises-none, raises-to, raises-trim}
 use Rattle.laws.proofs.View.{stored-next}
@@ -66,6 +67,9 @@ bare k pn last rs e f p l = record {
 
 nothing : Bare 0 0 0
 nothing = record { no-records = refl; no-unagreed = refl; no-first = refl }
+
+nothing-promised : FormedLease 0 0 0 0
+nothing-promised = record { bare = nothing; no-pn = refl }
 
 -- a Commit of the records of first to last
 commit-letter : {J : ℕ} {k : Kept} {rs : List ℕ} (pn : ℕ) → KeptForm J k rs → pn ≤ mostPn
@@ -116,7 +120,7 @@ module _ (s : Setting) (x : Box) (f : FormedBox (s .n) (s .j) (s .me) x) (few : 
   pub still-fits : (ms : List ℕ) (a : Answer) → Good ms (still (x .head) a)
   unfolding written
   still-fits ms a = record {
-    box = box-of k (best-part f) (f .answered) (f .accepts) (f .waiting) (f .agreeing)
+    box = box-of k (best-part f) (f .answered) (f .accepts) (f .heard) (f .waiting) (f .agreeing)
         (peers-part f);
     book = tt;
     out = tt;
@@ -141,7 +145,8 @@ module _ (s : Setting) (x : Box) (f : FormedBox (s .n) (s .j) (s .me) x) (few : 
       record {
         box = box-of
             (promised-form k (newPn (x .head .kept .pn) (s .me)) (leb-true _ _ room))
-            (best-part f) (f .answered) (f .accepts) (f .waiting) (f .agreeing) (peers-part f);
+            (best-part f) (f .answered) (f .accepts) (f .heard) (f .waiting) (f .agreeing)
+            (peers-part f);
         book = tt;
         out = tt;
         leads = refl;
@@ -152,9 +157,8 @@ module _ (s : Setting) (x : Box) (f : FormedBox (s .n) (s .j) (s .me) x) (few : 
   collect-fits =
       settled-fits [] _ _
       (λ go. record {
-        box = box-of k (best-held-form k) (set-bit (s .n) (s .me) few me) (f .accepts) (f .waiting)
-            (f .agreeing)
-            (unknown-form (s .n) (s .me));
+        box = box-of k (best-held-form k) (set-bit (s .n) (s .me) few me) (f .accepts) (f .heard)
+            (f .waiting) (f .agreeing) (unknown-form (s .n) (s .me));
         book = tt;
         out = (
           others-form,
@@ -165,16 +169,16 @@ module _ (s : Setting) (x : Box) (f : FormedBox (s .n) (s .j) (s .me) x) (few : 
 
   -- last+1 holds r, which is proper; b is the head with other fields, of which form is asked anew
   started-fits : (b : BoxState) (r : ℕ) → b .kept ≡ x .head .kept → BestForm (b .best)
-      → setForm (s .n) (b .answered) ≡ true
+      → setForm (s .n) (b .answered) ≡ true → setForm (s .n) (b .heard) ≡ true
       → Or (b .waiting ≡ 0) (Proper (b .waiting)) → PeersForm (s .n) (s .me) (b .peers)
       → b .leads ≡ x .head .leads
       → Room (s .j) (x .head .kept .first) (x .head .kept .last) → Proper r
       → Good [] (started b s r)
   unfolding started written enclosed
-  started-fits b r e best answered waiting peers leads room p = record {
+  started-fits b r e best answered heard waiting peers leads room p = record {
     box = box-of
         (rw e (stored-form k none (k .first) (x .head .kept .pn) r (k .pn) room p))
-        best answered (set-bit (s .n) (s .me) few me) waiting (right p) peers;
+        best answered (set-bit (s .n) (s .me) few me) heard waiting (right p) peers;
     book = rw e (stored-fits k none (k .first) r [] room);
     out = rw e (
       others-form,
@@ -212,12 +216,12 @@ module _ (s : Setting) (x : Box) (f : FormedBox (s .n) (s .j) (s .me) x) (few : 
       → b .leads ≡ x .head .leads → Good [] (leased b s)
   unfolding leased written enclosed
   leased-fits b e best answered accepts waiting agreeing peers leads = record {
-    box = box-of (rw e k) best answered accepts waiting agreeing peers;
+    box = box-of (rw e k) best answered accepts (set-bit (s .n) (s .me) few me) waiting agreeing
+        peers;
     book = tt;
     out = rw e (
       others-form,
-      bare Kind.Lease 0 _ (x .records) refl
-          (record { bare = nothing; no-pn = refl }) (omega arith) (k .last),
+      bare Kind.Lease 0 _ (x .records) refl nothing-promised (omega arith) (k .last),
     );
     leads = leads;
   }
@@ -229,7 +233,7 @@ module _ (s : Setting) (x : Box) (f : FormedBox (s .n) (s .j) (s .me) x) (few : 
       (λ go. let asked = go-unless _ _ _ (go-unless (canReady (x .head) s) _ _ go .1) .0 in
       pick-elim (Good []) (hasPrevious (x .head))
       (λ e. let p = has-previous (x .head) e in
-      started-fits _ _ refl (best-part f) (f .answered) (f .waiting)
+      started-fits _ _ refl (best-part f) (f .answered) (f .heard) (f .waiting)
       (unknown-form (s .n) (s .me)) refl
       (room-where (s .j) (x .head .kept .first) (x .head .kept .last) e asked)
       (some-proper (f .best) (p .1)))
@@ -242,7 +246,7 @@ module _ (s : Setting) (x : Box) (f : FormedBox (s .n) (s .j) (s .me) x) (few : 
       settled-fits [] _ _
       (λ go. let p = and-yes _ _ (go-unless _ _ _ go .0) in
       record {
-        box = box-of k (best-part f) (f .answered) (f .accepts)
+        box = box-of k (best-part f) (f .answered) (f .accepts) (f .heard)
             (right (pair-proper l r (ltb-true 0 l (p .0)) hl (ltb-true 0 r (p .1)) hr))
             (f .agreeing) (peers-part f);
         book = tt;
@@ -256,7 +260,7 @@ module _ (s : Setting) (x : Box) (f : FormedBox (s .n) (s .j) (s .me) x) (few : 
       settled-fits [] _ _
       (λ go. let p = go-unless (canPropose (x .head) s) Refusal.Condition _ go in
       let q = go-unless _ _ _ (p .1) in
-      started-fits _ _ refl (best-part f) (f .answered) (left refl) (peers-part f) refl
+      started-fits _ _ refl (best-part f) (f .answered) (f .heard) (left refl) (peers-part f) refl
       (room-next (s .j) (x .head .kept .first) (x .head .kept .last) (q .0))
       (some-proper (f .waiting) (can-propose (p .0) .1)))
 
@@ -268,9 +272,8 @@ module _ (s : Setting) (x : Box) (f : FormedBox (s .n) (s .j) (s .me) x) (few : 
       Verdict.Go go .0) in
       let agreed = agreed-form k (is-held _ _ (can .held)) in
       record {
-        box = box-of agreed (best-part f) (f .answered) (f .accepts) (f .waiting)
-            (left refl)
-            (peers-part f);
+        box = box-of agreed (best-part f) (f .answered) (f .accepts) (f .heard) (f .waiting)
+            (left refl) (peers-part f);
         book = tt;
         out = (others-form, commit-letter (x .head .kept .pn) agreed (k .pn));
         leads = refl;
@@ -283,6 +286,18 @@ module _ (s : Setting) (x : Box) (f : FormedBox (s .n) (s .j) (s .me) x) (few : 
       (λ go. leased-fits _ refl (best-part f) (f .answered) (f .accepts) (f .waiting) (f .agreeing)
       (peers-part f) refl)
 
+  heard-fits : Good [] (leaseHeard (x .head) s)
+  unfolding leaseHeard written
+  heard-fits =
+      settled-fits [] _ _
+      (λ go. record {
+        box = box-of k (best-part f) (f .answered) (f .accepts) (f .heard) (f .waiting)
+            (f .agreeing) (peers-part f);
+        book = tt;
+        out = tt;
+        leads = refl;
+      })
+
   trim-fits : (n : ℕ) → Good [] (trim (x .head) s n)
   unfolding trim written
   trim-fits n =
@@ -293,7 +308,8 @@ module _ (s : Setting) (x : Box) (f : FormedBox (s .n) (s .j) (s .me) x) (few : 
         box = box-of
             (trimmed-form k up
             (record { some = omega (arith, can .above); top = omega (arith, can .agreed) }))
-            (best-part f) (f .answered) (f .accepts) (f .waiting) (f .agreeing) (peers-part f);
+            (best-part f) (f .answered) (f .accepts) (f .heard) (f .waiting) (f .agreeing)
+            (peers-part f);
         book = omega (arith, up .by, up .top, k .held .all);
         out = tt;
         leads = refl;
@@ -308,6 +324,7 @@ module _ (s : Setting) (x : Box) (f : FormedBox (s .n) (s .j) (s .me) x) (few : 
   act-fits Act.Propose h = propose-fits
   act-fits Act.Agree h = agree-fits
   act-fits Act.Finish h = finish-fits
+  act-fits Act.Heard h = heard-fits
   act-fits (Act.Trim n) h = trim-fits n
 
   -- ---- mail
@@ -330,8 +347,8 @@ module _ (s : Setting) (x : Box) (f : FormedBox (s .n) (s .j) (s .me) x) (few : 
     collect-heard =
         settled-fits _ _ _
         (λ go. record {
-          box = box-of (promised-form k _ pn) (best-part f) (f .answered) (f .accepts) (f .waiting)
-              (f .agreeing) (peers-part f);
+          box = box-of (promised-form k _ pn) (best-part f) (f .answered) (f .accepts) (f .heard)
+              (f .waiting) (f .agreeing) (peers-part f);
           book = tt;
           out = (
             reply-form,
@@ -372,19 +389,35 @@ module _ (s : Setting) (x : Box) (f : FormedBox (s .n) (s .j) (s .me) x) (few : 
         (λ go. record {
           box = box-of k (best-part f) (f .answered)
               (set-joined (s .n) (x .head .accepts) a few (f .accepts) from)
-              (f .waiting) (f .agreeing) (peers-part f);
+              (f .heard) (f .waiting) (f .agreeing) (peers-part f);
           book = tt;
           out = tt;
           leads = refl;
         })
 
-    lease-heard : Heard (onLease (x .head) (y .head))
-    unfolding onLease written
+    lease-heard : Heard (onLease (x .head) a (y .head))
+    unfolding onLease written enclosed
     lease-heard =
         settled-fits _ _ _
         (λ go. record {
-          box = box-of k (best-part f) (f .answered) (f .accepts) (f .waiting) (f .agreeing)
-              (peers-part f);
+          box = box-of k (best-part f) (f .answered) (f .accepts) (f .heard) (f .waiting)
+              (f .agreeing) (peers-part f);
+          book = tt;
+          out = (
+            reply-form,
+            bare Kind.LeaseAck 0 _ (x .records) refl nothing-promised (omega arith) (k .last),
+          );
+          leads = refl;
+        })
+
+    lease-ack-heard : Heard (onLeaseAck (x .head) a)
+    unfolding onLeaseAck written
+    lease-ack-heard =
+        settled-fits _ _ _
+        (λ go. record {
+          box = box-of k (best-part f) (f .answered) (f .accepts)
+              (set-joined (s .n) (x .head .heard) a few (f .heard) from)
+              (f .waiting) (f .agreeing) (peers-part f);
           book = tt;
           out = tt;
           leads = refl;
@@ -404,7 +437,8 @@ module _ (s : Setting) (x : Box) (f : FormedBox (s .n) (s .j) (s .me) x) (few : 
           box = box-of
               (stored-form k up low (y .head .pn) _ (g .pn) (taken .room)
               (All-at (g .records) 0 0 (omega (arith, h .one-record))))
-              (best-part f) (f .answered) (f .accepts) (f .waiting) (f .agreeing) (peers-part f);
+              (best-part f) (f .answered) (f .accepts) (f .heard) (f .waiting) (f .agreeing)
+              (peers-part f);
           book = stored-fits k up low (getD (y .records) 0 0) (y .records) (taken .room);
           out = (reply-form, bare Kind.Accept _ _ (x .records) refl nothing (g .pn) (k .last));
           leads = refl;
@@ -440,7 +474,7 @@ module _ (s : Setting) (x : Box) (f : FormedBox (s .n) (s .j) (s .me) x) (few : 
         (λ go. record {
           box = box-of (took (h .first) (commit-spans h) (h .room))
               (cleared-form _ _ (best-part f))
-              (f .answered) (f .accepts) (f .waiting) (f .agreeing) (peers-part f);
+              (f .answered) (f .accepts) (f .heard) (f .waiting) (f .agreeing) (peers-part f);
           book = took-fit (h .first) (commit-spans h) (h .room);
           out = tt;
           leads = refl;
@@ -450,35 +484,35 @@ module _ (s : Setting) (x : Box) (f : FormedBox (s .n) (s .j) (s .me) x) (few : 
     unfolding lagging
     lagging-set peers last = set-and (s .n) (others s) _ others-form
 
-    replied-leads : replied (heard (x .head) a (y .head)) (s .me) a (y .head)
+    replied-leads : replied (told (x .head) a (y .head)) (s .me) a (y .head)
         (nextOf y) .leads ≡ x .head .leads
-    unfolding replied raised counted uncounted heard
+    unfolding replied raised counted uncounted told
     replied-leads =
         pick-elim (λ (b : BoxState). b .leads ≡ x .head .leads) _ (λ e. refl)
         (λ e. pick-elim (λ (b : BoxState). b .leads ≡ x .head .leads) _ (λ d. refl) (λ d. refl))
 
-    -- what Last makes of the box, once it has heard
-    replied-form : (rs : List ℕ) → KeptForm (s .j) (heard (x .head) a (y .head) .kept) rs
+    -- what Last makes of the box, once it is told
+    replied-form : (rs : List ℕ) → KeptForm (s .j) (told (x .head) a (y .head) .kept) rs
         → Kinded Kind.Last
-        → (ltb (heard (x .head) a (y .head) .kept .pn) (y .head .pn) ≡ true
+        → (ltb (told (x .head) a (y .head) .kept .pn) (y .head .pn) ≡ true
         → newPn (y .head .pn) (s .me) ≤ mostPn)
         → FormedBox (s .n) (s .j) (s .me)
         (record {
-          head = replied (heard (x .head) a (y .head)) (s .me) a (y .head) (nextOf y);
+          head = replied (told (x .head) a (y .head)) (s .me) a (y .head) (nextOf y);
           records = rs;
         })
-    unfolding replied raised counted uncounted heard
+    unfolding replied raised counted uncounted told
     replied-form rs t h fits =
         pick-elim Boxed _
         (λ e. box-of (promised-form t _ (fits e)) (cleared-form _ _ (best-part f))
-        (f .answered) (f .accepts) (f .waiting) (f .agreeing) noted-peers)
+        (f .answered) (f .accepts) (f .heard) (f .waiting) (f .agreeing) noted-peers)
         (λ e. pick-elim Boxed _
         (λ d. box-of t (bettered-form _ _ (y .head) (y .records) (best-part f) (g .last)
         (h .first) (h .held) (g .records) (g .unagreed))
-        (set-joined (s .n) (x .head .answered) a few (f .answered) from) (f .accepts) (f .waiting)
-        (f .agreeing) noted-peers)
+        (set-joined (s .n) (x .head .answered) a few (f .answered) from) (f .accepts) (f .heard)
+        (f .waiting) (f .agreeing) noted-peers)
         (λ d. box-of t (cleared-form _ _ (best-part f))
-        (f .answered) (f .accepts) (f .waiting) (f .agreeing) noted-peers))
+        (f .answered) (f .accepts) (f .heard) (f .waiting) (f .agreeing) noted-peers))
       where
         Boxed : BoxState → Type 0
         Boxed b = FormedBox (s .n) (s .j) (s .me) (record { head = b; records = rs })
@@ -488,7 +522,7 @@ module _ (s : Setting) (x : Box) (f : FormedBox (s .n) (s .j) (s .me) x) (few : 
             (g .last)
 
     last-heard : Kinded Kind.Last → Heard (onLast (x .head) s a (y .head) (nextOf y))
-    unfolding onLast heard tookKept
+    unfolding onLast told tookKept
     last-heard h =
         settled-fits _ _ _
         (λ go. let taken = go-last {b = x .head} {s = s} {m = y .head} go in
@@ -510,7 +544,7 @@ module _ (s : Setting) (x : Box) (f : FormedBox (s .n) (s .j) (s .me) x) (few : 
             (tookKept (y .head .first) (y .head .last) (x .head .kept) .last) s) ≡ true
         lagging-form = lagging-set _ _
 
-        leads-on : replied (heard (x .head) a (y .head)) (s .me) a (y .head) (nextOf y) .leads
+        leads-on : replied (told (x .head) a (y .head)) (s .me) a (y .head) (nextOf y) .leads
             ≡ x .head .leads
         leads-on = replied-leads
 
@@ -527,6 +561,7 @@ module _ (s : Setting) (x : Box) (f : FormedBox (s .n) (s .j) (s .me) x) (few : 
         of-kind Kind.Accept h = accept-heard
         of-kind Kind.Commit h = commit-heard h
         of-kind Kind.Lease h = lease-heard
+        of-kind Kind.LeaseAck h = lease-ack-heard
 
 -- what an event must be for a turn: frame numbers of 32 bits, a letter by form from another box
 abbrev pub EventFits : Setting → Event → Type 0

@@ -116,7 +116,8 @@ pub data Reading : Type 0 where
   Begin : (pn last first value : ℕ) → Reading
   Accept : (pn last : ℕ) → Reading
   Commit : (pn last first : ℕ) (records : List ℕ) → Reading
-  Lease : (last : ℕ) → Reading
+  -- a Lease, a LeaseAck: nothing that is kept rests on it
+  Inert : Reading
 
 abbrev pub readAs : Kind → Letter → Reading
 readAs Kind.Collect y = Collect (y .head .pn) (y .head .last)
@@ -125,7 +126,8 @@ readAs Kind.Last y =
 readAs Kind.Begin y = Begin (y .head .pn) (y .head .last) (y .head .first) (getD (y .records) 0 0)
 readAs Kind.Accept y = Accept (y .head .pn) (y .head .last)
 readAs Kind.Commit y = Commit (y .head .pn) (y .head .last) (y .head .first) (y .records)
-readAs Kind.Lease y = Lease (y .head .last)
+readAs Kind.Lease y = Inert
+readAs Kind.LeaseAck y = Inert
 
 abbrev pub read : Letter → Reading
 read y = readAs (y .head .kind) y

@@ -11,6 +11,7 @@ ActFits (Act.Offer l r) = (l < 4294967296) × (r < 4294967296)
 ActFits Act.Propose = Unit {0}
 ActFits Act.Agree = Unit {0}
 ActFits Act.Finish = Unit {0}
+ActFits Act.Heard = Unit {0}
 ActFits (Act.Trim k) = Unit {0}
 
 abbrev pub CallFits : Call → Type 0
@@ -22,6 +23,7 @@ CallFits (Call.Offer c l r) = (l < 4294967296) × (r < 4294967296)
 CallFits (Call.Propose c) = Unit {0}
 CallFits (Call.Agree c) = Unit {0}
 CallFits (Call.Finish c) = Unit {0}
+CallFits (Call.Heard c) = Unit {0}
 CallFits (Call.Trim c k) = Unit {0}
 CallFits (Call.Stop c) = Unit {0}
 CallFits (Call.Return c) = Unit {0}
