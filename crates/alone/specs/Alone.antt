@@ -1,0 +1,2 @@
+-- A box by itself.
+use Prim.Native.Nat.{ℕ}
