@@ -1,1 +1,2 @@
 pub mod OwnStep
+pub mod Mirror

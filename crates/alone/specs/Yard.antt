@@ -67,6 +67,25 @@ knows y c = record {
   me = c;
 }
 
+-- what there is to know for box c
+abbrev pub now : Yard → ℕ → Setting
+now y c = record {
+  n = y .n;
+  j = y .J;
+  l = y .L;
+  epoch = y .epoch;
+  present = y .present;
+  me = c;
+}
+
+-- a box that is told what there is to know, and of the election of c
+abbrev pub toldOf : Setting → ℕ → Alone → Alone
+toldOf s c x = record {
+  row = record { head = elected (x .row .head) s c; records = x .row .records };
+  epoch = s .epoch;
+  present = s .present;
+}
+
 abbrev pub ran : Yard → ℕ → Event → OwnOutcome
 ran y c e = ownStep (knows y c) (y .box c .row) e
 
@@ -187,32 +206,12 @@ pub data Happens (y : Yard) : Call → Answer → Yard → Type 0 where
   elects : (c : ℕ) → Elects y c
       → Happens y (Call.Elect c) Answer.Done (withEpoch y (y .epoch + 1) (y .present) c)
 
--- box b with what an election makes of it, and what it is told with it
-abbrev pub toldOf : Yard → ℕ → Alone
-toldOf y b = record {
-  row = record {
-    head = elected (y .box b .row .head)
-        (record {
-          n = y .n;
-          j = y .J;
-          l = y .L;
-          epoch = y .epoch;
-          present = y .present;
-          me = b;
-        })
-        (y .leader);
-    records = y .box b .row .records;
-  };
-  epoch = y .epoch;
-  present = y .present;
-}
-
 -- something happens that the site does not see
 pub data Silent (y : Yard) : Yard → Type 0 where
   -- a box is told of the election, once, and at any time before it does something in that epoch; a
   -- box that is switched off need not be told
   tells : (b : ℕ) → In b (y .n) → even (y .epoch) ≡ true → (y .box b .epoch ≡ y .epoch → ⊥)
-      → Silent y (withAlone y b (toldOf y b))
+      → Silent y (withAlone y b (toldOf (now y b) (y .leader) (y .box b)))
   -- in an odd epoch the carrier may do with its letters as it likes
   clears : (link : Links) → even (y .epoch) ≡ false → Silent y (withLinks y link)
 
