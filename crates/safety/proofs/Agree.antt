@@ -22,7 +22,7 @@ use Rattle.laws.proofs.FormLaws.{Formed, form-says}
 use Rattle.laws.proofs.Conditions.{CanAgree, go-unless, can-agree}
 use Rattle.laws.proofs.FrameLaws.{upd-all, all-post}
 use Rattle.laws.proofs.View.{Links, Store, store, at, HeldNext, held-elim, Reading, Collect, Last}
-use Rattle.laws.proofs.View.{Begin, Accept, Commit, Lease, agreed-shaped, agreed-held}
+use Rattle.laws.proofs.View.{Begin, Accept, Commit, Inert, agreed-shaped, agreed-held}
 use Rattle.laws.proofs.StepLaws.{changed, by-acting}
 use Rattle.safety.proofs.Inv.{Agreement, Agrees, BoxOk, Core, VotedFor, MailOk, Ripe}
 use Rattle.safety.proofs.Inv.{Settled, Inv}
@@ -212,7 +212,7 @@ module _ (s : Site) (i : Inv s) (c : ℕ) (c-in : In c (s .n)) (f : Formed s)
     le = omega (arith, h .le);
     agreed = agrees-before F l rs (omega (arith, h .le, own .low)) (h .agreed);
   }
-  mail-agreed j b (Lease l) h = record { from = h .from; to = h .to }
+  mail-agreed j b Inert h = h
 
   -- ---- all of it
 

@@ -23,7 +23,7 @@ use Rattle.laws.proofs.SetLaws.{bit-is, without-in}
 use Rattle.laws.proofs.Conditions.{Leading, Is, go-unless, can-collect}
 use Rattle.laws.proofs.FrameLaws.{upd-all, all-post}
 use Rattle.laws.proofs.View.{Links, Store, store, HeldNext, held-elim, Reading, Collect, Last}
-use Rattle.laws.proofs.View.{Begin, Accept, Commit, Lease}
+use Rattle.laws.proofs.View.{Begin, Accept, Commit, Inert}
 use Rattle.laws.proofs.StepLaws.{changed, by-acting}
 use Rattle.safety.proofs.Inv.{BoxOk, MailOk, Asking, Hearing, Inv}
 use Rattle.safety.proofs.After.{After, after, after-same}
@@ -84,7 +84,7 @@ module _ (s : Site) (i : Inv s) (c : ℕ) (c-in : In c (s .n))
   mail-collect a sa b sb (Accept q l) h = absurd (h .recovered (o .state))
   mail-collect a sa b sb (Commit q l F rs) h =
       record { from = h .from; to = h .to; le = h .le; agreed = h .agreed }
-  mail-collect a sa b sb (Lease l) h = record { from = h .from; to = h .to }
+  mail-collect a sa b sb Inert h = h
 
   -- ---- the first best
 

@@ -15,7 +15,7 @@ use Rattle.safety.specs.Demand3.{OverTime, Demand3}
 use Rattle.safety.proofs.Safe.{agreed-list, longer-run, box-ok}
 use Rattle.safety.proofs.Origin.{history-run}
 use Rattle.safety.proofs.Proper.{proper-run}
-use Rattle.safety.proofs.Example.{replayed, third-load, computed}
+use Rattle.safety.proofs.Example.{replayed-further, third-load, computed}
 
 module _ (n J L : ℕ) (size : In n mostBoxes) where
   abbrev end : List Call → Site
@@ -143,9 +143,9 @@ demand-3 = record {
   over-time = over-time;
   offers-over-time = offers-over-time;
   not-empty = (
-    reverse replayed,
-    (omega (arith, read 2 (computed .replay)), omega (arith, read 0 (computed .replay))),
-    (omega (arith, read 3 (computed .replay)), omega (arith, read 1 (computed .replay))),
+    reverse replayed-further,
+    (omega (arith, read 2 (computed .further)), omega (arith, read 0 (computed .further))),
+    (omega (arith, read 3 (computed .further)), omega (arith, read 1 (computed .further))),
   );
   room-again = (
     reverse third-load,

@@ -3,9 +3,11 @@ use Prim.Native.Nat.{ℕ}
 use mathlib.Core.Path.{_≡_, refl}
 use lib.Dec.{eqb, ltb}
 use lib.ListN.{getD}
-use Rattle.rules.specs.Last.{heard, raised, counted, uncounted, replied, onLast}
-use Rattle.rules.specs.Mails.{onCollect, onBegin, onAccept, onCommit, onLease, ofKind, onMail}
-use Rattle.rules.specs.Steps.{recover, collect, started, leased, ready, agree, finish, trim, acted}
+use Rattle.rules.specs.Last.{told, raised, counted, uncounted, replied, onLast}
+use Rattle.rules.specs.Mails.{onCollect, onBegin, onAccept, onCommit, onLease, onLeaseAck, ofKind}
+use Rattle.rules.specs.Mails.{onMail}
+use Rattle.rules.specs.Steps.{recover, collect, started, leased, ready, agree, finish, leaseHeard}
+use Rattle.rules.specs.Steps.{trim, acted}
 use Rattle.rules.specs.Box.{Box, Letter, Event, own, mail, nextOf, mine, turnOf}
 use Rattle.rules.specs.Site.{Site}
 use Rattle.rules.specs.Turns.{settled}
@@ -13,7 +15,7 @@ use Rattle.laws.proofs.Types.{Act, BoxState, Call, Held, Kind, Setting, Turn, V
 use Rattle.laws.proofs.Logic.{pick-elim}
 use Rattle.laws.proofs.View.{Links}
 use Rattle.laws.proofs.StepLaws.{by-verdict, Plays, recovers, collects, readies, offers, proposes}
-use Rattle.laws.proofs.StepLaws.{agrees, finishes, trims, delivers}
+use Rattle.laws.proofs.StepLaws.{agrees, finishes, hears, trims, delivers}
 
 -- ---- the calls and events that neither make an offer nor take one out
 
@@ -26,6 +28,7 @@ Plain (Call.Collect c) = Unit {0}
 Plain (Call.Ready c) = Unit {0}
 Plain (Call.Agree c) = Unit {0}
 Plain (Call.Finish c) = Unit {0}
+Plain (Call.Heard c) = Unit {0}
 Plain (Call.Trim c k) = Unit {0}
 Plain (Call.Stop c) = Unit {0}
 Plain (Call.Return c) = Unit {0}
@@ -42,6 +45,7 @@ PlainEvent (own Act.Collect) = Unit {0}
 PlainEvent (own Act.Ready) = Unit {0}
 PlainEvent (own Act.Agree) = Unit {0}
 PlainEvent (own Act.Finish) = Unit {0}
+PlainEvent (own Act.Heard) = Unit {0}
 PlainEvent (own (Act.Trim k)) = Unit {0}
 PlainEvent (mail a y) = Unit {0}
 
@@ -54,6 +58,7 @@ plain-event (offers l r) p = absurd p
 plain-event proposes p = absurd p
 plain-event agrees p = tt
 plain-event finishes p = tt
+plain-event hears p = tt
 plain-event (trims k) p = tt
 plain-event (delivers ha ab e) p = tt
 
@@ -85,7 +90,7 @@ module _ (s : Setting) (x : Box) where
       (λ go. record { leads = l; waiting = w })
 
   desk-act : (a : Act) → PlainEvent (own a) → Same (acted a (x .head) s (mine x))
-  unfolding acted recover collect ready agree finish trim leased started
+  unfolding acted recover collect ready agree finish leaseHeard trim leased started
   desk-act Act.Recover p = quiet _ _ refl refl
   desk-act Act.Collect p = quiet _ _ refl refl
   desk-act Act.Ready p =
@@ -97,12 +102,13 @@ module _ (s : Setting) (x : Box) where
   desk-act Act.Propose p = absurd p
   desk-act Act.Agree p = quiet _ _ refl refl
   desk-act Act.Finish p = quiet _ _ refl refl
+  desk-act Act.Heard p = quiet _ _ refl refl
   desk-act (Act.Trim k) p = quiet _ _ refl refl
 
   desk-kind : (a : ℕ) (y : Letter) (k : Kind)
       → Same (ofKind k (x .head) s a (y .head) (getD (y .records) 0 0)
       (nextOf y) (mine x))
-  unfolding ofKind onCollect onLast onBegin onAccept onCommit onLease heard
+  unfolding ofKind onCollect onLast onBegin onAccept onCommit onLease onLeaseAck told
   desk-kind a y Kind.Collect = quiet _ _ refl refl
   desk-kind a y Kind.Last =
       by-verdict Same _ _ _ (λ a. record { leads = refl; waiting = refl })
@@ -111,6 +117,7 @@ module _ (s : Setting) (x : Box) where
   desk-kind a y Kind.Accept = quiet _ _ refl refl
   desk-kind a y Kind.Commit = quiet _ _ refl refl
   desk-kind a y Kind.Lease = quiet _ _ refl refl
+  desk-kind a y Kind.LeaseAck = quiet _ _ refl refl
 
   pub turn-desk : (e : Event) → PlainEvent e → Same (turnOf s x e)
   unfolding onMail

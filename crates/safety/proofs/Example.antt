@@ -14,13 +14,14 @@ use Rattle.rules.specs.NewPn.{newPn}
 use Rattle.rules.specs.Turns.{firstCause, unless, settled}
 use Rattle.rules.specs.Parts.{others, isHeld, underOf, higher, tookKept, tookBook, roomNext}
 use Rattle.rules.specs.Parts.{cleared}
-use Rattle.rules.specs.Last.{noted, heard, behind, lagging, improves, bettered, raised, counted}
+use Rattle.rules.specs.Last.{noted, told, behind, lagging, improves, bettered, raised, counted}
 use Rattle.rules.specs.Last.{uncounted, replied, lastVerdict, onLast}
 use Rattle.rules.specs.Mails.{unagreedOf, onCollect, beginVerdict, onBegin, acceptVerdict, onAccept}
-use Rattle.rules.specs.Mails.{onCommit, onLease, ofKind, onMail}
+use Rattle.rules.specs.Mails.{onCommit, onLease, leaseAckVerdict, onLeaseAck, ofKind, onMail}
 use Rattle.rules.specs.Steps.{elected, canRecover, recover, canCollect, bestHeld, collect, started}
 use Rattle.rules.specs.Steps.{leased, canReady, hasPrevious, ready, canOffer, offer, canPropose}
-use Rattle.rules.specs.Steps.{propose, canAgree, agree, canFinish, finish, canTrim, trim, acted}
+use Rattle.rules.specs.Steps.{propose, canAgree, agree, canFinish, finish, canHeard, leaseHeard}
+use Rattle.rules.specs.Steps.{canTrim, trim, acted}
 use Rattle.rules.specs.Box.{heldAt, written, enclosed}
 use Rattle.rules.specs.Site.{Site, freshHead, fresh, posted, room}
 use Rattle.rules.specs.Form.{firstForm, countForm, peerForm, formBox, formKind, formLetter}
@@ -35,6 +36,7 @@ ran n J L calls = run (fresh n J L) (reverse calls)
 
 -- ---- the paper's replay
 
+-- lines 2 to 12: the LeaseAck is handed over, and the Accept waits behind it (Q-12)
 pub replayed : List Call
 replayed =
     Call.Elect 1
@@ -48,9 +50,11 @@ replayed =
     ∷ Call.Deliver 1 2
     ∷ Call.Deliver 1 2
     ∷ Call.Deliver 2 1
-    ∷ Call.Agree 1
-    ∷ Call.Deliver 1 2
     ∷ []
+
+-- .. and with it the load is agreed at both
+pub replayed-further : List Call
+replayed-further = replayed ++ Call.Deliver 2 1 ∷ Call.Agree 1 ∷ Call.Deliver 1 2 ∷ []
 
 -- the lasts and the firsts of both boxes
 abbrev pub ranges : Site → List ℕ
@@ -59,13 +63,6 @@ ranges s =
     ∷ s .box 2 .head .kept .last
     ∷ s .box 1 .head .kept .first
     ∷ s .box 2 .head .kept .first
-    ∷ []
-
--- after line 14, what lines 15 (holds) and 16 answer
-abbrev pub replay-answers : Site → List ℕ
-replay-answers s =
-    answerNumber (holds s 2 1 71 72)
-    ∷ answerNumber (step s (Call.Deliver 1 2) .answer)
     ∷ []
 
 -- ---- room that is used again (Q-4): two boxes with room for two records
@@ -81,12 +78,14 @@ recovered =
     ∷ Call.Ready 1
     ∷ []
 
--- one load of the frames f and f, agreed at both; the Lease before it is handed over as well
+-- one load of the frames f and f, agreed at both, once the lease before it is heard (Q-12)
 pub load : ℕ → List Call
 load f =
-    Call.Offer 1 f f
+    Call.Deliver 1 2
+    ∷ Call.Deliver 2 1
+    ∷ Call.Heard 1
+    ∷ Call.Offer 1 f f
     ∷ Call.Propose 1
-    ∷ Call.Deliver 1 2
     ∷ Call.Deliver 1 2
     ∷ Call.Deliver 2 1
     ∷ Call.Agree 1
@@ -140,6 +139,7 @@ epoch4 =
     ∷ Call.Propose 2
     ∷ Call.Deliver 2 3
     ∷ Call.Deliver 2 3
+    ∷ Call.Deliver 3 2
     ∷ Call.Deliver 3 2
     ∷ Call.Agree 2
     ∷ Call.Return 1
@@ -201,8 +201,10 @@ trace-reads s =
     ∷ []
 
 pub record Computed : Type 0 where
-  pub replay : ranges (ran 2 16 8 replayed) ≡ 1 ∷ 1 ∷ 1 ∷ 1 ∷ []
-  pub replay-says : replay-answers (ran 2 16 8 replayed) ≡ 0 ∷ 3 ∷ []
+  -- line 13 is refused (3), and the replay ends
+  pub replay : answerNumber (step (ran 2 16 8 replayed) (Call.Agree 1) .answer) ≡ 3
+  pub further : ranges (ran 2 16 8 replayed-further) ≡ 1 ∷ 1 ∷ 1 ∷ 1 ∷ []
+  pub further-holds : answerNumber (holds (ran 2 16 8 replayed-further) 2 1 71 72) ≡ 0
   -- a third load is refused (7), ..
   pub full : answerNumber (step (ran 2 2 8 (two-loads ++ Call.Offer 1 3 3 ∷ [])) (Call.Propose 1)
       .answer) ≡ 7
@@ -220,19 +222,21 @@ pub record Computed : Type 0 where
       ≡ (1 ∷ 1 ∷ 0 ∷ []) ∷ (0 ∷ 2 ∷ 2 ∷ []) ∷ (1 ∷ 2 ∷ 2 ∷ []) ∷ []
 
 pub computed : Computed
-unfolding replayed recovered load two-loads third-load epoch2 epoch4 epoch6 epoch8 parted pick
-    all each every tally sizesForm proper recordForm bit joined without digit has setForm
-    fullSet inState inPhase newPn firstCause unless settled others isHeld underOf tookKept
-    tookBook cleared noted heard behind lagging improves bettered raised counted uncounted
-    replied lastVerdict onLast unagreedOf onCollect beginVerdict onBegin acceptVerdict onAccept
-    onCommit onLease ofKind onMail elected canRecover recover canCollect bestHeld collect
-    started leased canReady hasPrevious ready canOffer offer canPropose propose canAgree agree
-    canFinish finish canTrim trim acted heldAt written enclosed freshHead fresh posted room
-    countForm peerForm formBox formKind formLetter formLink form ruled byAnswer delivered elect
-    presented step run agreedAs holds ones onesIn firstForm higher roomNext
+unfolding replayed replayed-further recovered load two-loads third-load epoch2 epoch4 epoch6
+    epoch8 parted pick all each every tally sizesForm proper recordForm bit joined without digit
+    has setForm fullSet inState inPhase newPn firstCause unless settled others isHeld underOf
+    tookKept tookBook cleared noted told behind lagging improves bettered raised counted
+    uncounted replied lastVerdict onLast unagreedOf onCollect beginVerdict onBegin acceptVerdict
+    onAccept onCommit onLease leaseAckVerdict onLeaseAck ofKind onMail elected canRecover
+    recover canCollect bestHeld collect started leased canReady hasPrevious ready canOffer offer
+    canPropose propose canAgree agree canFinish finish canHeard leaseHeard canTrim trim acted
+    heldAt written enclosed freshHead fresh posted room countForm peerForm formBox formKind
+    formLetter formLink form ruled byAnswer delivered elect presented step run agreedAs holds
+    ones onesIn firstForm higher roomNext
 computed = record {
   replay = refl;
-  replay-says = refl;
+  further = refl;
+  further-holds = refl;
   full = refl;
   again = refl;
   choice = refl;

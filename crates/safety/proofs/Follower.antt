@@ -14,7 +14,7 @@ use Rattle.laws.proofs.Types.{Kind}
 use Rattle.laws.proofs.Logic.{Or, left, right, In, decide, All, All-in, All-map}
 use Rattle.laws.proofs.FrameLaws.{upd-all, upd-other, all-pop}
 use Rattle.laws.proofs.View.{Links, Store, store, phaseOf, stateOf, Reading, Collect, Last, Begin}
-use Rattle.laws.proofs.View.{Accept, Commit, Lease, read, readAs}
+use Rattle.laws.proofs.View.{Accept, Commit, Inert, read, readAs}
 use Rattle.safety.proofs.Inv.{Agreement, BoxOk, Core, VotedFor, MailOk, PostOk, Told, Ripe}
 use Rattle.safety.proofs.Inv.{Live}
 
@@ -117,9 +117,9 @@ module _ (w : ℕ) (g : Agreement) (c : ℕ) (x : Box) (a : ℕ) (sa sa′ : Sto
     voted = λ z. f .voted (k .voted z);
   }
   mail-moved (Commit q l F rs) k = k
-  mail-moved (Lease l) k = k
+  mail-moved Inert k = k
 
--- ---- the box d, present and not leading, becomes v
+-- ---- the box d, not leading, becomes v
 
 module _ {n w : ℕ} {box : ℕ → Box} {link : Links} {g : Agreement} (L : Live n w box link g)
     (d : ℕ) (v : Box) (mv : Moved (L .x) (store (box d)) (store v)) where
@@ -143,7 +143,10 @@ module _ {n w : ℕ} {box : ℕ → Box} {link : Links} {g : Agreement} (L : Liv
       mail-moved w g (L .c) (L .x) a _ _ b _ _ (moved-all a) (moved-all b) (read m) (h ab))
       (L .mails a b)
 
-  module _ (link′ : Links) (d-here : has w d ≡ true) (ne : d ≡ L .c → ⊥)
+  module _ (link′ : Links)
+      (stored-here : (store (box d) .storedPn ≡ P → has w d ≡ true)
+      → store v .storedPn ≡ P → has w d ≡ true)
+      (ne : d ≡ L .c → ⊥)
       (led : v .head .leads ≡ box d .head .leads)
       (quiet : phaseOf (L .x) ≡ 0 → (a b : ℕ) → link′ a b ≡ [])
       (stored-kept : stateOf (L .x) ≡ 0 → store v .storedPn ≡ store (box d) .storedPn)
@@ -166,7 +169,7 @@ module _ {n w : ℕ} {box : ℕ → Box} {link : Links} {g : Agreement} (L : Liv
       storedPns = upd-all (λ b y. In b n → store y .storedPn ≤ P) box d
           (λ i. stored-le (k .storedPns d i)) (k .storedPns);
       mine = upd-all (λ b y. In b n → store y .storedPn ≡ P → has w b ≡ true) box d
-          (λ i j. d-here) (k .mine);
+          (λ i. stored-here (k .mine d i)) (k .mine);
       top = k .top;
       under = k .under;
       lasts = λ b i j. moved-low (moved-all b) (k .lasts b i j);
@@ -219,6 +222,6 @@ pub live-read : {n w : ℕ} {box : ℕ → Box} {link : Links} {g : Agreement} (
     → store v .pn ≡ store (box d) .pn → store v .storedPn ≡ store (box d) .storedPn
     → Live n w (upd box d v) (λ i j. cond (eqb i a && eqb j d) (tail (link i j)) (link i j)) g
 live-read {link = link} L a d y ys e v mv here ne led pn stored =
-    live-moved L d v mv _ here ne led (λ z. absurd (no-election L a d y ys e z))
+    live-moved L d v mv _ (λ f j. here) ne led (λ z. absurd (no-election L a d y ys e z))
     (λ h. stored) (λ h. rw stored h) (λ h f j. f (sym pn ∙ j))
     (all-pop (PostAfter L d v mv) link (mails-moved L d v mv) a d)

@@ -14,7 +14,7 @@ use Rattle.rules.specs.Site.{Site}
 use Rattle.laws.proofs.Logic.{In, All}
 use Rattle.laws.proofs.Counts.{Major}
 use Rattle.laws.proofs.View.{Links, Store, store, phaseOf, stateOf, at, HeldNext, Shaped, Reading}
-use Rattle.laws.proofs.View.{Collect, Last, Begin, Accept, Commit, Lease, read}
+use Rattle.laws.proofs.View.{Collect, Last, Begin, Accept, Commit, Inert, read}
 
 -- What has been agreed at some box, from number 1 on, dropped or not, and how the last of it was:
 -- under which pn, by which boxes.
@@ -165,18 +165,14 @@ module _ (w : ℕ) (g : Agreement) (c : ℕ) (x : Box) where
     pub le : l ≤ store x .last
     pub agreed : Agrees g F l rs
 
-  pub record LeaseOk (a b : ℕ) : Type 0 where
-    -- its receiver is no leader and is present: so its store may stay as it is
-    pub from : a ≡ c
-    pub to : has w b ≡ true
-
   abbrev pub MailOk : (a : ℕ) → Store → (b : ℕ) → Store → Reading → Type 0
   MailOk a sa b sb (Collect q l) = CollectOk a b q
   MailOk a sa b sb (Last q l F u rs) = LastOk a sa b q l F u rs
   MailOk a sa b sb (Begin q l F r) = BeginOk a b sb q l r
   MailOk a sa b sb (Accept q l) = AcceptOk a sa b q l
   MailOk a sa b sb (Commit q l F rs) = CommitOk a b l F rs
-  MailOk a sa b sb (Lease l) = LeaseOk a b
+  -- its receiver keeps what it has: nothing is asked of it
+  MailOk a sa b sb Inert = Unit {0}
 
   -- no box has a link to itself
   abbrev pub PostOk : (a : ℕ) → Store → (b : ℕ) → Store → Letter → Type 0

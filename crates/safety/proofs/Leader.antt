@@ -14,7 +14,7 @@ use Rattle.laws.proofs.Logic.{In, eqb-same, All, All-head, All-map}
 use Rattle.laws.proofs.Counts.{Major}
 use Rattle.laws.proofs.FrameLaws.{upd-all, upd-same, upd-other}
 use Rattle.laws.proofs.View.{Links, Store, store, keeping, phaseOf, stateOf, at, HeldNext, Reading}
-use Rattle.laws.proofs.View.{Collect, Last, Begin, Accept, Commit, Lease, read, readAs}
+use Rattle.laws.proofs.View.{Collect, Last, Begin, Accept, Commit, Inert, read, readAs}
 use Rattle.safety.proofs.Inv.{Agreement, VotedFor, MailOk, PostOk, LastOk, Told, BeginOk}
 use Rattle.safety.proofs.Inv.{AcceptOk, Ripe, Asking, Hearing, Settled, Live}
 
@@ -83,7 +83,7 @@ module _ {n w : ℕ} {box : ℕ → Box} {link : Links} {g : Agreement} where
     relocate g′ a b ab (Accept q l) h =
         subst (λ (t : Store). AcceptOk w g′ c x a t b q l) (stay a (λ k. ab (k ∙ sym (h .to)))) h
     relocate g′ a b ab (Commit q l F rs) h = h
-    relocate g′ a b ab (Lease l) h = h
+    relocate g′ a b ab Inert h = h
 
     pub lead-mails : (g′ : Agreement)
         → ((a b : ℕ) (m : Reading) → MailOk w g c (box c) a (store (box a)) b (store (box b)) m
@@ -207,7 +207,7 @@ module _ (w : ℕ) (g : Agreement) (c : ℕ) (y z : Box) (on : Onward y z) (f : 
   }
   mail-kept a sa b sb (Commit q l F rs) h =
       record { from = h .from; to = h .to; le = h .le; agreed = h .agreed }
-  mail-kept a sa b sb (Lease l) h = record { from = h .from; to = h .to }
+  mail-kept a sa b sb Inert h = h
 
 -- the leader's box becomes v, and keeps its pn and its last
 pub ripe-put : {n w P l : ℕ} {box : ℕ → Box} {g : Agreement} (c : ℕ) (v : Box)

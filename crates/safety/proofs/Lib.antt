@@ -7,6 +7,7 @@ pub mod Chosen
 pub mod Follower
 pub mod Leader
 pub mod Start
+pub mod Kept
 pub mod Arrival
 pub mod Quiet
 pub mod Elect
@@ -17,6 +18,7 @@ pub mod Offer
 pub mod Propose
 pub mod Agree
 pub mod Finish
+pub mod Heard
 pub mod Trim
 pub mod MailCollect
 pub mod MailLast

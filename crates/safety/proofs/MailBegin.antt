@@ -181,7 +181,7 @@ module _ (s : Site) (i : Inv s) (a b : ℕ) (y : Letter) (ys : List Letter)
           (λ x hx ne t. i .ranks .pns x b hx (r .to) t)
           (λ x hx t. rw same-pn (i .ranks .pns x b hx (r .to) (rw same-pn at t)));
       live = λ z.
-          live-moved L b v moved link′ (ok .to) ne refl
+          live-moved L b v moved link′ (λ f e. ok .to) ne refl
           (λ h. absurd (no-election L a b y ys (r .head) h))
           (λ h. absurd (ok .recovered h)) (λ h. omega (arith, ok .pn)) (λ h f. f)
           (all-post (PostAfter L b v moved) (popped s a b .link)

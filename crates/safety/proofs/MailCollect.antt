@@ -165,7 +165,7 @@ module _ (s : Site) (i : Inv s) (a b : ℕ) (y : Letter) (ys : List Letter)
         (λ x hx nx. ranked x hx (max-is (st .pn) q))
         (λ x hx. i .ranks .storedPns x b hx (r .to));
     live = λ z.
-        live-moved L b v moved link′ (ok .to) ne refl
+        live-moved L b v moved link′ (λ f e. ok .to) ne refl
         (λ h. absurd (no-election L a b y ys (r .head) h))
         (λ h. refl) (λ h. h) (λ h. still-new (ok .fresh h))
         (all-post (PostAfter L b v moved) (popped s a b .link)

@@ -15,7 +15,7 @@ use Rattle.rules.specs.Fields.{withPhase, withKept, withBest, withAnswered, wit
 use Rattle.rules.specs.Fields.{keeping, promised as promising}
 use Rattle.rules.specs.Parts.{others, span, tookKept, cleared}
 use Rattle.rules.specs.Turns.{mailFrom}
-use Rattle.rules.specs.Last.{noted, heard, lagging, bettered, raised, counted, uncounted, replied}
+use Rattle.rules.specs.Last.{noted, told, lagging, bettered, raised, counted, uncounted, replied}
 use Rattle.rules.specs.Last.{onLast}
 use Rattle.rules.specs.Box.{Box, Letter, nextOf, enclosed}
 use Rattle.rules.specs.Site.{Site, setting, popped, posted, upd}
@@ -29,7 +29,7 @@ use Rattle.laws.proofs.FormLaws.{FormedLast}
 use Rattle.laws.proofs.Conditions.{LastTaken, go-last}
 use Rattle.laws.proofs.FrameLaws.{upd-all, all-pop, all-post}
 use Rattle.laws.proofs.View.{Links, Store, store, phaseOf, stateOf, Reading, Collect, Last, Begin}
-use Rattle.laws.proofs.View.{Accept, Commit, Lease, last-spans, took, took-last}
+use Rattle.laws.proofs.View.{Accept, Commit, Inert, last-spans, took, took-last}
 use Rattle.laws.proofs.StepLaws.{changed, by-settled}
 use Rattle.safety.proofs.Inv.{Agreement, BoxOk, MailOk, LastOk, Told, Hearing, Inv}
 use Rattle.safety.proofs.After.{After, after, after-same}
@@ -77,7 +77,7 @@ module _ (w : ℕ) (g : Agreement) (c : ℕ) (y x : Box) (recovering : stateOf y
   mail-gathered a sa b sb (Accept q l) h = absurd (h .recovered recovering)
   mail-gathered a sa b sb (Commit q l F rs) h =
       record { from = h .from; to = h .to; le = omega (arith, h .le, last-up); agreed = h .agreed }
-  mail-gathered a sa b sb (Lease l) h = record { from = h .from; to = h .to }
+  mail-gathered a sa b sb Inert h = h
 
 -- ---- the answer
 
@@ -346,8 +346,8 @@ module _ (s : Site) (i : Inv s) (a c : ℕ) (y : Letter) (ys : List Letter)
 
   -- ---- the three together
 
-  inv-replied : Next (replied (heard (s .box c .head) a (y .head)) c a (y .head) (nextOf y))
-  unfolding replied heard tookKept raised counted uncounted
+  inv-replied : Next (replied (told (s .box c .head) a (y .head)) c a (y .head) (nextOf y))
+  unfolding replied told tookKept raised counted uncounted
   inv-replied =
       pick-elim Next (ltb (st .pn) q)
       (λ f. inv-higher (ltb-true (st .pn) q f))

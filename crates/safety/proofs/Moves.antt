@@ -8,11 +8,12 @@ use lib.Dec.{eqb, leb, ltb}
 use lib.ListN.{length, getD, take, length-take, length-drop}
 use lib.Seq.{getD-take}
 use Rattle.rules.specs.Parts.{span, none, tookKept, cleared}
-use Rattle.rules.specs.Last.{improves, bettered, heard, raised, counted, uncounted, replied}
+use Rattle.rules.specs.Last.{improves, bettered, told, raised, counted, uncounted, replied}
 use Rattle.rules.specs.Last.{onLast}
-use Rattle.rules.specs.Mails.{onCollect, onBegin, onAccept, onCommit, onLease, ofKind, onMail}
+use Rattle.rules.specs.Mails.{onCollect, onBegin, onAccept, onCommit, onLease, onLeaseAck, ofKind}
+use Rattle.rules.specs.Mails.{onMail}
 use Rattle.rules.specs.Steps.{elected, recover, bestHeld, collect, started, leased, hasPrevious}
-use Rattle.rules.specs.Steps.{ready, offer, propose, agree, finish, trim, acted}
+use Rattle.rules.specs.Steps.{ready, offer, propose, agree, finish, leaseHeard, trim, acted}
 use Rattle.rules.specs.Box.{Box, Letter, Event, own, mail, recordAt, nextOf, mine, written}
 use Rattle.rules.specs.Box.{enclosed, letterOf, turnOf, turned, brought}
 use Rattle.rules.specs.Site.{Site, setting, isBox, relinked, popped, twice, doubled, played}
@@ -27,12 +28,12 @@ use Rattle.laws.proofs.Conditions.{go-unless, go-begin, can-propose, can-trim, 
 use Rattle.laws.proofs.FrameLaws.{upd-all, all-relinked, all-posted}
 use Rattle.laws.proofs.View.{Links, Store, store, at, Spans, Shaped, shaped, last-spans}
 use Rattle.laws.proofs.View.{commit-spans}
-use Rattle.laws.proofs.View.{held-elim, Reading, Collect, Last, Begin, Accept, Commit, Lease, read}
+use Rattle.laws.proofs.View.{held-elim, Reading, Collect, Last, Begin, Accept, Commit, Inert, read}
 use Rattle.laws.proofs.View.{readAs, trimmed, stored, took, Raises, raises-none, raises-to}
 use Rattle.laws.proofs.View.{raises-trim, trimmed-at, stored-at, stored-next, stored-length}
 use Rattle.laws.proofs.View.{took-first, took-last, took-each, took-shaped, took-same, took-held}
 use Rattle.laws.proofs.StepLaws.{changed, by-verdict, Plays, recovers, collects, readies, offers}
-use Rattle.laws.proofs.StepLaws.{proposes, agrees, finishes, trims, delivers}
+use Rattle.laws.proofs.StepLaws.{proposes, agrees, finishes, hears, trims, delivers}
 use Rattle.safety.proofs.Played.{Fit, plays-fit, plays-links}
 
 -- G k r: the record r may stand at number k
@@ -54,7 +55,7 @@ module _ (G : ℕ → ℕ → Type 0) where
   MailG (Begin q l F r) = G (l + 1) r
   MailG (Accept q l) = Unit {0}
   MailG (Commit q l F rs) = Listed F rs
-  MailG (Lease l) = Unit {0}
+  MailG Inert = Unit {0}
 
   abbrev LetterG : ℕ → ℕ → Letter → Type 0
   LetterG a b y = MailG (read y)
@@ -159,6 +160,7 @@ module _ (G : ℕ → ℕ → Type 0) where
   Comes x (own (Act.Offer l r)) = Unit {0}
   Comes x (own Act.Agree) = Unit {0}
   Comes x (own Act.Finish) = Unit {0}
+  Comes x (own Act.Heard) = Unit {0}
   Comes x (own (Act.Trim k)) = Unit {0}
   Comes x (mail a y) = MailG (read y)
 
@@ -197,8 +199,8 @@ module _ (G : ℕ → ℕ → Type 0) where
     same ms a = record { box = record { records = h .records; best = h .best }; sent = tt }
 
     turn-act : (a : Act) → Comes x (own a) → TurnG x [] (acted a (x .head) s (mine x))
-    unfolding acted recover collect ready offer propose agree finish trim leased bestHeld written
-        enclosed
+    unfolding acted recover collect ready offer propose agree finish leaseHeard trim leased bestHeld
+        written enclosed
     turn-act Act.Recover g =
         by-verdict (TurnG x []) _ _ _ (same [])
         (λ go. record { box = record { records = h .records; best = h .best }; sent = tt })
@@ -240,6 +242,9 @@ module _ (G : ℕ → ℕ → Type 0) where
     turn-act Act.Finish g =
         by-verdict (TurnG x []) _ _ _ (same [])
         (λ go. record { box = record { records = h .records; best = h .best }; sent = tt })
+    turn-act Act.Heard g =
+        by-verdict (TurnG x []) _ _ _ (same [])
+        (λ go. record { box = record { records = h .records; best = h .best }; sent = tt })
     turn-act (Act.Trim k) g =
         by-verdict (TurnG x []) _ _ _ (same [])
         (λ go. let o = can-trim (go-unless _ _ _ go .0) in record {
@@ -271,8 +276,8 @@ module _ (G : ℕ → ℕ → Type 0) where
       turn-kind : (k : Kind) → MailG (readAs k y)
           → FormedKind k (s .j) (y .head .pn) l F (y .head .unagreed) (length ms)
           → TurnG x ms (ofKind k (x .head) s a (y .head) (getD ms 0 0) (nextOf y) (mine x))
-      unfolding ofKind onCollect onLast onBegin onAccept onCommit onLease heard tookKept written
-          enclosed
+      unfolding ofKind onCollect onLast onBegin onAccept onCommit onLease onLeaseAck told tookKept
+          written enclosed
       turn-kind Kind.Collect g f =
           by-verdict (TurnG x ms) _ _ _ (same ms)
           (λ go. record {
@@ -285,10 +290,10 @@ module _ (G : ℕ → ℕ → Type 0) where
             box = record {
               records =
                   subst (λ (k : ℕ). Listed k (t .records))
-                  (sym (first-replied (heard (x .head) a (y .head)) (s .me) a (y .head) (nextOf y)))
+                  (sym (first-replied (told (x .head) a (y .head)) (s .me) a (y .head) (nextOf y)))
                   (took-g (last-spans f) g);
               best =
-                  best-replied (heard (x .head) a (y .head)) (s .me) a y (h .best) (last-spans f) g;
+                  best-replied (told (x .head) a (y .head)) (s .me) a y (h .best) (last-spans f) g;
             };
             sent =
                 listed-take (span (t .first) (t .last)) (t .first) (t .records)
@@ -320,6 +325,9 @@ module _ (G : ℕ → ℕ → Type 0) where
             sent = tt;
           })
       turn-kind Kind.Lease g f =
+          by-verdict (TurnG x ms) _ _ _ (same ms)
+          (λ go. record { box = record { records = h .records; best = h .best }; sent = tt })
+      turn-kind Kind.LeaseAck g f =
           by-verdict (TurnG x ms) _ _ _ (same ms)
           (λ go. record { box = record { records = h .records; best = h .best }; sent = tt })
 
@@ -356,6 +364,7 @@ module _ (G : ℕ → ℕ → Type 0) where
   played-comes s c proposes h g = g refl
   played-comes s c agrees h g = tt
   played-comes s c finishes h g = tt
+  played-comes s c hears h g = tt
   played-comes s c (trims k) h g = tt
   played-comes s c (delivers {a = a} ha ac e) h g =
       All-head (subst (All (LetterG a c)) e (h .mails a c))
@@ -399,7 +408,7 @@ mail-map f (Last q l F u rs) g = λ k i h. f k _ (g k i h)
 mail-map f (Begin q l F r) g = f (l + 1) r g
 mail-map f (Accept q l) g = tt
 mail-map f (Commit q l F rs) g = λ k i h. f k _ (g k i h)
-mail-map f (Lease l) g = tt
+mail-map f Inert g = tt
 
 pub sound-map : {G H : ℕ → ℕ → Type 0} (s : Site) → ((k r : ℕ) → G k r → H k r) → Sound G s
     → Sound H s

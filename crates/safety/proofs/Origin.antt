@@ -327,6 +327,7 @@ module _ (s : Site) (cs : List Call) (A B : List ℕ) (w : Longer (run s cs) A B
   history-step (Call.Ready c) = other (Call.Ready c) tt
   history-step (Call.Agree c) = other (Call.Agree c) tt
   history-step (Call.Finish c) = other (Call.Finish c) tt
+  history-step (Call.Heard c) = other (Call.Heard c) tt
   history-step (Call.Trim c k) = other (Call.Trim c k) tt
   history-step (Call.Stop c) = other (Call.Stop c) tt
   history-step (Call.Return c) = other (Call.Return c) tt

@@ -9,7 +9,7 @@ use Rattle.laws.proofs.FormLaws.{FormedLetter, Formed}
 use Rattle.laws.proofs.FrameLaws.{all-pop}
 use Rattle.laws.proofs.View.{Links}
 use Rattle.laws.proofs.StepLaws.{Plays, recovers, collects, readies, offers, proposes, agrees}
-use Rattle.laws.proofs.StepLaws.{finishes, trims, delivers}
+use Rattle.laws.proofs.StepLaws.{finishes, hears, trims, delivers}
 
 abbrev pub Fit : ℕ → Event → Type 0
 Fit J (own a) = Unit {0}
@@ -24,6 +24,7 @@ plays-fit (offers l r) f i = tt
 plays-fit proposes f i = tt
 plays-fit agrees f i = tt
 plays-fit finishes f i = tt
+plays-fit hears f i = tt
 plays-fit (trims k) f i = tt
 plays-fit {s} {c} (delivers {a = a} ha ac e) f i =
     All-head (subst (All (FormedLetter (s .J))) e (f .links a c ha i ac .letters))
@@ -38,5 +39,6 @@ plays-links (offers l r) P h = h
 plays-links proposes P h = h
 plays-links agrees P h = h
 plays-links finishes P h = h
+plays-links hears P h = h
 plays-links (trims k) P h = h
 plays-links {s} {c} (delivers {a = a} ha ac e) P h = all-pop P (s .link) h a c

@@ -11,11 +11,12 @@ use borrow.Author.Tests.{leb-true, leb-false}
 use Rattle.rules.specs.Numbers.{phaseNumber}
 use Rattle.rules.specs.Parts.{span, tookKept, cleared}
 use Rattle.rules.specs.Turns.{still}
-use Rattle.rules.specs.Last.{improves, bettered, heard, raised, counted, uncounted, replied}
+use Rattle.rules.specs.Last.{improves, bettered, told, raised, counted, uncounted, replied}
 use Rattle.rules.specs.Last.{onLast}
-use Rattle.rules.specs.Mails.{onCollect, onBegin, onAccept, onCommit, onLease, ofKind, onMail}
+use Rattle.rules.specs.Mails.{onCollect, onBegin, onAccept, onCommit, onLease, onLeaseAck, ofKind}
+use Rattle.rules.specs.Mails.{onMail}
 use Rattle.rules.specs.Steps.{elected, recover, bestHeld, collect, started, leased, hasPrevious}
-use Rattle.rules.specs.Steps.{ready, offer, propose, agree, finish, trim, acted}
+use Rattle.rules.specs.Steps.{ready, offer, propose, agree, finish, leaseHeard, trim, acted}
 use Rattle.rules.specs.Box.{Box, Letter, Event, own, mail, heldAt, nextOf, mine, letterOf, turnOf}
 use Rattle.rules.specs.Box.{turned, brought}
 use Rattle.rules.specs.Site.{Site, setting, isBox, relinked, twice, fresh, freshHead, played}
@@ -27,7 +28,7 @@ use Rattle.laws.proofs.FormLaws.{HeldCount, FormedKind}
 use Rattle.laws.proofs.Conditions.{Room, room-next, room-where, go-unless, can-trim}
 use Rattle.laws.proofs.FrameLaws.{upd-all, all-relinked, all-posted}
 use Rattle.laws.proofs.View.{held-elim, higher-max, Reading, Collect, Last, Begin, Accept}
-use Rattle.laws.proofs.View.{Commit, Lease, read}
+use Rattle.laws.proofs.View.{Commit, Inert, read}
 use Rattle.laws.proofs.StepLaws.{changed, by-verdict, by-step}
 use Rattle.safety.specs.Demand3.{start}
 use Rattle.safety.proofs.Played.{Fit, plays-fit, plays-links}
@@ -98,7 +99,7 @@ module _ (J : ℕ) where
   MailRoom (Begin q l F r) = Room J F l
   MailRoom (Accept q l) = Unit {0}
   MailRoom (Commit q l F rs) = Unit {0}
-  MailRoom (Lease l) = Unit {0}
+  MailRoom Inert = Unit {0}
 
   abbrev OutRoom : Out → List ℕ → Type 0
   OutRoom Out.Nothing rs = Unit {0}
@@ -130,7 +131,8 @@ module _ (s : Setting) (x : Box) (h : BoxRoom (s .j) (x .head))
     same ms a = record { box = h; sent = tt }
 
     room-act : (a : Act) → After [] (acted a (x .head) s (mine x))
-    unfolding acted recover collect ready offer propose agree finish trim leased started bestHeld
+    unfolding acted recover collect ready offer propose agree finish leaseHeard trim leased started
+        bestHeld
     room-act Act.Recover =
         by-verdict (After []) _ _ _ (same [])
         (λ go. record { box = λ e. absurd (omega (arith, e)); sent = tt })
@@ -169,6 +171,9 @@ module _ (s : Setting) (x : Box) (h : BoxRoom (s .j) (x .head))
     room-act Act.Finish =
         by-verdict (After []) _ _ _ (same [])
         (λ go. record { box = λ k. absurd (omega (arith, k)); sent = tt })
+    room-act Act.Heard =
+        by-verdict (After []) _ _ _ (same [])
+        (λ go. record { box = λ k. absurd (omega (arith, k)); sent = tt })
     room-act (Act.Trim k) =
         by-verdict (After []) _ _ _ (same [])
         (λ go. let o = can-trim {b = x .head} (go-unless _ _ _ go .0) in
@@ -179,11 +184,11 @@ module _ (s : Setting) (x : Box) (h : BoxRoom (s .j) (x .head))
       ms = y .records
 
       abbrev took : BoxState
-      took = heard (x .head) a (y .head)
+      took = told (x .head) a (y .head)
 
       room-replied : HeldCount (s .j) (y .head .first) (y .head .last) (length ms)
           → BoxRoom (s .j) (replied took (s .me) a (y .head) (nextOf y))
-      unfolding replied raised counted uncounted heard tookKept
+      unfolding replied raised counted uncounted told tookKept
       room-replied held =
           pick-elim (BoxRoom (s .j)) (ltb (took .kept .pn) (y .head .pn))
           (λ e k. absurd (omega (arith, k)))
@@ -203,7 +208,7 @@ module _ (s : Setting) (x : Box) (h : BoxRoom (s .j) (x .head))
           → FormedKind k (s .j) (y .head .pn) (y .head .last) (y .head .first) (y .head .unagreed)
           (length ms)
           → After ms (ofKind k (x .head) s a (y .head) (getD ms 0 0) (nextOf y) (mine x))
-      unfolding ofKind onCollect onLast onBegin onAccept onCommit onLease tookKept
+      unfolding ofKind onCollect onLast onBegin onAccept onCommit onLease onLeaseAck tookKept
       room-kind Kind.Collect f =
           by-verdict (After ms) _ _ _ (same ms)
           (λ go. record { box = stays (omega arith); sent = tt })
@@ -228,6 +233,8 @@ module _ (s : Setting) (x : Box) (h : BoxRoom (s .j) (x .head))
             sent = tt;
           })
       room-kind Kind.Lease f =
+          by-verdict (After ms) _ _ _ (same ms) (λ go. record { box = h; sent = tt })
+      room-kind Kind.LeaseAck f =
           by-verdict (After ms) _ _ _ (same ms) (λ go. record { box = h; sent = tt })
 
     room-turn : (e : Event) → Fit (s .j) e → After (brought e) (turnOf s x e)

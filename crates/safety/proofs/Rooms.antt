@@ -12,7 +12,7 @@ use Rattle.rules.specs.Parts.{higher, roomNext}
 use Rattle.rules.specs.Turns.{firstCause, unless, settled}
 use Rattle.rules.specs.Last.{lastVerdict, onLast}
 use Rattle.rules.specs.Mails.{onCollect, beginVerdict, onBegin, acceptVerdict, onAccept, onCommit}
-use Rattle.rules.specs.Mails.{onLease, ofKind, onMail}
+use Rattle.rules.specs.Mails.{onLease, leaseAckVerdict, onLeaseAck, ofKind, onMail}
 use Rattle.rules.specs.Steps.{started, leased, canReady, hasPrevious, ready, acted}
 use Rattle.rules.specs.Box.{Letter, nextOf, mine}
 use Rattle.rules.specs.Site.{Site, Outcome, isBox, isLink, setting, room, popped}
@@ -110,7 +110,7 @@ module _ (s : Setting) (b : BoxState) where
     other-kind : (k : Kind) → MailRoom (s .j) (readAs k y)
         → no-room (ofKind k b s a (y .head) one next mine .answer) ≡ false
     unfolding ofKind onCollect onLast lastVerdict onBegin beginVerdict onAccept acceptVerdict
-        onCommit onLease wants-room no-room
+        onCommit onLease leaseAckVerdict onLeaseAck wants-room no-room
     other-kind Kind.Collect g =
         other-settled b _ _ (other-cause _ _ _ _ _ (λ e. refl)) refl
     other-kind Kind.Last g =
@@ -135,6 +135,8 @@ module _ (s : Setting) (b : BoxState) where
     other-kind Kind.Commit g =
         other-settled b _ _ (other-cause _ _ _ _ _ (λ e. refl)) refl
     other-kind Kind.Lease g =
+        other-settled b _ _ (other-cause _ _ _ _ _ (λ e. refl)) refl
+    other-kind Kind.LeaseAck g =
         other-settled b _ _ (other-cause _ _ _ _ _ (λ e. refl)) refl
 
 -- ---- the two calls

@@ -30,13 +30,14 @@ use Rattle.safety.proofs.Offer.{inv-offer}
 use Rattle.safety.proofs.Propose.{inv-propose}
 use Rattle.safety.proofs.Agree.{inv-agree}
 use Rattle.safety.proofs.Finish.{inv-finish}
+use Rattle.safety.proofs.Heard.{inv-heard}
 use Rattle.safety.proofs.Trim.{inv-trim}
 use Rattle.safety.proofs.MailCollect.{inv-collect-mail}
 use Rattle.safety.proofs.MailLast.{inv-last}
 use Rattle.safety.proofs.MailBegin.{inv-begin}
 use Rattle.safety.proofs.MailAccept.{inv-accept}
 use Rattle.safety.proofs.MailCommit.{inv-commit}
-use Rattle.safety.proofs.MailLease.{inv-lease}
+use Rattle.safety.proofs.MailLease.{inv-lease, inv-lease-ack}
 
 -- ---- every call
 
@@ -52,6 +53,7 @@ inv-kind s i a b y ys Kind.Begin r = inv-begin s i a b y ys r
 inv-kind s i a b y ys Kind.Accept r = inv-accept s i a b y ys r
 inv-kind s i a b y ys Kind.Commit r = inv-commit s i a b y ys r
 inv-kind s i a b y ys Kind.Lease r = inv-lease s i a b y ys r
+inv-kind s i a b y ys Kind.LeaseAck r = inv-lease-ack s i a b y ys r
 
 inv-delivered : (s : Site) (i : Inv s) (a b : ℕ)
     → Formed s → In a (s .n) → In b (s .n) → (a ≡ b → ⊥)
@@ -87,6 +89,7 @@ inv-step s (Call.Offer c l r) i = inv-offer s i c l r
 inv-step s (Call.Propose c) i = inv-propose s i c
 inv-step s (Call.Agree c) i = inv-agree s i c
 inv-step s (Call.Finish c) i = inv-finish s i c
+inv-step s (Call.Heard c) i = inv-heard s i c
 inv-step s (Call.Trim c k) i = inv-trim s i c k
 inv-step s (Call.Stop c) i =
     by-ruled (After s i) s _ _ (after-same i) (λ p. inv-presented s (without (s .present) c) i)

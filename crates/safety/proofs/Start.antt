@@ -7,7 +7,8 @@ use native.Mathlib.Omega.{arith}
 use lib.ListN.{length, getD, take}
 use Rattle.rules.specs.Sizes.{mostBoxes, even}
 use Rattle.rules.specs.Sets.{has, bit, without}
-use Rattle.rules.specs.Fields.{withState, withPhase, withKept, withAccepts, withAgreeing, storing}
+use Rattle.rules.specs.Fields.{withState, withPhase, withKept, withAccepts, withHeard, withAgreeing}
+use Rattle.rules.specs.Fields.{storing}
 use Rattle.rules.specs.Parts.{others, span}
 use Rattle.rules.specs.Steps.{started, leased}
 use Rattle.rules.specs.Box.{Box, written, enclosed}
@@ -17,7 +18,7 @@ use Rattle.laws.proofs.Logic.{In, eqb-same}
 use Rattle.laws.proofs.SetLaws.{without-in, bit-is}
 use Rattle.laws.proofs.FrameLaws.{all-post}
 use Rattle.laws.proofs.View.{Store, store, keeping, phaseOf, stateOf, at, Reading, Collect, Last}
-use Rattle.laws.proofs.View.{Begin, Accept, Commit, Lease, Raises, raises-none, stored-held}
+use Rattle.laws.proofs.View.{Begin, Accept, Commit, Inert, Raises, raises-none, stored-held}
 use Rattle.safety.proofs.Inv.{Agreement, BoxOk, VotedFor, MailOk, BeginOk, Ripe, Settled}
 use Rattle.safety.proofs.Inv.{Inv}
 use Rattle.safety.proofs.After.{After, after}
@@ -71,7 +72,7 @@ module _ (w : ℕ) (g : Agreement) (c : ℕ) (y z : Box) (r : ℕ)
   }
   mail-started a sa b sb (Commit q l F rs) h =
       record { from = h .from; to = h .to; le = h .le; agreed = h .agreed }
-  mail-started a sa b sb (Lease l) h = record { from = h .from; to = h .to }
+  mail-started a sa b sb Inert h = h
 
 -- ---- the leader c, ripe and in no phase Begin; y is its box as the rule hands it on
 
@@ -163,7 +164,9 @@ module _ (s : Site) (i : Inv s) (c : ℕ) (c-in : In c (s .n)) (h : s .box c .he
   module _ (done : length (i .agreed .records) ≤ a .last) where
     abbrev rest : Box
     rest = record {
-      head = withState State.Active (withPhase Phase.Lease (keeping (store (s .box c)) y .head));
+      head =
+          withState State.Active
+          (withHeard (bit c) (withPhase Phase.Lease (keeping (store (s .box c)) y .head)));
       records = s .box c .records;
     }
 
@@ -198,5 +201,5 @@ module _ (s : Site) (i : Inv s) (c : ℕ) (c-in : In c (s .n)) (h : s .box c .he
           (lead-mails c L rest y-leads (i .agreed)
           (λ j b m.
           mail-kept (s .present) (i .agreed) c (s .box c) rest onward _ _ (same-next a) j _ b _ m))
-          (without (s .present) c) c _ (λ b t ab. record { from = refl; to = sent b t }));
+          (without (s .present) c) c _ (λ b t ab. tt));
     })

@@ -141,7 +141,7 @@ module _ (s : Site) (i : Inv s) (c : ℕ) (c-in : In c (s .n)) (k : ℕ)
           (led L c c-in
           (subst (λ (j : ℕ). s .box j .head .leads ≡ true) (sym e) (L .lead)))
       go L (right ne) =
-          live-moved L c v (moved (L .x)) (s .link) (o .here) ne refl (L .quiet)
+          live-moved L c v (moved (L .x)) (s .link) (λ f e. o .here) ne refl (L .quiet)
           (λ h. refl) (λ h. h) (λ h f. f) (mails-moved L c v (moved (L .x)))
 
 pub inv-trim : (s : Site) (i : Inv s) (c k : ℕ) → After s i (step s (Call.Trim c k) .next)
