@@ -20,7 +20,7 @@ use Rattle.rules.specs.declared.model.Answer.{Answer}
 use Rattle.rules.specs.declared.model.Call.{Call}
 use Rattle.rules.specs.declared.model.Setting.{Setting}
 use Rattle.laws.specs.Frames.{ActFits}
-use Rattle.laws.proofs.Logic.{In}
+use Rattle.safety.specs.Demand3.{In}
 use Rattle.alone.specs.Links.{Links, sent, roomFor, heldBack, after, callOf}
 
 -- a box by itself: its row, and the epoch and the present set that it was told last
