@@ -15,13 +15,14 @@ use Rattle.laws.proofs.StepLaws.{sizes-run}
 use Rattle.safety.specs.Demand3.{In, Agreed, recordAt, start, Offered, AfterRun}
 use Rattle.safety.specs.Demand3.{now as offered, before as earlier}
 use Rattle.safety.proofs.Demand.{demand-3}
-use Rattle.alone.specs.Yard.{Yard, Happens, Lived, began, did, unseen}
+use Rattle.alone.specs.Yard.{Yard, Happens, Lived, did, unseen}
 use Rattle.alone.specs.Alone.{Stands, Taken, now, before, before-unseen, AloneKeeps}
 use Rattle.alone.proofs.OwnStep as OwnStep
 use Rattle.alone.proofs.Mirror.{Mirrored, lived, same-answer}
 
 stood : {y : Yard} {s : Site} → Mirrored y s → Stands y s
 stood {y} r = subst (Stands y) (sym (r .same)) (record {
+  sizes = (refl, refl, refl);
   epoch = refl;
   present = refl;
   links = r .mirror .links;
@@ -49,8 +50,7 @@ module _ (n J L : ℕ) (sizes : sizesForm n J L ≡ true) where
   module _ {calls : List Call} {y : Yard} (l : Lived n J L calls y) where
     same-n : y .n ≡ n
     unfolding fresh
-    same-n = ap (λ (s : Site). s .n) (sym (lived n J L sizes l .same))
-        ∙ sizes-run (start n J L) calls .n
+    same-n = sym (stands l .sizes .0) ∙ sizes-run (start n J L) calls .n
 
     -- a row without what demand 3 does not speak of, and the run's box likewise
     abbrev filed : Box → Box
@@ -124,6 +124,9 @@ pub alone-keeps : AloneKeeps
 alone-keeps = record {
   acts = OwnStep.acts;
   delivers = OwnStep.delivers;
+  fresh = OwnStep.starts;
+  elected = OwnStep.elects;
+  holds = OwnStep.asks;
   stands = λ e. stands _ _ _ e;
   answers = λ e. same-answer _ _ _ e;
   after-run = λ e. after-run _ _ _ e;

@@ -18,19 +18,19 @@ use Rattle.rules.specs.Site.{Site, Outcome, fresh, freshBox, setting, upd, reli
 use Rattle.rules.specs.Site.{doubled}
 use Rattle.rules.specs.Step.{did, elect, risen, presented, step, run}
 use Rattle.laws.specs.Frames.{ActFits, CallFits}
-use Rattle.laws.proofs.Types.{Act, Answer, BoxState, Call, Phase, Setting, State}
+use Rattle.laws.proofs.Types.{Act, Answer, Call, Phase, Setting, State}
 use Rattle.laws.proofs.Logic.{In, both-no, eqb-yes, cond-elim}
-use Rattle.laws.proofs.FormLaws.{box-is, is-link}
+use Rattle.laws.proofs.FormLaws.{box-is}
 use Rattle.laws.proofs.FrameLaws.{upd-all}
 use Rattle.laws.proofs.FormKept.{step-keeps-form, fresh-form}
 use Rattle.alone.specs.Links.{Links, sent, after, joinedBy, linked, callOf}
-use Rattle.alone.specs.Yard.{Alone, Yard, begun, knows, now, toldOf, ran, withLinks}
-use Rattle.alone.specs.Yard.{withAlone, withRow, withEpoch, stored, answered, carried}
-use Rattle.alone.specs.Yard.{relinkedBy, without-head, Told, Head, Elects, Counted, Happens}
+use Rattle.alone.specs.Yard.{Alone, Yard, begun, now, ran, withLinks}
+use Rattle.alone.specs.Yard.{withEpoch, stored, answered, carried}
+use Rattle.alone.specs.Yard.{relinkedBy, Told, Head, Counted, Happens}
 use Rattle.alone.specs.Yard.{acts, hands, loses, repeats, stops, returns, times-out, elects}
 use Rattle.alone.specs.Yard.{Silent, tells, clears, Lived, began, did as then, unseen}
 use Rattle.alone.proofs.OwnStep as OwnStep
-use Rattle.alone.proofs.OwnStep.{ruled-met}
+use Rattle.alone.proofs.OwnStep.{ruled-met, told-done}
 
 -- a box without what an election overwrites
 abbrev rest : Box → Box
@@ -43,13 +43,17 @@ rest x = record {
   records = x .records;
 }
 
+-- what an election of c makes of a box
+abbrev electedBox : Setting → ℕ → Box → Box
+electedBox s c x = record { head = elected (x .head) s c; records = x .records }
+
 -- the box x by itself and the site's box z; s is what there is to know, c was elected last
 pub record Follows (s : Setting) (c : ℕ) (x : Alone) (z : Box) : Type 0 where
   pub old : x .epoch ≤ s .epoch
   pub rests : rest (x .row) ≡ rest z
   pub told : even (s .epoch) ≡ true → x .epoch ≡ s .epoch
       → (x .present ≡ s .present) × (x .row ≡ z)
-  pub due : even (s .epoch) ≡ true → (x .epoch ≡ s .epoch → ⊥) → toldOf s c x .row ≡ z
+  pub due : even (s .epoch) ≡ true → (x .epoch ≡ s .epoch → ⊥) → electedBox s c (x .row) ≡ z
 
 abbrev siteAs : Yard → (ℕ → Box) → Links → Site
 siteAs y box link = record {
@@ -167,11 +171,12 @@ module _ (y : Yard) (box : ℕ → Box) (link : Links) (m : Mirror y box link) w
         subst (λ (l : Links). Goes d (answered (less l) c (ran y c e))
         (carried y (less l) c (ran y c e))) (sym (m .links (t .even)))
         (subst (λ (r : OwnOutcome). Goes d (answered (less link) c r) (carried y (less link) c r))
-        (sym ran-is)
-        (ap (λ (r : Outcome). r .answer) is,
-        subst (λ (r : Outcome). Mirrored (carried y (less link) c o) (r .next)) (sym is)
-        (by-answer (answered (less link) c o)
-        (subst (λ (r : Outcome). form (r .next) ≡ true) is (kept-form d fits)))))
+        (sym ran-is) (
+          ap (λ (r : Outcome). r .answer) is,
+          subst (λ (r : Outcome). Mirrored (carried y (less link) c o) (r .next)) (sym is)
+              (by-answer (answered (less link) c o)
+              (subst (λ (r : Outcome). form (r .next) ≡ true) is (kept-form d fits))),
+        ))
 
   -- ---- the carrier does something
 
@@ -181,7 +186,7 @@ module _ (y : Yard) (box : ℕ → Box) (link : Links) (m : Mirror y box link) w
   done d z is {w} made fits = (
     ap (λ (r : Outcome). r .answer) is,
     subst (λ (r : Outcome). Mirrored w (r .next)) (sym is)
-    (made (subst (λ (r : Outcome). form (r .next) ≡ true) is (kept-form d fits))),
+        (made (subst (λ (r : Outcome). form (r .next) ≡ true) is (kept-form d fits))),
   )
 
   -- one link is changed by g
@@ -232,11 +237,7 @@ module _ (y : Yard) (box : ℕ → Box) (link : Links) (m : Mirror y box link) w
         rests = rw (box-is h) (m .boxes b h .rests);
         told = λ ev e. absurd (omega (arith, m .boxes b h .old, e));
         due = λ ev ne. rw (box-is h)
-            (ap (λ (x : Box). record {
-              head = elected (x .head) (now y b) c;
-              records = x .records;
-            })
-            (m .boxes b h .rests));
+            (ap (electedBox (now y b) c) (m .boxes b h .rests));
       };
       links = λ ev. fun-ext (λ a. fun-ext (λ b. empty a b));
     };
@@ -279,10 +280,20 @@ module _ (y : Yard) (box : ℕ → Box) (link : Links) (m : Mirror y box link) w
       (ruled-met _ _ _ (m .form, (h .link, (some h, tt)))) (relinked-goes tail a b (h .even)) tt
   goes (repeats a b x h room) =
       done (Call.Repeat a b) (doubled s a b)
-      (ruled-met _ _ _
-      (m .form, (h .link, (some h,
-      (subst (λ (l : Links). ltb (length (l a b)) (y .L) ≡ true) (m .links (h .even))
-      (lt-ltb _ _ room), tt)))))
+      (ruled-met _ _ _ (
+        m .form,
+        (
+          h .link,
+          (
+            some h,
+            (
+              subst (λ (l : Links). ltb (length (l a b)) (y .L) ≡ true) (m .links (h .even))
+                  (lt-ltb _ _ room),
+              tt,
+            ),
+          ),
+        ),
+      ))
       (relinked-goes twice a b (h .even)) tt
   goes (stops c h here) =
       done (Call.Stop c) (presented s (without (y .present) c))
@@ -308,19 +319,21 @@ module _ (y : Yard) (box : ℕ → Box) (link : Links) (m : Mirror y box link) w
 
   pub unseen-goes : {z : Yard} → Silent y z → Mirrored z s
   unfolding elected
-  unseen-goes (tells b hb ev ne) = still _ refl (record {
-    form = m .form;
-    boxes =
-        upd-all (λ i x. In i (y .n) → Follows (now y i) (y .leader) x (box i)) (y .box) b
-        (λ h. record {
-          old = omega arith;
-          rests = m .boxes b h .rests;
-          told = λ e f. (refl, m .boxes b h .due ev ne);
-          due = λ e f. absurd (f refl);
-        })
-        (m .boxes);
-    links = m .links;
-  })
+  unseen-goes (tells b hb ne done) =
+      let h = told-done (now y b) (y .box b .row) (y .leader) done in
+      still _ refl (record {
+        form = m .form;
+        boxes =
+            upd-all (λ i x. In i (y .n) → Follows (now y i) (y .leader) x (box i)) (y .box) b
+            (λ i. record {
+              old = omega arith;
+              rests = ap rest (h .1) ∙ m .boxes b i .rests;
+              told = λ e f. (refl, h .1 ∙ m .boxes b i .due (h .0) ne);
+              due = λ e f. absurd (f refl);
+            })
+            (m .boxes);
+        links = m .links;
+      })
   unseen-goes (clears l odd) = still _ refl (record {
     form = m .form;
     boxes = m .boxes;

@@ -1,25 +1,38 @@
 -- A box by itself keeps demand 3, in statements alone: of boxes that run `ownStep` and a carrier
 -- that keeps its duties (Yard).
-use Prim.Native.Nat.{ℕ, _≤_}
+use Prim.Native.Nat.{ℕ, _+_, _≤_}
 use mathlib.Core.Path.{_≡_}
-use mathlib.Core.Bool.{true}
+use mathlib.Core.Bool.{true, false}
 use mathlib.Core.List.{List, _∷_, _++_}
 use lib.ListN.{length}
 use Rattle.rules.specs.Sizes.{even, sizesForm, recordOf}
-use Rattle.rules.specs.Box.{Letter, own, mail}
-use Rattle.rules.specs.Own.{ownStep}
+use Rattle.rules.specs.Box.{Box, Letter, own, mail}
+use Rattle.rules.specs.Own.{unmoved, ownStep, ownFresh, ownElected, ownHolds}
 use Rattle.rules.specs.Site.{Site, isLink, setting, popped}
 use Rattle.rules.specs.Form.{form}
-use Rattle.rules.specs.Step.{step, run}
+use Rattle.rules.specs.Step.{step, run, holds}
 use Rattle.rules.specs.declared.model.Act.{Act}
 use Rattle.rules.specs.declared.model.Answer.{Answer}
 use Rattle.rules.specs.declared.model.Call.{Call}
+use Rattle.rules.specs.declared.model.Setting.{Setting}
 use Rattle.safety.specs.Demand3.{In, Agreed, recordAt, start, Offered, AfterRun}
 use Rattle.alone.specs.Links.{linked, callOf}
 use Rattle.alone.specs.Yard.{Yard, Told, Happens, Silent, Lived, did, unseen}
 
+-- what box b knows after an election
+abbrev pub elected-setting : Site → ℕ → Setting
+elected-setting s b = record {
+  n = s .n;
+  j = s .J;
+  l = s .L;
+  epoch = s .epoch + 1;
+  present = s .present;
+  me = b;
+}
+
 -- the site s stands for the yard y
 pub record Stands (y : Yard) (s : Site) : Type 0 where
+  pub sizes : (s .n ≡ y .n) × (s .J ≡ y .J) × (s .L ≡ y .L)
   pub epoch : s .epoch ≡ y .epoch
   pub present : s .present ≡ y .present
   -- the links are the same in every even epoch, ..
@@ -33,14 +46,14 @@ pub record Stands (y : Yard) (s : Site) : Type 0 where
 -- in what they lived, a box by itself answered an Offer of the record r with Done; j calls came
 -- before it
 pub data Taken {n J L : ℕ} : (calls : List Call) (y : Yard) → Lived n J L calls y → ℕ → ℕ → Type 0
-    where
-  now : {calls : List Call} {y z : Yard} (l : Lived n J L calls y) (c left right : ℕ)
-      (h : Happens y (Call.Offer c left right) Answer.Done z)
-      → Taken (Call.Offer c left right ∷ calls) z (did l h) (length calls) (recordOf left right)
-  before : {calls : List Call} {y z : Yard} {l : Lived n J L calls y} {d : Call} {a : Answer}
-      (h : Happens y d a z) {j r : ℕ} → Taken calls y l j r → Taken (d ∷ calls) z (did l h) j r
-  before-unseen : {calls : List Call} {y z : Yard} {l : Lived n J L calls y} (q : Silent y z)
-      {j r : ℕ} → Taken calls y l j r → Taken calls z (unseen l q) j r
+  where
+    now : {calls : List Call} {y z : Yard} (l : Lived n J L calls y) (c left right : ℕ)
+        (h : Happens y (Call.Offer c left right) Answer.Done z)
+        → Taken (Call.Offer c left right ∷ calls) z (did l h) (length calls) (recordOf left right)
+    before : {calls : List Call} {y z : Yard} {l : Lived n J L calls y} {d : Call} {a : Answer}
+        (h : Happens y d a z) {j r : ℕ} → Taken calls y l j r → Taken (d ∷ calls) z (did l h) j r
+    before-unseen : {calls : List Call} {y z : Yard} {l : Lived n J L calls y} (q : Silent y z)
+        {j r : ℕ} → Taken calls y l j r → Taken calls z (unseen l q) j r
 
 pub record AloneKeeps : Type 0 where
   -- "The site's Recover .. Finish and Deliver ARE the box's own step plus links."
@@ -50,6 +63,16 @@ pub record AloneKeeps : Type 0 where
       → isLink (s .n) a b ≡ true → s .link a b ≡ m ∷ behind
       → step s (Call.Deliver a b)
       ≡ linked s (popped s a b) b (ownStep (setting s b) (s .box b) (mail a m))
+  -- A box alone is started as a box of the fresh site, ..
+  pub fresh : (n J L : ℕ) (x : Box) → sizesForm n J L ≡ true
+      → (b : ℕ) → ownFresh n J L x ≡ unmoved (start n J L .box b) Answer.Done
+  -- .. is told of an election with the site's answer, and becomes the site's box, ..
+  pub elected : (s : Site) → form s ≡ true → even (s .epoch) ≡ false → (b c : ℕ) → In b (s .n)
+      → ownElected (elected-setting s b) (s .box b) c
+      ≡ unmoved (step s (Call.Elect c) .next .box b) (step s (Call.Elect c) .answer)
+  -- .. and is asked as the site is.
+  pub holds : (s : Site) → form s ≡ true → (c k left right : ℕ) → In c (s .n)
+      → ownHolds (setting s c) (s .box c) k left right ≡ holds s c k left right
   -- "What such boxes do is a run of the site", ..
   pub stands : {n J L : ℕ} → sizesForm n J L ≡ true → {calls : List Call} {y : Yard}
       → Lived n J L calls y → Stands y (run (start n J L) calls)

@@ -10,9 +10,8 @@ use lib.Dec.{eqb}
 use lib.ListN.{length}
 use Rattle.rules.specs.Sizes.{majorityOf, mostEpoch, even}
 use Rattle.rules.specs.Sets.{has, joined, without, fullSet}
-use Rattle.rules.specs.Steps.{elected}
 use Rattle.rules.specs.Box.{Box, Letter, Event, own, mail}
-use Rattle.rules.specs.Own.{OwnOutcome, ownStep}
+use Rattle.rules.specs.Own.{OwnOutcome, ownStep, ownElected}
 use Rattle.rules.specs.Site.{freshBox, isLink, upd, twice}
 use Rattle.rules.specs.Step.{risen}
 use Rattle.rules.specs.declared.model.Act.{Act}
@@ -78,14 +77,14 @@ now y c = record {
   me = c;
 }
 
--- a box that is told what there is to know, and of the election of c
-abbrev pub toldOf : Setting → ℕ → Alone → Alone
-toldOf s c x = record {
-  row = record { head = elected (x .row .head) s c; records = x .row .records };
-  epoch = s .epoch;
-  present = s .present;
-}
+-- box b is told of the election, with what there is to know
+abbrev pub hears : Yard → ℕ → OwnOutcome
+hears y b = ownElected (now y b) (y .box b .row) (y .leader)
 
+abbrev pub toldOf : Yard → ℕ → Alone
+toldOf y b = record { row = hears y b .next; epoch = y .epoch; present = y .present }
+
+-- box c runs the event e
 abbrev pub ran : Yard → ℕ → Event → OwnOutcome
 ran y c e = ownStep (knows y c) (y .box c .row) e
 
@@ -210,8 +209,8 @@ pub data Happens (y : Yard) : Call → Answer → Yard → Type 0 where
 pub data Silent (y : Yard) : Yard → Type 0 where
   -- a box is told of the election, once, and at any time before it does something in that epoch; a
   -- box that is switched off need not be told
-  tells : (b : ℕ) → In b (y .n) → even (y .epoch) ≡ true → (y .box b .epoch ≡ y .epoch → ⊥)
-      → Silent y (withAlone y b (toldOf (now y b) (y .leader) (y .box b)))
+  tells : (b : ℕ) → In b (y .n) → (y .box b .epoch ≡ y .epoch → ⊥)
+      → hears y b .answer ≡ Answer.Done → Silent y (withAlone y b (toldOf y b))
   -- in an odd epoch the carrier may do with its letters as it likes
   clears : (link : Links) → even (y .epoch) ≡ false → Silent y (withLinks y link)
 
