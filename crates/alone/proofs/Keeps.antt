@@ -15,8 +15,8 @@ use Rattle.laws.proofs.StepLaws.{sizes-run}
 use Rattle.safety.specs.Demand3.{In, Agreed, recordAt, start, Offered, AfterRun}
 use Rattle.safety.specs.Demand3.{now as offered, before as earlier}
 use Rattle.safety.proofs.Demand.{demand-3}
-use Rattle.alone.specs.Yard.{Yard, Happens, Lived, did, unseen}
-use Rattle.alone.specs.Alone.{Stands, Taken, now, before, before-unseen, AloneKeeps}
+use Rattle.alone.specs.Yard.{Yard, Happens, Lived, did, told}
+use Rattle.alone.specs.Alone.{Stands, Taken, now, before, before-told, AloneKeeps}
 use Rattle.alone.proofs.OwnStep as OwnStep
 use Rattle.alone.proofs.Mirror.{Mirrored, lived, same-answer}
 
@@ -92,7 +92,7 @@ module _ (n J L : ℕ) (sizes : sizesForm n J L ≡ true) where
 
   offers : {calls : List Call} {y : Yard} (l : Lived n J L calls y) {j r : ℕ}
       → Offered (start n J L) calls j r → Taken calls y l j r
-  offers (unseen l q) o = before-unseen q (offers l o)
+  offers (told b l h) o = before-told h (offers l o)
   offers (did l h) (earlier d o) = before h (offers l o)
   offers (did {y = y} {z = z} l h) (offered calls c left right e) =
       subst (λ (a : Answer). (g : Happens y (Call.Offer c left right) a z)

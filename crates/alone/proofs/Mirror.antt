@@ -28,7 +28,7 @@ use Rattle.alone.specs.Yard.{Alone, Yard, begun, now, ran, withLinks}
 use Rattle.alone.specs.Yard.{withEpoch, stored, answered, carried}
 use Rattle.alone.specs.Yard.{relinkedBy, Told, Head, Counted, Happens}
 use Rattle.alone.specs.Yard.{acts, hands, loses, repeats, stops, returns, times-out, elects}
-use Rattle.alone.specs.Yard.{Silent, tells, clears, Lived, began, did as then, unseen}
+use Rattle.alone.specs.Yard.{withAlone, toldOf, Tells, Lived, began, did as then, told}
 use Rattle.alone.proofs.OwnStep as OwnStep
 use Rattle.alone.proofs.OwnStep.{ruled-met, told-done}
 
@@ -69,7 +69,7 @@ siteAs y box link = record {
 pub record Mirror (y : Yard) (box : ℕ → Box) (link : Links) : Type 0 where
   pub form : form (siteAs y box link) ≡ true
   pub boxes : (b : ℕ) → In b (y .n) → Follows (now y b) (y .leader) (y .box b) (box b)
-  pub links : even (y .epoch) ≡ true → y .link ≡ link
+  pub links : y .link ≡ link
 
 pub record Mirrored (y : Yard) (s : Site) : Type 0 where
   pub box : ℕ → Box
@@ -146,7 +146,7 @@ module _ (y : Yard) (box : ℕ → Box) (link : Links) (m : Mirror y box link) w
               due = λ ev ne. absurd (ne (t .told));
             })
             (m .boxes);
-        links = λ h. refl;
+        links = refl;
       };
     }
 
@@ -159,7 +159,7 @@ module _ (y : Yard) (box : ℕ → Box) (link : Links) (m : Mirror y box link) w
       box = box;
       link = g link;
       same = refl;
-      mirror = record { form = f; boxes = m .boxes; links = λ h. refl };
+      mirror = record { form = f; boxes = m .boxes; links = refl };
     }
     by-answer Answer.Done f = accepted f
     by-answer Answer.Taken f = accepted f
@@ -169,7 +169,7 @@ module _ (y : Yard) (box : ℕ → Box) (link : Links) (m : Mirror y box link) w
         (carried y (less (y .link)) c (ran y c e))
     box-goes d fits is =
         subst (λ (l : Links). Goes d (answered (less l) c (ran y c e))
-        (carried y (less l) c (ran y c e))) (sym (m .links (t .even)))
+        (carried y (less l) c (ran y c e))) (sym (m .links))
         (subst (λ (r : OwnOutcome). Goes d (answered (less link) c r) (carried y (less link) c r))
         (sym ran-is) (
           ap (λ (r : Outcome). r .answer) is,
@@ -190,17 +190,16 @@ module _ (y : Yard) (box : ℕ → Box) (link : Links) (m : Mirror y box link) w
   )
 
   -- one link is changed by g
-  relinked-goes : (g : List Letter → List Letter) (a b : ℕ) → even (y .epoch) ≡ true
-      → form (relinked g s a b) ≡ true
+  relinked-goes : (g : List Letter → List Letter) (a b : ℕ) → form (relinked g s a b) ≡ true
       → Mirrored (withLinks y (relinkedBy g (y .link) a b)) (relinked g s a b)
-  relinked-goes g a b ev f = record {
+  relinked-goes g a b f = record {
     box = box;
     link = relinkedBy g link a b;
     same = refl;
     mirror = record {
       form = f;
       boxes = m .boxes;
-      links = λ h. ap (λ (l : Links). relinkedBy g l a b) (m .links ev);
+      links = ap (λ (l : Links). relinkedBy g l a b) (m .links);
     };
   }
 
@@ -219,14 +218,14 @@ module _ (y : Yard) (box : ℕ → Box) (link : Links) (m : Mirror y box link) w
         told = λ ev. absurd (both-no ev (odd-risen (y .epoch)));
         due = λ ev. absurd (both-no ev (odd-risen (y .epoch)));
       };
-      links = λ ev. absurd (both-no ev (odd-risen (y .epoch)));
+      links = m .links;
     };
   }
 
-  elected-goes : (c : ℕ) → ((a b : ℕ) → y .link a b ≡ []) → form (elect s c) ≡ true
-      → Mirrored (withEpoch y (y .epoch + 1) (y .present) c) (elect s c)
+  elected-goes : (c : ℕ) → form (elect s c) ≡ true
+      → Mirrored (withLinks (withEpoch y (y .epoch + 1) (y .present) c) (λ a b. [])) (elect s c)
   unfolding elect elected
-  elected-goes c empty f = record {
+  elected-goes c f = record {
     box = elect s c .box;
     link = λ a b. [];
     same = refl;
@@ -239,13 +238,13 @@ module _ (y : Yard) (box : ℕ → Box) (link : Links) (m : Mirror y box link) w
         due = λ ev ne. rw (box-is h)
             (ap (electedBox (now y b) c) (m .boxes b h .rests));
       };
-      links = λ ev. fun-ext (λ a. fun-ext (λ b. empty a b));
+      links = refl;
     };
   }
 
   -- the head of a link, as the site has it
   stands : {a b : ℕ} {x : Letter} (h : Head y a b x) → link a b ≡ x ∷ h .behind
-  stands {a} {b} h = ap (λ (l : Links). l a b) (sym (m .links (h .even))) ∙ h .stands
+  stands {a} {b} h = ap (λ (l : Links). l a b) (sym (m .links)) ∙ h .stands
 
   some : {a b : ℕ} {x : Letter} → Head y a b x → not (eqb (length (link a b)) 0) ≡ true
   some {x = x} h =
@@ -277,7 +276,7 @@ module _ (y : Yard) (box : ℕ → Box) (link : Links) (m : Mirror y box link) w
       (OwnStep.delivers s (m .form) a b x (h .behind) (h .link) (stands h))
   goes (loses a b x h) =
       done (Call.Lose a b) (popped s a b)
-      (ruled-met _ _ _ (m .form, (h .link, (some h, tt)))) (relinked-goes tail a b (h .even)) tt
+      (ruled-met _ _ _ (m .form, (h .link, (some h, tt)))) (relinked-goes tail a b) tt
   goes (repeats a b x h room) =
       done (Call.Repeat a b) (doubled s a b)
       (ruled-met _ _ _ (
@@ -287,14 +286,14 @@ module _ (y : Yard) (box : ℕ → Box) (link : Links) (m : Mirror y box link) w
           (
             some h,
             (
-              subst (λ (l : Links). ltb (length (l a b)) (y .L) ≡ true) (m .links (h .even))
+              subst (λ (l : Links). ltb (length (l a b)) (y .L) ≡ true) (m .links)
                   (lt-ltb _ _ room),
               tt,
             ),
           ),
         ),
       ))
-      (relinked-goes twice a b (h .even)) tt
+      (relinked-goes twice a b) tt
   goes (stops c h here) =
       done (Call.Stop c) (presented s (without (y .present) c))
       (ruled-met _ _ _ (m .form, (box-is (h .box), (here, (counted h, tt)))))
@@ -311,34 +310,30 @@ module _ (y : Yard) (box : ℕ → Box) (link : Links) (m : Mirror y box link) w
       done (Call.Elect c) (elect s c)
       (ruled-met _ _ _
       (m .form, (box-is (h .box), (rw (h .due) refl, (h .here, (le-leb _ _ (h .majority), tt))))))
-      (elected-goes c (h .empty)) tt
+      (elected-goes c) tt
 
-  -- the same site stands for the yard z
-  still : (z : Yard) → s ≡ siteAs z box link → Mirror z box link → Mirrored z s
-  still z same h = record { box = box; link = link; same = same; mirror = h }
-
-  pub unseen-goes : {z : Yard} → Silent y z → Mirrored z s
+  pub told-goes : (b : ℕ) → Tells y b → Mirrored (withAlone y b (toldOf y b)) s
   unfolding elected
-  unseen-goes (tells b hb ne done) =
-      let h = told-done (now y b) (y .box b .row) (y .leader) done in
-      still _ refl (record {
-        form = m .form;
-        boxes =
-            upd-all (λ i x. In i (y .n) → Follows (now y i) (y .leader) x (box i)) (y .box) b
-            (λ i. record {
-              old = omega arith;
-              rests = ap rest (h .1) ∙ m .boxes b i .rests;
-              told = λ e f. (refl, h .1 ∙ m .boxes b i .due (h .0) ne);
-              due = λ e f. absurd (f refl);
-            })
-            (m .boxes);
-        links = m .links;
-      })
-  unseen-goes (clears l odd) = still _ refl (record {
-    form = m .form;
-    boxes = m .boxes;
-    links = λ ev. absurd (both-no ev odd);
-  })
+  told-goes b t =
+      let h = told-done (now y b) (y .box b .row) (y .leader) (t .heard) in
+      record {
+        box = box;
+        link = link;
+        same = refl;
+        mirror = record {
+          form = m .form;
+          boxes =
+              upd-all (λ i x. In i (y .n) → Follows (now y i) (y .leader) x (box i)) (y .box) b
+              (λ i. record {
+                old = omega arith;
+                rests = ap rest (h .1) ∙ m .boxes b i .rests;
+                told = λ e f. (refl, h .1 ∙ m .boxes b i .due (h .0) (t .once));
+                due = λ e f. absurd (f refl);
+              })
+              (m .boxes);
+          links = m .links;
+        };
+      }
 
 -- ---- from the beginning
 
@@ -358,16 +353,17 @@ module _ (n J L : ℕ) (sizes : sizesForm n J L ≡ true) where
         told = λ ev. absurd (both-no ev refl);
         due = λ ev. absurd (both-no ev refl);
       };
-      links = λ ev. refl;
+      links = refl;
     };
   }
   lived (then {y = y} {z = z} {d = d} l h) =
       let r = lived l in
       subst (λ (s : Site). Mirrored z (step s d .next)) (sym (r .same))
       (goes y (r .box) (r .link) (r .mirror) h .1)
-  lived (unseen {y = y} {z = z} l q) =
+  lived (told {y = y} b l t) =
       let r = lived l in
-      subst (Mirrored z) (sym (r .same)) (unseen-goes y (r .box) (r .link) (r .mirror) q)
+      subst (Mirrored (withAlone y b (toldOf y b))) (sym (r .same))
+      (told-goes y (r .box) (r .link) (r .mirror) b t)
 
   pub same-answer : {calls : List Call} {y z : Yard} {d : Call} {a : Answer} → Lived n J L calls y
       → Happens y d a z → step (run (fresh n J L) calls) d .answer ≡ a

@@ -17,7 +17,8 @@ use Rattle.rules.specs.declared.model.Call.{Call}
 use Rattle.rules.specs.declared.model.Setting.{Setting}
 use Rattle.safety.specs.Demand3.{In, Agreed, recordAt, start, Offered, AfterRun}
 use Rattle.alone.specs.Links.{linked, callOf}
-use Rattle.alone.specs.Yard.{Yard, Told, Happens, Silent, Lived, did, unseen}
+use Rattle.alone.specs.Yard.{Yard, withAlone, toldOf, Told, Tells, Happens, Lived, did}
+use Rattle.alone.specs.Yard.{told}
 
 -- what box b knows after an election
 abbrev pub elected-setting : Site → ℕ → Setting
@@ -35,9 +36,8 @@ pub record Stands (y : Yard) (s : Site) : Type 0 where
   pub sizes : (s .n ≡ y .n) × (s .J ≡ y .J) × (s .L ≡ y .L)
   pub epoch : s .epoch ≡ y .epoch
   pub present : s .present ≡ y .present
-  -- the links are the same in every even epoch, ..
-  pub links : even (y .epoch) ≡ true → y .link ≡ s .link
-  -- .. and the rows of the boxes that were told of it;
+  pub links : y .link ≡ s .link
+  -- in an even epoch the rows of the boxes that were told of it are the same
   pub told : (b : ℕ) → Told y b → y .box b .row ≡ s .box b
   -- what a box has filed is the same at all times
   pub kept : (b : ℕ) → In b (y .n) → y .box b .row .head .kept ≡ s .box b .head .kept
@@ -52,8 +52,8 @@ pub data Taken {n J L : ℕ} : (calls : List Call) (y : Yard) → Lived n J L ca
         → Taken (Call.Offer c left right ∷ calls) z (did l h) (length calls) (recordOf left right)
     before : {calls : List Call} {y z : Yard} {l : Lived n J L calls y} {d : Call} {a : Answer}
         (h : Happens y d a z) {j r : ℕ} → Taken calls y l j r → Taken (d ∷ calls) z (did l h) j r
-    before-unseen : {calls : List Call} {y z : Yard} {l : Lived n J L calls y} (q : Silent y z)
-        {j r : ℕ} → Taken calls y l j r → Taken calls z (unseen l q) j r
+    before-told : {calls : List Call} {y : Yard} {l : Lived n J L calls y} {b : ℕ} (h : Tells y b)
+        {j r : ℕ} → Taken calls y l j r → Taken calls (withAlone y b (toldOf y b)) (told b l h) j r
 
 pub record AloneKeeps : Type 0 where
   -- "The site's Recover .. Finish and Deliver ARE the box's own step plus links."
