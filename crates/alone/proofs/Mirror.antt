@@ -11,7 +11,7 @@ use Rattle.rules.specs.Sizes.{mostEpoch, even, sizesForm}
 use Rattle.rules.specs.Sets.{joined, without}
 use Rattle.rules.specs.Fields.{withLeads, withState, withPhase, withWaiting, withAgreeing}
 use Rattle.rules.specs.Steps.{elected}
-use Rattle.rules.specs.Form.{form}
+use Rattle.rules.specs.Form.{formBox, form}
 use Rattle.rules.specs.Box.{Box, Letter, Event, own, mail}
 use Rattle.rules.specs.Own.{OwnOutcome, ownStep}
 use Rattle.rules.specs.Site.{Site, Outcome, fresh, freshBox, setting, upd, relinked, popped, twice}
@@ -19,9 +19,9 @@ use Rattle.rules.specs.Site.{doubled}
 use Rattle.rules.specs.Step.{did, elect, risen, presented, step, run}
 use Rattle.laws.specs.Frames.{ActFits, CallFits}
 use Rattle.laws.proofs.Types.{Act, Answer, Call, Phase, Setting, State}
-use Rattle.laws.proofs.Logic.{In, both-no, eqb-yes, cond-elim}
+use Rattle.laws.proofs.Logic.{In, both-no, eqb-yes, cond-elim, passed, every-at}
 use Rattle.laws.proofs.FormLaws.{box-is}
-use Rattle.laws.proofs.FrameLaws.{upd-all}
+use Rattle.laws.proofs.FrameLaws.{upd-same, upd-all}
 use Rattle.laws.proofs.FormKept.{step-keeps-form, fresh-form}
 use Rattle.alone.specs.Links.{Links, sent, after, joinedBy, linked, callOf}
 use Rattle.alone.specs.Yard.{Alone, Yard, begun, now, ran, withLinks}
@@ -49,13 +49,19 @@ electedBox s c x = record { head = elected (x .head) s c; records = x .records }
 
 -- the box x by itself and the site's box z; s is what there is to know, c was elected last
 pub record Follows (s : Setting) (c : ℕ) (x : Alone) (z : Box) : Type 0 where
+  pub right : formBox (s .n) (s .j) (s .me) (x .row) ≡ true
   pub old : x .epoch ≤ s .epoch
   pub rests : rest (x .row) ≡ rest z
   pub told : even (s .epoch) ≡ true → x .epoch ≡ s .epoch
       → (x .present ≡ s .present) × (x .row ≡ z)
   pub due : even (s .epoch) ≡ true → (x .epoch ≡ s .epoch → ⊥) → electedBox s c (x .row) ≡ z
 
-abbrev siteAs : Yard → (ℕ → Box) → Links → Site
+box-form : (s : Site) → form s ≡ true → (b : ℕ) → In b (s .n)
+    → formBox (s .n) (s .J) b (s .box b) ≡ true
+unfolding form
+box-form s f b h = every-at (s .n) _ (passed _ f .1 .1 .1 .0) b h
+
+abbrev pub siteAs : Yard → (ℕ → Box) → Links → Site
 siteAs y box link = record {
   n = y .n;
   J = y .J;
@@ -86,7 +92,7 @@ upd-both P f g c {v} {w} new old b = go (eqb b c) (eqb-yes b c)
     go true e = subst (λ (k : ℕ). P k v w) (sym (e refl)) new
     go false e = old b
 
-odd-risen : (e : ℕ) → even (risen e) ≡ false
+pub odd-risen : (e : ℕ) → even (risen e) ≡ false
 odd-risen e =
     cond-elim (λ (t : ℕ). even t ≡ false) (even e)
     (λ t. let h : e % 2 ≡ 0 = eqb-yes (e % 2) 0 t in ne-eqb ((e + 1) % 2) 0 (λ g. omega (arith, g)))
@@ -140,6 +146,9 @@ module _ (y : Yard) (box : ℕ → Box) (link : Links) (m : Mirror y box link) w
         boxes =
             upd-both (λ b x z. In b (y .n) → Follows (now y b) (y .leader) x z) (y .box) box c
             (λ h. record {
+              right =
+                  subst (λ (x : Box). formBox (y .n) (y .J) c x ≡ true) (upd-same box c (o .next))
+                  (box-form (joinedBy base c o) f c h);
               old = m .boxes c h .old;
               rests = refl;
               told = λ ev e. (m .boxes c h .told ev e .0, refl);
@@ -213,6 +222,7 @@ module _ (y : Yard) (box : ℕ → Box) (link : Links) (m : Mirror y box link) w
     mirror = record {
       form = f;
       boxes = λ b h. record {
+        right = m .boxes b h .right;
         old = omega (arith, m .boxes b h .old, risen-le (y .epoch));
         rests = m .boxes b h .rests;
         told = λ ev. absurd (both-no ev (odd-risen (y .epoch)));
@@ -232,6 +242,7 @@ module _ (y : Yard) (box : ℕ → Box) (link : Links) (m : Mirror y box link) w
     mirror = record {
       form = f;
       boxes = λ b h. record {
+        right = m .boxes b h .right;
         old = omega (arith, m .boxes b h .old);
         rests = rw (box-is h) (m .boxes b h .rests);
         told = λ ev e. absurd (omega (arith, m .boxes b h .old, e));
@@ -324,10 +335,12 @@ module _ (y : Yard) (box : ℕ → Box) (link : Links) (m : Mirror y box link) w
           form = m .form;
           boxes =
               upd-all (λ i x. In i (y .n) → Follows (now y i) (y .leader) x (box i)) (y .box) b
-              (λ i. record {
+              (λ i. let same = h .1 ∙ m .boxes b i .due (h .0) (t .once) in record {
+                right = subst (λ (x : Box). formBox (y .n) (y .J) b x ≡ true) (sym same)
+                    (box-form s (m .form) b i);
                 old = omega arith;
                 rests = ap rest (h .1) ∙ m .boxes b i .rests;
-                told = λ e f. (refl, h .1 ∙ m .boxes b i .due (h .0) (t .once));
+                told = λ e f. (refl, same);
                 due = λ e f. absurd (f refl);
               })
               (m .boxes);
@@ -348,6 +361,7 @@ module _ (n J L : ℕ) (sizes : sizesForm n J L ≡ true) where
     mirror = record {
       form = fresh-form n J L sizes;
       boxes = λ b h. record {
+        right = box-form (fresh n J L) (fresh-form n J L sizes) b h;
         old = omega arith;
         rests = refl;
         told = λ ev. absurd (both-no ev refl);
