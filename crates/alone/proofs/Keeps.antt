@@ -2,8 +2,10 @@
 use Prim.Native.Nat.{ℕ, _-_, _≤_, _<_, max}
 use mathlib.Core.Path.{_≡_, refl, sym, ap, ap₂, _∙_, subst}
 use mathlib.Core.Bool.{true}
-use mathlib.Core.List.{List, [], _∷_, _++_}
-use lib.ListN.{length}
+use mathlib.Core.List.{List, [], _∷_, _++_, reverse}
+use native.Mathlib.Omega.{arith}
+use lib.ListN.{length, getD}
+use Rattle.rules.specs.Every.{all}
 use Rattle.rules.specs.Sizes.{sizesForm, proper, recordOf}
 use Rattle.rules.specs.Fields.{withKept}
 use Rattle.rules.specs.Box.{Box}
@@ -15,8 +17,10 @@ use Rattle.laws.proofs.StepLaws.{sizes-run}
 use Rattle.safety.specs.Demand3.{In, Agreed, recordAt, start, Offered, AfterRun}
 use Rattle.safety.specs.Demand3.{now as offered, before as earlier}
 use Rattle.safety.proofs.Demand.{demand-3}
+use Rattle.safety.proofs.Example.{replayed, replayed-further, ranges, computed}
 use Rattle.alone.specs.Yard.{Yard, Happens, Lived, did, told}
-use Rattle.alone.specs.Alone.{Stands, Taken, now, before, before-told, AloneKeeps}
+use Rattle.alone.specs.Alone.{Stands, Taken, now, before, before-told, AllFit, AloneKeeps}
+use Rattle.alone.proofs.Lives.{lives}
 use Rattle.alone.proofs.OwnStep as OwnStep
 use Rattle.alone.proofs.Mirror.{Mirrored, lived, same-answer}
 
@@ -120,6 +124,38 @@ module _ (n J L : ℕ) (sizes : sizesForm n J L ≡ true) where
         (agreed-at m d hd k late)
         ∙ sym (record-at l b hb k)
 
+-- ---- the worked replay, lived by two boxes
+
+replay-fits : AllFit (reverse replayed-further)
+unfolding replayed replayed-further
+replay-fits = (tt, (tt, (tt, (tt, (tt, (tt, (tt, ((omega arith, omega arith), (tt, (tt, (tt, (tt, (tt, (tt, tt))))))))))))))
+
+two : sizesForm 2 16 8 ≡ true
+unfolding sizesForm all
+two = refl
+
+read : (k : ℕ) → getD (ranges (end 2 16 8 two (reverse replayed-further))) k 0
+    ≡ getD (1 ∷ 1 ∷ 1 ∷ 1 ∷ []) k 0
+read k = ap (λ (l : List ℕ). getD l k 0) (computed .further)
+
+not-empty : (calls : List Call) × (y : Yard) × Lived 2 16 8 calls y
+    × Agreed (y .box 1 .row) 1 × Agreed (y .box 2 .row) 1
+not-empty =
+    let k = lives 2 16 8 two (reverse replayed-further) replay-fits in (
+      k .calls,
+      k .yard,
+      k .lived,
+      agreed 1 (omega arith, omega arith) (omega (arith, read 2), omega (arith, read 0)),
+      agreed 2 (omega arith, omega arith) (omega (arith, read 3), omega (arith, read 1)),
+    )
+  where
+    agreed : (b : ℕ) → In b 2 → Agreed (end 2 16 8 two (reverse replayed-further) .box b) 1
+        → Agreed (lives 2 16 8 two (reverse replayed-further) replay-fits .yard .box b .row) 1
+    agreed b h a =
+        let k = lives 2 16 8 two (reverse replayed-further) replay-fits in
+        subst (λ (x : Box). Agreed x 1) (sym (same 2 16 8 two (k .lived) b h))
+        (subst (λ (s : Site). Agreed (s .box b) 1) (sym (k .same)) a)
+
 pub alone-keeps : AloneKeeps
 alone-keeps = record {
   acts = OwnStep.acts;
@@ -133,4 +169,6 @@ alone-keeps = record {
   offers = λ e. offers _ _ _ e;
   never-falls = λ e. never-falls _ _ _ e;
   over-time = λ e. over-time _ _ _ e;
+  lives = λ e. lives _ _ _ e;
+  not-empty = not-empty;
 }

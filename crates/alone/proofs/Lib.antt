@@ -2,4 +2,5 @@
 pub mod OwnStep
 pub mod Mirror
 pub mod Odd
+pub mod Lives
 pub mod Keeps

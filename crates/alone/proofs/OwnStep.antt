@@ -168,23 +168,23 @@ module _ (s : Site) (f : form s ≡ true) (c : ℕ) (box : In c (s .n)) (e : Eve
     (own-form s f c box (s .epoch) (epoch-form s f) e letter, (number, tt)),
   )
 
-module _ (s : Site) (f : form s ≡ true) where
-  is-acting : (c : ℕ) (a : Act) → step s (callOf c a) ≡ acting s c a
-  unfolding step
-  is-acting c Act.Recover = refl
-  is-acting c Act.Collect = refl
-  is-acting c Act.Ready = refl
-  is-acting c (Act.Offer l r) = refl
-  is-acting c Act.Propose = refl
-  is-acting c Act.Agree = refl
-  is-acting c Act.Finish = refl
-  is-acting c Act.Heard = refl
-  is-acting c (Act.Trim k) = refl
+pub is-acting : (s : Site) (c : ℕ) (a : Act) → step s (callOf c a) ≡ acting s c a
+unfolding step
+is-acting s c Act.Recover = refl
+is-acting s c Act.Collect = refl
+is-acting s c Act.Ready = refl
+is-acting s c (Act.Offer l r) = refl
+is-acting s c Act.Propose = refl
+is-acting s c Act.Agree = refl
+is-acting s c Act.Finish = refl
+is-acting s c Act.Heard = refl
+is-acting s c (Act.Trim k) = refl
 
+module _ (s : Site) (f : form s ≡ true) where
   pub acts : (c : ℕ) (a : Act) → In c (s .n)
       → step s (callOf c a) ≡ linked s s c (ownStep (setting s c) (s .box c) (own a))
   acts c a box =
-      is-acting c a
+      is-acting s c a
       ∙ ruled-met _ _ _ (f, (box-is box, tt))
       ∙ by-own s s c (turnOf (setting s c) (s .box c) (own a)) [] _
       ∙ ap (linked s s c) (sym (own-step s f c box (own a) refl (box-is box)))

@@ -3,7 +3,7 @@
 use Prim.Native.Nat.{ℕ, _+_, _≤_}
 use mathlib.Core.Path.{_≡_}
 use mathlib.Core.Bool.{true, false}
-use mathlib.Core.List.{List, _∷_, _++_}
+use mathlib.Core.List.{List, [], _∷_, _++_}
 use lib.ListN.{length}
 use Rattle.rules.specs.Sizes.{even, sizesForm, recordOf}
 use Rattle.rules.specs.Box.{Box, Letter, own, mail}
@@ -15,6 +15,7 @@ use Rattle.rules.specs.declared.model.Act.{Act}
 use Rattle.rules.specs.declared.model.Answer.{Answer}
 use Rattle.rules.specs.declared.model.Call.{Call}
 use Rattle.rules.specs.declared.model.Setting.{Setting}
+use Rattle.laws.specs.Frames.{CallFits}
 use Rattle.safety.specs.Demand3.{In, Agreed, recordAt, start, Offered, AfterRun}
 use Rattle.alone.specs.Links.{linked, callOf}
 use Rattle.alone.specs.Yard.{Yard, withAlone, toldOf, Told, Tells, Happens, Lived, did}
@@ -54,6 +55,19 @@ pub data Taken {n J L : ℕ} : (calls : List Call) (y : Yard) → Lived n J L ca
         (h : Happens y d a z) {j r : ℕ} → Taken calls y l j r → Taken (d ∷ calls) z (did l h) j r
     before-told : {calls : List Call} {y : Yard} {l : Lived n J L calls y} {b : ℕ} (h : Tells y b)
         {j r : ℕ} → Taken calls y l j r → Taken calls (withAlone y b (toldOf y b)) (told b l h) j r
+
+-- frame numbers are numbers of 32 bits
+abbrev pub AllFit : List Call → Type 0
+AllFit [] = Unit {0}
+AllFit (d ∷ ds) = CallFits d × AllFit ds
+
+-- boxes by themselves stand where the site s does, each told of its epoch
+pub record Lives (n J L : ℕ) (s : Site) : Type 0 where
+  pub calls : List Call
+  pub yard : Yard
+  pub lived : Lived n J L calls yard
+  pub same : run (start n J L) calls ≡ s
+  pub everyone : even (yard .epoch) ≡ true → (b : ℕ) → In b n → Told yard b
 
 pub record AloneKeeps : Type 0 where
   -- "The site's Recover .. Finish and Deliver ARE the box's own step plus links."
@@ -97,3 +111,9 @@ pub record AloneKeeps : Type 0 where
       (further : List Call) → Lived n J L calls y → Lived n J L (further ++ calls) z
       → (b d k : ℕ) → In b n → In d n → Agreed (y .box b .row) k → Agreed (z .box d .row) k
       → recordAt (z .box d .row) k ≡ recordAt (y .box b .row) k
+  -- Whatever a site does, boxes by themselves and a carrier that keeps its duties can do; ..
+  pub lives : {n J L : ℕ} → sizesForm n J L ≡ true → (calls : List Call) → AllFit calls
+      → Lives n J L (run (start n J L) calls)
+  -- .. so a load may be agreed at two boxes by themselves.
+  pub not-empty : (calls : List Call) × (y : Yard) × Lived 2 16 8 calls y
+      × Agreed (y .box 1 .row) 1 × Agreed (y .box 2 .row) 1
