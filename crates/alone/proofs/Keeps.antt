@@ -5,23 +5,30 @@ use mathlib.Core.Bool.{true}
 use mathlib.Core.List.{List, [], _∷_, _++_, reverse}
 use native.Mathlib.Omega.{arith}
 use lib.ListN.{length, getD}
+use borrow.Author.Tests.{leb-true}
 use Rattle.rules.specs.Every.{all}
-use Rattle.rules.specs.Sizes.{sizesForm, proper, recordOf}
+use Rattle.rules.specs.Sizes.{sizesForm, leftOf, rightOf, proper, recordOf}
+use Rattle.rules.specs.Answers.{isRefusal}
 use Rattle.rules.specs.Fields.{withKept}
+use Rattle.rules.specs.Form.{form}
+use Rattle.rules.specs.Needs.{need, ruled}
 use Rattle.rules.specs.Box.{Box}
+use Rattle.rules.specs.Own.{formOwn, ownHolds}
 use Rattle.rules.specs.Site.{Site, fresh, freshHead}
-use Rattle.rules.specs.Step.{step, run}
-use Rattle.laws.proofs.Types.{Answer, Call, Kept}
-use Rattle.laws.proofs.FormLaws.{sizes-says}
-use Rattle.laws.proofs.StepLaws.{sizes-run}
+use Rattle.rules.specs.Step.{step, run, agreedAs, holds}
+use Rattle.laws.proofs.Types.{Answer, Call, Kept, Refusal}
+use Rattle.laws.proofs.Logic.{true≠false, eqb-yes, and4, made, none, _&_}
+use Rattle.laws.proofs.FormLaws.{sizes-says, sizes-made, box-is, form-says}
+use Rattle.laws.proofs.StepLaws.{by-needs, sizes-run}
 use Rattle.safety.specs.Demand3.{In, Agreed, recordAt, start, Offered, AfterRun}
 use Rattle.safety.specs.Demand3.{now as offered, before as earlier}
 use Rattle.safety.proofs.Demand.{demand-3}
 use Rattle.safety.proofs.Example.{replayed, replayed-further, ranges, computed}
-use Rattle.alone.specs.Yard.{Yard, Happens, Lived, did, told}
+use Rattle.alone.specs.Yard.{Yard, asked, Happens, Lived, did, told}
 use Rattle.alone.specs.Alone.{Stands, Taken, now, before, before-told, AllFit, AloneKeeps}
 use Rattle.alone.proofs.Lives.{lives}
 use Rattle.alone.proofs.OwnStep as OwnStep
+use Rattle.alone.proofs.OwnStep.{skip}
 use Rattle.alone.proofs.Mirror.{Mirrored, lived, same-answer}
 
 stood : {y : Yard} {s : Site} → Mirrored y s → Stands y s
@@ -72,6 +79,47 @@ module _ (n J L : ℕ) (sizes : sizesForm n J L ≡ true) where
 
       record-at : (k : ℕ) → recordAt (y .box b .row) k ≡ recordAt (end calls .box b) k
       record-at k = ap (λ (x : Box). recordAt x k) same
+
+    -- what it answers where it is asked
+    module _ (b : ℕ) (h : In b n) (k left right : ℕ) where
+      abbrev says : Box → Answer
+      says x = ruled Answer.Refused (need Refusal.Untrue (agreedAs x k left right) ∷ []) Answer.Done
+
+      row-says : asked y b k left right ≡ says (y .box b .row)
+      unfolding ownHolds formOwn
+      row-says =
+          let r = lived n J L sizes l in
+          let i : In b (y .n) = subst (In b) (sym same-n) h in
+          let q = r .mirror .boxes b i .right in
+          skip _ _ _ _ (sizes-made (form-says (r .mirror .form) .sizes))
+          ∙ skip _ _ _ _ (made (q .0 & q .1 & q .2 & refl & none))
+          ∙ skip _ _ _ _ (box-is i)
+
+      site-says : holds (end calls) b k left right ≡ says (end calls .box b)
+      unfolding holds fresh
+      site-says =
+          let r = lived n J L sizes l in
+          skip _ _ _ _ (subst (λ (s : Site). form s ≡ true) (sym (r .same)) (r .mirror .form))
+          ∙ skip _ _ _ _ (box-is (subst (In b) (sym (sizes-run (start n J L) calls .n)) h))
+
+      answers : asked y b k left right ≡ holds (end calls) b k left right
+      unfolding agreedAs
+      answers = row-says ∙ ap says (same b h) ∙ sym site-says
+
+      -- a true answer
+      says-true : asked y b k left right ≡ Answer.Done
+          → Agreed (y .box b .row) k × (leftOf (recordAt (y .box b .row) k) ≡ left)
+          × (rightOf (recordAt (y .box b .row) k) ≡ right)
+      unfolding agreedAs
+      says-true e =
+          let p =
+          and4 _ _ _ _
+          (by-needs (λ (a : Answer). a ≡ Answer.Done → agreedAs (y .box b .row) k left right ≡ true)
+          Answer.Refused (need Refusal.Untrue (agreedAs (y .box b .row) k left right) ∷ [])
+          Answer.Done
+          (λ why e. absurd (true≠false (ap isRefusal e))) (λ p e. p .0) (sym row-says ∙ e))
+          in
+          ((leb-true _ _ (p .0), leb-true _ _ (p .1)), eqb-yes _ _ (p .2), eqb-yes _ _ (p .3))
 
     after-run : AfterRun n (start n J L) calls (λ b. y .box b .row)
     after-run = let r = demand-3 .after-run n J L some-n calls in record {
@@ -128,7 +176,31 @@ module _ (n J L : ℕ) (sizes : sizesForm n J L ≡ true) where
 
 replay-fits : AllFit (reverse replayed-further)
 unfolding replayed replayed-further
-replay-fits = (tt, (tt, (tt, (tt, (tt, (tt, (tt, ((omega arith, omega arith), (tt, (tt, (tt, (tt, (tt, (tt, tt))))))))))))))
+replay-fits = (
+  tt,
+  (
+    tt,
+    (
+      tt,
+      (
+        tt,
+        (
+          tt,
+          (
+            tt,
+            (
+              tt,
+              (
+                (omega arith, omega arith),
+                (tt, (tt, (tt, (tt, (tt, (tt, tt)))))),
+              ),
+            ),
+          ),
+        ),
+      ),
+    ),
+  ),
+)
 
 two : sizesForm 2 16 8 ≡ true
 unfolding sizesForm all
@@ -156,19 +228,32 @@ not-empty =
         subst (λ (x : Box). Agreed x 1) (sym (same 2 16 8 two (k .lived) b h))
         (subst (λ (s : Site). Agreed (s .box b) 1) (sym (k .same)) a)
 
+one-pair : (n J L : ℕ) (sizes : sizesForm n J L ≡ true) {calls : List Call} {y z : Yard}
+    (further : List Call) → Lived n J L calls y → Lived n J L (further ++ calls) z
+    → (b d k left right left' right' : ℕ) → In b n → In d n
+    → asked y b k left right ≡ Answer.Done → asked z d k left' right' ≡ Answer.Done
+    → (left ≡ left') × (right ≡ right')
+one-pair n J L sizes further l m b d k left right left' right' hb hd e f =
+    let p = says-true n J L sizes l b hb k left right e in
+    let q = says-true n J L sizes m d hd k left' right' f in
+    let same = over-time n J L sizes further l m b d k hb hd (p .0) (q .0) in
+    (sym (p .1) ∙ ap leftOf (sym same) ∙ q .1, sym (p .2) ∙ ap rightOf (sym same) ∙ q .2)
+
 pub alone-keeps : AloneKeeps
 alone-keeps = record {
   acts = OwnStep.acts;
   delivers = OwnStep.delivers;
-  fresh = OwnStep.starts;
-  elected = OwnStep.elects;
-  holds = OwnStep.asks;
+  starts = OwnStep.starts;
+  is-told = OwnStep.elects;
+  is-asked = OwnStep.asks;
   stands = λ e. stands _ _ _ e;
   answers = λ e. same-answer _ _ _ e;
   after-run = λ e. after-run _ _ _ e;
   offers = λ e. offers _ _ _ e;
   never-falls = λ e. never-falls _ _ _ e;
   over-time = λ e. over-time _ _ _ e;
+  asked-alike = λ e. answers _ _ _ e;
+  one-pair = λ e. one-pair _ _ _ e;
   lives = λ e. lives _ _ _ e;
   not-empty = not-empty;
 }

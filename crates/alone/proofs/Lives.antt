@@ -89,7 +89,7 @@ module _ (n J L : ℕ) (sizes : sizesForm n J L ≡ true) where
             (ruled-met _ _ _ (
               p .0,
               (
-                made (p .1 .0 & p .1 .1 .0 & m .boxes b i .right & refl & none),
+                made (p .1 .0 & p .1 .1 .0 & m .boxes b i .right .2 & refl & none),
                 (and-both (box-is i) (h .box), (h .even, (h .here, (h .majority, tt)))),
               ),
             ));

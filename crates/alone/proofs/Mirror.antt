@@ -7,8 +7,8 @@ use native.Mathlib.Omega.{arith}
 use lib.Dec.{eqb, ltb}
 use lib.ListN.{length}
 use borrow.Author.Tests.{ne-eqb, le-leb, lt-ltb}
-use Rattle.rules.specs.Sizes.{mostEpoch, even, sizesForm}
-use Rattle.rules.specs.Sets.{joined, without}
+use Rattle.rules.specs.Sizes.{mostEpoch, even, within, sizesForm}
+use Rattle.rules.specs.Sets.{joined, without, setForm}
 use Rattle.rules.specs.Fields.{withLeads, withState, withPhase, withWaiting, withAgreeing}
 use Rattle.rules.specs.Steps.{elected}
 use Rattle.rules.specs.Form.{formBox, form}
@@ -20,7 +20,7 @@ use Rattle.rules.specs.Step.{did, elect, risen, presented, step, run}
 use Rattle.laws.specs.Frames.{ActFits, CallFits}
 use Rattle.laws.proofs.Types.{Act, Answer, Call, Phase, Setting, State}
 use Rattle.laws.proofs.Logic.{In, both-no, eqb-yes, cond-elim, passed, every-at}
-use Rattle.laws.proofs.FormLaws.{box-is}
+use Rattle.laws.proofs.FormLaws.{box-is, form-says}
 use Rattle.laws.proofs.FrameLaws.{upd-same, upd-all}
 use Rattle.laws.proofs.FormKept.{step-keeps-form, fresh-form}
 use Rattle.alone.specs.Links.{Links, sent, after, joinedBy, linked, callOf}
@@ -30,7 +30,7 @@ use Rattle.alone.specs.Yard.{relinkedBy, Told, Head, Counted, Happens}
 use Rattle.alone.specs.Yard.{acts, hands, loses, repeats, stops, returns, times-out, elects}
 use Rattle.alone.specs.Yard.{withAlone, toldOf, Tells, Lived, began, did as then, told}
 use Rattle.alone.proofs.OwnStep as OwnStep
-use Rattle.alone.proofs.OwnStep.{ruled-met, told-done}
+use Rattle.alone.proofs.OwnStep.{ruled-met, epoch-form, told-done}
 
 -- a box without what an election overwrites
 abbrev rest : Box → Box
@@ -49,7 +49,9 @@ electedBox s c x = record { head = elected (x .head) s c; records = x .records }
 
 -- the box x by itself and the site's box z; s is what there is to know, c was elected last
 pub record Follows (s : Setting) (c : ℕ) (x : Alone) (z : Box) : Type 0 where
-  pub right : formBox (s .n) (s .j) (s .me) (x .row) ≡ true
+  -- by form, of what concerns it alone
+  pub right : (within 1 mostEpoch (x .epoch) ≡ true) × (setForm (s .n) (x .present) ≡ true)
+      × (formBox (s .n) (s .j) (s .me) (x .row) ≡ true)
   pub old : x .epoch ≤ s .epoch
   pub rests : rest (x .row) ≡ rest z
   pub told : even (s .epoch) ≡ true → x .epoch ≡ s .epoch
@@ -146,9 +148,12 @@ module _ (y : Yard) (box : ℕ → Box) (link : Links) (m : Mirror y box link) w
         boxes =
             upd-both (λ b x z. In b (y .n) → Follows (now y b) (y .leader) x z) (y .box) box c
             (λ h. record {
-              right =
-                  subst (λ (x : Box). formBox (y .n) (y .J) c x ≡ true) (upd-same box c (o .next))
-                  (box-form (joinedBy base c o) f c h);
+              right = let k = m .boxes c h .right in (
+                k .0,
+                k .1,
+                subst (λ (x : Box). formBox (y .n) (y .J) c x ≡ true) (upd-same box c (o .next))
+                    (box-form (joinedBy base c o) f c h),
+              );
               old = m .boxes c h .old;
               rests = refl;
               told = λ ev e. (m .boxes c h .told ev e .0, refl);
@@ -336,8 +341,12 @@ module _ (y : Yard) (box : ℕ → Box) (link : Links) (m : Mirror y box link) w
           boxes =
               upd-all (λ i x. In i (y .n) → Follows (now y i) (y .leader) x (box i)) (y .box) b
               (λ i. let same = h .1 ∙ m .boxes b i .due (h .0) (t .once) in record {
-                right = subst (λ (x : Box). formBox (y .n) (y .J) b x ≡ true) (sym same)
-                    (box-form s (m .form) b i);
+                right = (
+                  epoch-form s (m .form),
+                  form-says (m .form) .present,
+                  subst (λ (x : Box). formBox (y .n) (y .J) b x ≡ true) (sym same)
+                      (box-form s (m .form) b i),
+                );
                 old = omega arith;
                 rests = ap rest (h .1) ∙ m .boxes b i .rests;
                 told = λ e f. (refl, same);
@@ -361,7 +370,8 @@ module _ (n J L : ℕ) (sizes : sizesForm n J L ≡ true) where
     mirror = record {
       form = fresh-form n J L sizes;
       boxes = λ b h. record {
-        right = box-form (fresh n J L) (fresh-form n J L sizes) b h;
+        right = let f = fresh-form n J L sizes in
+            (refl, form-says f .present, box-form (fresh n J L) f b h);
         old = omega arith;
         rests = refl;
         told = λ ev. absurd (both-no ev refl);

@@ -152,7 +152,7 @@ own-form s f c box epoch counted e letter =
     let p = passed _ f in
     made (counted & p .1 .1 .0 & every-at (s .n) _ (p .1 .1 .1 .0) c box & letter & none)
 
-epoch-form : (s : Site) → form s ≡ true → within 1 mostEpoch (s .epoch) ≡ true
+pub epoch-form : (s : Site) → form s ≡ true → within 1 mostEpoch (s .epoch) ≡ true
 unfolding form
 epoch-form s f = passed _ f .1 .0
 
@@ -225,7 +225,7 @@ ruled-ap {B = B} g refuse (k ∷ ks) a = go (k .met) (ruled-ap g refuse ks a)
     go false rest = refl
 
 -- a need that is met
-skip {ℓ} : {A : Type ℓ} (refuse : Refusal → A) (k : Need) (ks : List Need) (a : A)
+pub skip {ℓ} : {A : Type ℓ} (refuse : Refusal → A) (k : Need) (ks : List Need) (a : A)
     → k .met ≡ true → ruled refuse (k ∷ ks) a ≡ ruled refuse ks a
 unfolding ruled
 skip refuse k ks a e = rw e refl

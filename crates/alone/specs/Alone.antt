@@ -18,7 +18,7 @@ use Rattle.rules.specs.declared.model.Setting.{Setting}
 use Rattle.laws.specs.Frames.{CallFits}
 use Rattle.safety.specs.Demand3.{In, Agreed, recordAt, start, Offered, AfterRun}
 use Rattle.alone.specs.Links.{linked, callOf}
-use Rattle.alone.specs.Yard.{Yard, withAlone, toldOf, Told, Tells, Happens, Lived, did}
+use Rattle.alone.specs.Yard.{Yard, asked, withAlone, toldOf, Told, Tells, Happens, Lived, did}
 use Rattle.alone.specs.Yard.{told}
 
 -- what box b knows after an election
@@ -78,14 +78,14 @@ pub record AloneKeeps : Type 0 where
       → step s (Call.Deliver a b)
       ≡ linked s (popped s a b) b (ownStep (setting s b) (s .box b) (mail a m))
   -- A box alone is started as a box of the fresh site, ..
-  pub fresh : (n J L : ℕ) (x : Box) → sizesForm n J L ≡ true
+  pub starts : (n J L : ℕ) (x : Box) → sizesForm n J L ≡ true
       → (b : ℕ) → ownFresh n J L x ≡ unmoved (start n J L .box b) Answer.Done
   -- .. is told of an election with the site's answer, and becomes the site's box, ..
-  pub elected : (s : Site) → form s ≡ true → even (s .epoch) ≡ false → (b c : ℕ) → In b (s .n)
+  pub is-told : (s : Site) → form s ≡ true → even (s .epoch) ≡ false → (b c : ℕ) → In b (s .n)
       → ownElected (elected-setting s b) (s .box b) c
       ≡ unmoved (step s (Call.Elect c) .next .box b) (step s (Call.Elect c) .answer)
   -- .. and is asked as the site is.
-  pub holds : (s : Site) → form s ≡ true → (c k left right : ℕ) → In c (s .n)
+  pub is-asked : (s : Site) → form s ≡ true → (c k left right : ℕ) → In c (s .n)
       → ownHolds (setting s c) (s .box c) k left right ≡ holds s c k left right
   -- "What such boxes do is a run of the site", ..
   pub stands : {n J L : ℕ} → sizesForm n J L ≡ true → {calls : List Call} {y : Yard}
@@ -111,6 +111,17 @@ pub record AloneKeeps : Type 0 where
       (further : List Call) → Lived n J L calls y → Lived n J L (further ++ calls) z
       → (b d k : ℕ) → In b n → In d n → Agreed (y .box b .row) k → Agreed (z .box d .row) k
       → recordAt (z .box d .row) k ≡ recordAt (y .box b .row) k
+  -- A box that is asked, at whatever time, answers as the site does in the run; ..
+  pub asked-alike : {n J L : ℕ} → sizesForm n J L ≡ true → {calls : List Call} {y : Yard}
+      → Lived n J L calls y → (b : ℕ) → In b n → (k left right : ℕ)
+      → asked y b k left right ≡ holds (run (start n J L) calls) b k left right
+  -- .. so any two answers of boxes by themselves that are true of one number name the same frames,
+  -- the second one at whatever time later.
+  pub one-pair : {n J L : ℕ} → sizesForm n J L ≡ true → {calls : List Call} {y z : Yard}
+      (further : List Call) → Lived n J L calls y → Lived n J L (further ++ calls) z
+      → (b d k left right left' right' : ℕ) → In b n → In d n
+      → asked y b k left right ≡ Answer.Done → asked z d k left' right' ≡ Answer.Done
+      → (left ≡ left') × (right ≡ right')
   -- Whatever a site does, boxes by themselves and a carrier that keeps its duties can do; ..
   pub lives : {n J L : ℕ} → sizesForm n J L ≡ true → (calls : List Call) → AllFit calls
       → Lives n J L (run (start n J L) calls)

@@ -11,7 +11,7 @@ use lib.ListN.{length}
 use Rattle.rules.specs.Sizes.{majorityOf, mostEpoch, even}
 use Rattle.rules.specs.Sets.{has, joined, without, fullSet}
 use Rattle.rules.specs.Box.{Box, Letter, Event, own, mail}
-use Rattle.rules.specs.Own.{OwnOutcome, ownStep, ownElected}
+use Rattle.rules.specs.Own.{OwnOutcome, ownStep, ownElected, ownHolds}
 use Rattle.rules.specs.Site.{freshBox, isLink, upd, twice}
 use Rattle.rules.specs.Step.{risen}
 use Rattle.rules.specs.declared.model.Act.{Act}
@@ -77,9 +77,16 @@ hears y b = ownElected (now y b) (y .box b .row) (y .leader)
 abbrev pub toldOf : Yard → ℕ → Alone
 toldOf y b = record { row = hears y b .next; epoch = y .epoch; present = y .present }
 
--- box c runs the event e
+-- what box c was told, the event e that it runs by itself, and what it answers where it is asked
+-- whether number k has these frames
+abbrev pub known : Yard → ℕ → Setting
+known y c = knowing y (y .box c .epoch) (y .box c .present) c
+
 abbrev pub ran : Yard → ℕ → Event → OwnOutcome
-ran y c e = ownStep (knowing y (y .box c .epoch) (y .box c .present) c) (y .box c .row) e
+ran y c e = ownStep (known y c) (y .box c .row) e
+
+abbrev pub asked : Yard → ℕ → ℕ → ℕ → ℕ → Answer
+asked y c k left right = ownHolds (known y c) (y .box c .row) k left right
 
 abbrev pub withLinks : Yard → Links → Yard
 withLinks y link = record {
