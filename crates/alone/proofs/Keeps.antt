@@ -25,7 +25,7 @@ use Rattle.safety.specs.Demand3.{now as offered, before as earlier}
 use Rattle.safety.proofs.Demand.{demand-3}
 use Rattle.safety.proofs.Example.{replayed, replayed-further, ranges, computed}
 use Rattle.alone.specs.Yard.{Yard, asked, Happens, Lived, did, told}
-use Rattle.alone.specs.Alone.{Stands, Taken, now, before, before-told, AllFit, AloneKeeps}
+use Rattle.alone.specs.Alone.{Stands, Taken, now, before, before-told, AllFit, Demand3Alone}
 use Rattle.alone.proofs.Lives.{lives}
 use Rattle.alone.proofs.OwnStep as OwnStep
 use Rattle.alone.proofs.OwnStep.{skip}
@@ -172,6 +172,15 @@ module _ (n J L : ℕ) (sizes : sizesForm n J L ≡ true) where
         (agreed-at m d hd k late)
         ∙ sym (record-at l b hb k)
 
+    one-pair : (b d k left right left' right' : ℕ) → In b n → In d n
+        → asked y b k left right ≡ Answer.Done → asked z d k left' right' ≡ Answer.Done
+        → (left ≡ left') × (right ≡ right')
+    one-pair b d k left right left' right' hb hd e f =
+        let p = says-true l b hb k left right e in
+        let q = says-true m d hd k left' right' f in
+        let same = over-time b d k hb hd (p .0) (q .0) in
+        (sym (p .1) ∙ ap leftOf (sym same) ∙ q .1, sym (p .2) ∙ ap rightOf (sym same) ∙ q .2)
+
 -- ---- the worked replay, lived by two boxes
 
 replay-fits : AllFit (reverse replayed-further)
@@ -228,32 +237,25 @@ not-empty =
         subst (λ (x : Box). Agreed x 1) (sym (same 2 16 8 two (k .lived) b h))
         (subst (λ (s : Site). Agreed (s .box b) 1) (sym (k .same)) a)
 
-one-pair : (n J L : ℕ) (sizes : sizesForm n J L ≡ true) {calls : List Call} {y z : Yard}
-    (further : List Call) → Lived n J L calls y → Lived n J L (further ++ calls) z
-    → (b d k left right left' right' : ℕ) → In b n → In d n
-    → asked y b k left right ≡ Answer.Done → asked z d k left' right' ≡ Answer.Done
-    → (left ≡ left') × (right ≡ right')
-one-pair n J L sizes further l m b d k left right left' right' hb hd e f =
-    let p = says-true n J L sizes l b hb k left right e in
-    let q = says-true n J L sizes m d hd k left' right' f in
-    let same = over-time n J L sizes further l m b d k hb hd (p .0) (q .0) in
-    (sym (p .1) ∙ ap leftOf (sym same) ∙ q .1, sym (p .2) ∙ ap rightOf (sym same) ∙ q .2)
-
-pub alone-keeps : AloneKeeps
-alone-keeps = record {
-  acts = OwnStep.acts;
-  delivers = OwnStep.delivers;
-  starts = OwnStep.starts;
-  is-told = OwnStep.elects;
-  is-asked = OwnStep.asks;
-  stands = λ e. stands _ _ _ e;
-  answers = λ e. same-answer _ _ _ e;
-  after-run = λ e. after-run _ _ _ e;
-  offers = λ e. offers _ _ _ e;
-  never-falls = λ e. never-falls _ _ _ e;
-  over-time = λ e. over-time _ _ _ e;
-  asked-alike = λ e. answers _ _ _ e;
-  one-pair = λ e. one-pair _ _ _ e;
-  lives = λ e. lives _ _ _ e;
+pub demand-3-alone : Demand3Alone
+demand-3-alone = record {
+  own-is-site = record {
+    acts = OwnStep.acts;
+    delivers = OwnStep.delivers;
+    starts = OwnStep.starts;
+    is-told = OwnStep.elects;
+    is-asked = OwnStep.asks;
+  };
+  keeps = λ n J L e. record {
+    stands = stands n J L e;
+    answers = same-answer n J L e;
+    after-run = after-run n J L e;
+    offers = offers n J L e;
+    never-falls = never-falls n J L e;
+    over-time = over-time n J L e;
+    asked-alike = answers n J L e;
+    one-pair = one-pair n J L e;
+    lives = lives n J L e;
+  };
   not-empty = not-empty;
 }

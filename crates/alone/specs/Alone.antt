@@ -69,7 +69,8 @@ pub record Lives (n J L : ℕ) (s : Site) : Type 0 where
   pub same : run (start n J L) calls ≡ s
   pub everyone : even (yard .epoch) ≡ true → (b : ℕ) → In b n → Told yard b
 
-pub record AloneKeeps : Type 0 where
+-- a box by itself and the site's box
+pub record OwnIsSite : Type 0 where
   -- "The site's Recover .. Finish and Deliver ARE the box's own step plus links."
   pub acts : (s : Site) → form s ≡ true → (c : ℕ) (a : Act) → In c (s .n)
       → step s (callOf c a) ≡ linked s s c (ownStep (setting s c) (s .box c) (own a))
@@ -87,44 +88,47 @@ pub record AloneKeeps : Type 0 where
   -- .. and is asked as the site is.
   pub is-asked : (s : Site) → form s ≡ true → (c k left right : ℕ) → In c (s .n)
       → ownHolds (setting s c) (s .box c) k left right ≡ holds s c k left right
+
+-- n boxes by themselves, for whatever they lived
+pub record AloneKeeps (n J L : ℕ) : Type 0 where
   -- "What such boxes do is a run of the site", ..
-  pub stands : {n J L : ℕ} → sizesForm n J L ≡ true → {calls : List Call} {y : Yard}
-      → Lived n J L calls y → Stands y (run (start n J L) calls)
+  pub stands : {calls : List Call} {y : Yard} → Lived n J L calls y
+      → Stands y (run (start n J L) calls)
   -- .. with the same answers, ..
-  pub answers : {n J L : ℕ} → sizesForm n J L ≡ true → {calls : List Call} {y z : Yard} {d : Call}
-      {a : Answer} → Lived n J L calls y → Happens y d a z
-      → step (run (start n J L) calls) d .answer ≡ a
+  pub answers : {calls : List Call} {y z : Yard} {d : Call} {a : Answer} → Lived n J L calls y
+      → Happens y d a z → step (run (start n J L) calls) d .answer ≡ a
   -- .. "so that demand 3 holds of their rows": agreement, no hole, origin, ..
-  pub after-run : {n J L : ℕ} → sizesForm n J L ≡ true → {calls : List Call} {y : Yard}
-      → Lived n J L calls y → AfterRun n (start n J L) calls (λ b. y .box b .row)
+  pub after-run : {calls : List Call} {y : Yard} → Lived n J L calls y
+      → AfterRun n (start n J L) calls (λ b. y .box b .row)
   -- .. where the Offer that a number comes from is one that a box by itself answered with Done;
-  pub offers : {n J L : ℕ} → sizesForm n J L ≡ true → {calls : List Call} {y : Yard}
-      (l : Lived n J L calls y) {j r : ℕ} → Offered (start n J L) calls j r → Taken calls y l j r
+  pub offers : {calls : List Call} {y : Yard} (l : Lived n J L calls y) {j r : ℕ}
+      → Offered (start n J L) calls j r → Taken calls y l j r
   -- neither first nor last ever falls, ..
-  pub never-falls : {n J L : ℕ} → sizesForm n J L ≡ true → {calls : List Call} {y z : Yard}
-      (further : List Call) → Lived n J L calls y → Lived n J L (further ++ calls) z
-      → (b : ℕ) → In b n
+  pub never-falls : {calls : List Call} {y z : Yard} (further : List Call) → Lived n J L calls y
+      → Lived n J L (further ++ calls) z → (b : ℕ) → In b n
       → (y .box b .row .head .kept .first ≤ z .box b .row .head .kept .first)
       × (y .box b .row .head .kept .last ≤ z .box b .row .head .kept .last)
   -- .. and what any box keeps as agreed later is what any box kept as agreed before.
-  pub over-time : {n J L : ℕ} → sizesForm n J L ≡ true → {calls : List Call} {y z : Yard}
-      (further : List Call) → Lived n J L calls y → Lived n J L (further ++ calls) z
-      → (b d k : ℕ) → In b n → In d n → Agreed (y .box b .row) k → Agreed (z .box d .row) k
+  pub over-time : {calls : List Call} {y z : Yard} (further : List Call) → Lived n J L calls y
+      → Lived n J L (further ++ calls) z → (b d k : ℕ) → In b n → In d n
+      → Agreed (y .box b .row) k → Agreed (z .box d .row) k
       → recordAt (z .box d .row) k ≡ recordAt (y .box b .row) k
   -- A box that is asked, at whatever time, answers as the site does in the run; ..
-  pub asked-alike : {n J L : ℕ} → sizesForm n J L ≡ true → {calls : List Call} {y : Yard}
-      → Lived n J L calls y → (b : ℕ) → In b n → (k left right : ℕ)
+  pub asked-alike : {calls : List Call} {y : Yard} → Lived n J L calls y → (b : ℕ) → In b n
+      → (k left right : ℕ)
       → asked y b k left right ≡ holds (run (start n J L) calls) b k left right
   -- .. so any two answers of boxes by themselves that are true of one number name the same frames,
   -- the second one at whatever time later.
-  pub one-pair : {n J L : ℕ} → sizesForm n J L ≡ true → {calls : List Call} {y z : Yard}
-      (further : List Call) → Lived n J L calls y → Lived n J L (further ++ calls) z
-      → (b d k left right left' right' : ℕ) → In b n → In d n
+  pub one-pair : {calls : List Call} {y z : Yard} (further : List Call) → Lived n J L calls y
+      → Lived n J L (further ++ calls) z → (b d k left right left' right' : ℕ) → In b n → In d n
       → asked y b k left right ≡ Answer.Done → asked z d k left' right' ≡ Answer.Done
       → (left ≡ left') × (right ≡ right')
-  -- Whatever a site does, boxes by themselves and a carrier that keeps its duties can do; ..
-  pub lives : {n J L : ℕ} → sizesForm n J L ≡ true → (calls : List Call) → AllFit calls
-      → Lives n J L (run (start n J L) calls)
-  -- .. so a load may be agreed at two boxes by themselves.
+  -- The duties can be kept: whatever a site does, boxes by themselves can do.
+  pub lives : (calls : List Call) → AllFit calls → Lives n J L (run (start n J L) calls)
+
+pub record Demand3Alone : Type 0 where
+  pub own-is-site : OwnIsSite
+  pub keeps : (n J L : ℕ) → sizesForm n J L ≡ true → AloneKeeps n J L
+  -- Not empty: a load is agreed at two boxes by themselves.
   pub not-empty : (calls : List Call) × (y : Yard) × Lived 2 16 8 calls y
       × Agreed (y .box 1 .row) 1 × Agreed (y .box 2 .row) 1
