@@ -151,7 +151,7 @@ without-head y a b = withLinks y (relinkedBy tail (y .link) a b)
 -- ---- the carrier's duties
 
 -- "one epoch and one present set for all": a box does something only in an even epoch, and when it
--- was told of it. (In an odd one it refuses everything: 3.)
+-- was told of it. ("All but Elect, Stop, Return and Lose need an even epoch.")
 pub record Told (y : Yard) (c : ℕ) : Type 0 where
   pub box : In c (y .n)
   pub even : even (y .epoch) ≡ true
