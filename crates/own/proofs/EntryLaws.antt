@@ -18,7 +18,7 @@ use Rattle.own.specs.declared.Judged.{Judged}
 use Rattle.own.specs.Entry.{rowOf, placeOf, ownBox, ownLetter, rowReads, placeReads}
 use Rattle.own.specs.Entry.{ownOn, Owned}
 use Rattle.own.specs.Lent.{Concludes, concluded, StillReads}
-use Rattle.own.proofs.OrderLaws.{Clear, found, refusal}
+use Rattle.own.proofs.OrderLaws.{Clear, found, own-found}
 use Rattle.own.proofs.FormLaws.{Asks, OwnRow, own-row, OwnPlace, own-place}
 use Rattle.own.proofs.TurnLaws.{concludes}
 use Rattle.own.proofs.OwnedLaws.{nothing-done, still-there}
@@ -35,7 +35,7 @@ pub refused : {s : Setting} {r p out : List ℕ} {mailed : Bool} {e : Event} {re
     → Owned s (ownOn s (ownBox s r) reads e out) r out r out a to × StillReads s r r out to
 refused {s} {r} {out = out} {why = why} asks h answered =
     rw (answered .0, answered .1)
-    (nothing-done s r out _ (Answer.Refused why) (refusal asks h out), still-there s r out)
+    (nothing-done s r out _ (Answer.Refused why) (own-found asks h out), still-there s r out)
 
 -- None is found.
 module _ {s : Setting} {r p : List ℕ} {mailed : Bool} {e : Event} {reads : Bool}

@@ -83,7 +83,9 @@ module _ (s : Setting) (r : List ℕ) where
   pub mail-asks : (p : List ℕ) (sender : ℕ)
       → Asks s r p true (mail sender (ownLetter s p)) (rowReads (s .j) r && placeReads (s .j) p)
   mail-asks p sender =
-      record { form = asked (mail sender (ownLetter s p)) (rowReads (s .j) r) (placeReads (s .j) p) }
+      record {
+        form = asked (mail sender (ownLetter s p)) (rowReads (s .j) r) (placeReads (s .j) p);
+      }
 
 -- ---- what they say
 

@@ -6,15 +6,18 @@ use Prim.Native.Nat.{ℕ}
 use Rattle.rules.specs.Sizes.{mostEpoch, within, sizesForm}
 use Rattle.rules.specs.Sets.{setForm}
 use Rattle.rules.specs.Needs.{Need, ruled}
-use Rattle.rules.specs.Box.{Box, Event, turnOf, brought}
+use Rattle.rules.specs.Box.{Box, Event, own, turnOf, brought}
+use Rattle.rules.specs.Site.{isBox}
 use Rattle.rules.specs.Own.{unmoved, ownTurn, formOwn, rightNumbers, ownStep}
-use Rattle.laws.proofs.Types.{Answer, Refusal, Setting}
+use Rattle.rules.specs.Unheard.{unheardBy, ownUnheard}
+use Rattle.rules.specs.declared.model.Unheard.{Unheard}
+use Rattle.laws.proofs.Types.{Act, Answer, Refusal, Setting}
 use Rattle.laws.proofs.Logic.{Passed, true≠false, and4}
 use Rattle.laws.proofs.StepLaws.{mets, by-needs}
 use Rattle.own.specs.declared.Judged.{Judged}
-use Rattle.own.specs.Entry.{ownBox, ownOn, buffered}
+use Rattle.own.specs.Entry.{ownBox, rowReads, ownOn, unheardOn, buffered}
 use Rattle.own.specs.Lent.{rowTest, placeTest, inOrder, judged}
-use Rattle.own.proofs.FormLaws.{Asks}
+use Rattle.own.proofs.FormLaws.{Asks, act-asks}
 
 -- what comes of it: a refusal, or a
 abbrev pub by {ℓ} : {A : Type ℓ} → (Refusal → A) → A → Judged → A
@@ -64,19 +67,15 @@ module _ {s : Setting} {r p : List ℕ} {mailed : Bool} {e : Event} {reads : Boo
   abbrev pub found : Judged
   found = judged s r p mailed (rightNumbers s e)
 
-  own-found : (out : List ℕ) → ownOn s x reads e out
+  pub own-found : {v : Judged} → found ≡ v → (out : List ℕ) → ownOn s x reads e out
       ≡ by (λ why. unmoved x (Answer.Refused why))
       (buffered s x out (ownTurn (turnOf s x e .answer) x (turnOf s x e) (brought e)))
-      found
+      v
   unfolding judged ownOn buffered ownStep
-  own-found out =
-      rw (asks .form)
+  own-found h out =
+      rw (← h, asks .form)
       (first-found (buffered s x out) (λ why. unmoved x (Answer.Refused why)) _
       (sizesForm (s .n) (s .j) (s .l)) reads (formOwn s x e) (rightNumbers s e))
-
-  pub refusal : {why : Refusal} → found ≡ Judged.Refused why → (out : List ℕ)
-      → ownOn s x reads e out ≡ unmoved x (Answer.Refused why)
-  refusal h out = rw h at (own-found out)
 
   pub clear : found ≡ Judged.Passed → Clear s r p mailed e reads
   unfolding judged
@@ -89,5 +88,16 @@ module _ {s : Setting} {r p : List ℕ} {mailed : Bool} {e : Event} {reads : Boo
         row = f .2;
         letter = f .3;
         numbers = t .1 .1 .0;
-        next = λ out. rw h at (own-found out);
+        next = own-found h;
       }
+
+-- Which present boxes have not answered its lease, after the same.
+pub unheard-found : (s : Setting) (r p : List ℕ) {v : Judged}
+    → found (act-asks s r p Act.Heard) ≡ v
+    → by Unheard.Refused (unheardBy (ownBox s r .head) s) v ≡ unheardOn s r
+unfolding judged unheardOn ownUnheard
+unheard-found s r p h =
+    rw (← h, act-asks s r p Act.Heard .form)
+    (sym (first-found (λ u. u) Unheard.Refused (unheardBy (ownBox s r .head) s)
+    (sizesForm (s .n) (s .j) (s .l)) (rowReads (s .j) r) (formOwn s (ownBox s r) (own Act.Heard))
+    (isBox (s .n) (s .me))))

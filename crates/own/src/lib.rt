@@ -7,7 +7,7 @@ ghost use lib.ListN.{length, take};
 ghost use Rattle.rules.specs.Sizes.{sizesForm};
 ghost use Rattle.rules.specs.Answers.{isAccepted};
 ghost use Rattle.letter.specs.Place.{headWords};
-ghost use Rattle.own.specs.Entry.{actOn, mailOn, Owned};
+ghost use Rattle.own.specs.Entry.{actOn, mailOn, unheardOn, Owned};
 ghost use Rattle.own.specs.Lent.{
   rowTest,
   placeTest,
@@ -29,6 +29,7 @@ use rules::model::Out;
 use rules::model::Refusal;
 use rules::model::Setting;
 use rules::model::Turn;
+use rules::model::Unheard;
 use rules::ranges;
 
 // The answer, and the set of boxes that the letter goes to; the set is empty where there is none.
@@ -38,7 +39,7 @@ pub struct Sent {
 }
 
 // What comes before a turn: a refusal, or nothing.
-pub enum Judged {
+enum Judged {
     Passed,
     Refused(Refusal),
 }
@@ -205,6 +206,21 @@ pub fn act(row: &mut [u64], out: &mut [u64], s: Setting, a: Act) -> Sent
         Judged::Passed => {
             let t = row::act_turn(used(row, row::HEAD, s.j), s, a);
             conclude(row, &nothing, out, s, t)
+        }
+    }
+}
+
+// Which present boxes have not answered its lease.
+pub fn unheard(row: &[u64], s: Setting) -> Unheard
+    ensures { λ r. ⌜ r ≡ unheardOn s (now (row .entry)) ⌝ }
+{
+    let nothing = [0; letter::HEAD];
+    let came = judge(row, &nothing, s, false, ranges::is_box(s.n, s.me));
+    match came {
+        Judged::Refused(why) => Unheard::Refused(why),
+        Judged::Passed => {
+            let head = row::load(used(row, row::HEAD, s.j), s.n);
+            head.unheard(s)
         }
     }
 }

@@ -36,9 +36,11 @@ mail-turn-requires c κs =
 turn : (c : tie.After-mail-turn) →
     let a = start (c .before .before .before .before .before .before) .args in
     c .mail-turn .result
-    ≡ turnOf (a .s) (ownBox (a .s) (a .row .now)) (mail (a .sender) (ownLetter (a .s) (a .letter .now)))
+    ≡ turnOf (a .s) (ownBox (a .s) (a .row .now))
+    (mail (a .sender) (ownLetter (a .s) (a .letter .now)))
 turn c =
-    rw (c .before .used2 .ensures, c .before .before .before .used .ensures) at (c .mail-turn .ensures)
+    rw (c .before .used2 .ensures, c .before .before .before .used .ensures)
+    at (c .mail-turn .ensures)
 
 conclude-requires : tie.Need-conclude-requires
 conclude-requires c κs =
