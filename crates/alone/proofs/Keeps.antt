@@ -29,7 +29,7 @@ use Rattle.alone.specs.Alone.{Stands, Taken, now, before, before-told, A
 use Rattle.alone.proofs.Lives.{lives}
 use Rattle.alone.proofs.OwnStep as OwnStep
 use Rattle.alone.proofs.OwnStep.{skip}
-use Rattle.alone.proofs.Mirror.{Mirrored, lived, same-answer}
+use Rattle.alone.proofs.Mirror.{Mirrored, lived, same-answer, same-n}
 
 stood : {y : Yard} {s : Site} → Mirrored y s → Stands y s
 stood {y} r = subst (Stands y) (sym (r .same)) (record {
@@ -59,10 +59,6 @@ module _ (n J L : ℕ) (sizes : sizesForm n J L ≡ true) where
   stands l = stood (lived n J L sizes l)
 
   module _ {calls : List Call} {y : Yard} (l : Lived n J L calls y) where
-    same-n : y .n ≡ n
-    unfolding fresh
-    same-n = sym (stands l .sizes .0) ∙ sizes-run (start n J L) calls .n
-
     -- a row without what demand 3 does not speak of, and the run's box likewise
     abbrev filed : Box → Box
     filed x = record { head = withKept (x .head .kept) freshHead; records = x .records }
@@ -70,7 +66,7 @@ module _ (n J L : ℕ) (sizes : sizesForm n J L ≡ true) where
     module _ (b : ℕ) (h : In b n) where
       same : filed (y .box b .row) ≡ filed (end calls .box b)
       same =
-          let i : In b (y .n) = subst (In b) (sym same-n) h in
+          let i : In b (y .n) = subst (In b) (sym (same-n n J L sizes l)) h in
           ap₂ (λ (k : Kept) (rs : List ℕ). record { head = withKept k freshHead; records = rs })
           (stands l .kept b i) (stands l .records b i)
 
@@ -89,7 +85,7 @@ module _ (n J L : ℕ) (sizes : sizesForm n J L ≡ true) where
       unfolding ownHolds formOwn
       row-says =
           let r = lived n J L sizes l in
-          let i : In b (y .n) = subst (In b) (sym same-n) h in
+          let i : In b (y .n) = subst (In b) (sym (same-n n J L sizes l)) h in
           let q = r .mirror .boxes b i .right in
           skip _ _ _ _ (sizes-made (form-says (r .mirror .form) .sizes))
           ∙ skip _ _ _ _ (made (q .0 & q .1 & q .2 & refl & none))

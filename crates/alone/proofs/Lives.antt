@@ -24,7 +24,7 @@ use Rattle.laws.proofs.Logic.{passed, made, none, _&_}
 use Rattle.laws.proofs.Counts.{in-down}
 use Rattle.laws.proofs.FormLaws.{is-box, box-is, is-link}
 use Rattle.laws.proofs.FrameLaws.{upd-same, upd-other, upd-all}
-use Rattle.laws.proofs.StepLaws.{mets, by-ruled, sizes-run}
+use Rattle.laws.proofs.StepLaws.{mets, by-ruled}
 use Rattle.alone.specs.Links.{Links, after, callOf}
 use Rattle.alone.specs.Yard.{Alone, Yard, begun, toldOf, withLinks, withAlone}
 use Rattle.alone.specs.Yard.{withEpoch, stored, answered, carried, Told, Head, Counted}
@@ -32,7 +32,7 @@ use Rattle.alone.specs.Yard.{Tells, acts, hands, loses, repeats, stops, 
 use Rattle.alone.specs.Yard.{ran, relinkedBy, times-out, elects, Lived, began, did, told}
 use Rattle.alone.specs.Alone.{AllFit, Lives}
 use Rattle.alone.proofs.OwnStep.{ruled-met, is-acting}
-use Rattle.alone.proofs.Mirror.{Mirror, Mirrored, siteAs, odd-risen, lived}
+use Rattle.alone.proofs.Mirror.{Mirror, Mirrored, siteAs, odd-risen, lived, same-n}
 use Rattle.alone.proofs.Odd.{no-act, no-letter}
 
 -- all needs are met, or the site is left
@@ -55,11 +55,6 @@ Everyone y = even (y .epoch) ≡ true → (b : ℕ) → In b (y .n) → y .box b
 module _ (n J L : ℕ) (sizes : sizesForm n J L ≡ true) where
   abbrev end : List Call → Site
   end calls = run (fresh n J L) calls
-
-  same-n : {calls : List Call} {y : Yard} → Lived n J L calls y → y .n ≡ n
-  unfolding fresh
-  same-n {calls} l =
-      ap (λ (s : Site). s .n) (sym (lived n J L sizes l .same)) ∙ sizes-run (fresh n J L) calls .n
 
   -- ---- all are told
 
@@ -162,7 +157,7 @@ module _ (n J L : ℕ) (sizes : sizesForm n J L ≡ true) where
     every : {cs : List Call} {z : Yard} → Lived n J L cs z → Everyone z
         → even (z .epoch) ≡ true → (b : ℕ) → In b n → Told z b
     every {z = z} k h e b i =
-        let j : In b (z .n) = subst (In b) (sym (same-n k)) i in
+        let j : In b (z .n) = subst (In b) (sym (same-n n J L sizes k)) i in
         record { box = j; even = e; told = h e b j }
 
     stays : (d : Call) → step s d .next ≡ s → Next d
@@ -290,7 +285,7 @@ module _ (n J L : ℕ) (sizes : sizesForm n J L ≡ true) where
           here = here;
           majority = major;
         }) n
-        in grows (t .lived) (λ e b j. t .upto b (subst (In b) (same-n (t .lived)) j) j)
+        in grows (t .lived) (λ e b j. t .upto b (subst (In b) (same-n n J L sizes (t .lived)) j) j)
 
     next : (d : Call) → CallFits d → Next d
     unfolding step
@@ -344,5 +339,6 @@ module _ (n J L : ℕ) (sizes : sizesForm n J L ≡ true) where
   lives (d ∷ ds) fits =
       let k = lives ds (fits .1) in
       subst (λ (t : Site). Lives n J L (step t d .next)) (k .same)
-      (next (k .lived) (λ e b i. k .everyone e b (subst (In b) (same-n (k .lived)) i) .told) d
-      (fits .0))
+      (next (k .lived)
+      (λ e b i. k .everyone e b (subst (In b) (same-n n J L sizes (k .lived)) i) .told)
+      d (fits .0))

@@ -22,6 +22,7 @@ use Rattle.laws.proofs.Types.{Act, Answer, Call, Phase, Setting, State}
 use Rattle.laws.proofs.Logic.{In, both-no, eqb-yes, cond-elim, passed, every-at}
 use Rattle.laws.proofs.FormLaws.{box-is, form-says}
 use Rattle.laws.proofs.FrameLaws.{upd-same, upd-all}
+use Rattle.laws.proofs.StepLaws.{sizes-run}
 use Rattle.laws.proofs.FormKept.{step-keeps-form, fresh-form}
 use Rattle.alone.specs.Links.{Links, sent, after, joinedBy, linked, callOf}
 use Rattle.alone.specs.Yard.{Alone, Yard, begun, now, ran, withLinks}
@@ -394,3 +395,8 @@ module _ (n J L : ℕ) (sizes : sizesForm n J L ≡ true) where
   same-answer {y = y} {d = d} l h =
       let r = lived l in
       ap (λ (s : Site). step s d .answer) (r .same) ∙ goes y (r .box) (r .link) (r .mirror) h .0
+
+  pub same-n : {calls : List Call} {y : Yard} → Lived n J L calls y → y .n ≡ n
+  unfolding fresh
+  same-n {calls} l =
+      ap (λ (s : Site). s .n) (sym (lived l .same)) ∙ sizes-run (fresh n J L) calls .n

@@ -1,4 +1,5 @@
--- The site's Recover .. Finish and Deliver are the box's own step plus links.
+-- The site's Recover .. Finish and Deliver are the box's own step plus links; and a box is started,
+-- told of an election and asked as the site is.
 use Prim.Native.Nat.{ℕ, _+_, _%_}
 use mathlib.Core.Path.{_≡_, refl, sym, ap, ap₂, _∙_, fun-ext}
 use mathlib.Core.Bool.{Bool, true, false, not, _&&_, _||_, cond}
@@ -57,16 +58,9 @@ sent-posted link c (Out.To set m) rs a b =
     pick-elim (λ (ys : List Letter). posted link c (Out.To set m) rs a b
     ≡ cond (eqb a c && has set b) (link a b ++ ys) (link a b))
     (eqb set 0)
-    (λ e. nobody (eqb-yes set 0 e))
+    (λ e. rw (eqb-yes set 0 e) (sym (none-to link c (letterOf m rs ∷ []) a b) ∙ none-to link c []
+    a b))
     (λ e. refl)
-  where
-    nobody : set ≡ 0 → cond (eqb a c && has set b) (link a b ++ (letterOf m rs ∷ [])) (link a b)
-        ≡ cond (eqb a c && has set b) (link a b ++ []) (link a b)
-    nobody e =
-        cond-elim (λ (t : List Letter). t ≡ cond (eqb a c && has set b) (link a b ++ []) (link a b))
-        (eqb a c && has set b)
-        (λ h. absurd (both-no (and-yes (eqb a c) (has set b) h .1) (rw e (has-zero b))))
-        (λ h. rw h refl)
 
 room-sent : (s : Site) (c : ℕ) (out : Out)
     → room s c out

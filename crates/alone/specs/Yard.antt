@@ -55,7 +55,7 @@ begun n J L = record {
 
 -- ---- what changes
 
--- what box c knows where it was told an epoch and a present set
+-- what box c knows where it was told an epoch and a present set; all have the same sizes
 abbrev pub knowing : Yard → ℕ → ℕ → ℕ → Setting
 knowing y epoch present c = record {
   n = y .n;
@@ -128,7 +128,8 @@ withEpoch y e w c = record {
   link = y .link;
 }
 
--- "a row stored before its letter leaves": where a letter of o is under way, the row is stored
+-- "a row stored before its letter leaves": a letter of o is under way, in the box or on the link,
+-- only where the row is stored
 abbrev pub stored : Yard → ℕ → OwnOutcome → Yard
 stored y c o = withLinks (withAlone y c (withRow (y .box c) (o .next))) (sent (y .link) c o)
 
@@ -157,7 +158,8 @@ pub record Told (y : Yard) (c : ℕ) : Type 0 where
   pub told : y .box c .epoch ≡ y .epoch
 
 -- "mail of a link in order", "not lost letters turned into others": what is handed over, lost or
--- repeated is the letter m at the head of the link from a to b
+-- repeated is the letter m at the head of the link from a to b. A letter that is lost behind others
+-- counts as under way until they are gone.
 pub record Head (y : Yard) (a b : ℕ) (m : Letter) : Type 0 where
   pub link : isLink (y .n) a b ≡ true
   pub behind : List Letter
