@@ -1,5 +1,5 @@
 -- 3 or 4 is found, or the row holds the box of the elected.
-use mathlib.Core.Path.{_≡_, sym, _∙_}
+use mathlib.Core.Path.{sym, _∙_}
 use native.Mathlib.Nat.{sub-zero}
 use borrow.Author.Needs.{needs}
 use Rattle.own.proofs.ToldLaws.{not-elected, was-elected}
