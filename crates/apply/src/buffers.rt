@@ -17,8 +17,14 @@ const OUT: usize = 2 * IMAGE + 38;
 
 const LINKS: usize = 65536;
 
-// The longest image of any site and a byte more, which a longer one fills; and all its words.
-const LONGEST: usize = 10657940;
+// The boxes and the links of the longest image of any site.
+const FULL_BOXES: usize = 5 * (4 * row::BEST + 28 + 4 * 5 + 8 * 4096);
+
+const FULL_LINKS: usize = 5 * 4 * (4 + 16 * (24 + 8 * 4096));
+
+// All of it, its table of 60 bytes in front; a byte more, which a longer one fills; and all its
+// words.
+const LONGEST: usize = 60 + image::GENERAL_BYTES + FULL_BOXES + FULL_LINKS;
 
 const LONGER: usize = LONGEST + 1;
 

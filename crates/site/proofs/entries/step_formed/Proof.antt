@@ -187,5 +187,5 @@ step-formed-spec =
     (λ c. search needs) returns-9 (λ c. search needs) (λ c. search needs) returns-10
     (λ c. search needs) (λ c. search needs) returns-11 (λ c. search needs) (λ c. search needs)
     returns-12 (λ c. search needs) (λ c. search needs) returns-13 (λ c. search needs)
-    (λ c. search needs) returns-14 (λ c. search needs) (λ c. search needs) returns-15 (λ c. search needs)
-    (λ c. search needs) returns-16)
+    (λ c. search needs) returns-14 (λ c. search needs) (λ c. search needs) returns-15
+    (λ c. search needs) (λ c. search needs) returns-16)

@@ -9,7 +9,8 @@ use Rattle.site.proofs.entries.unheard.Tie as tie
 returns : tie.Need-returns
 returns c =
     c .unheard-formed .ensures
-    ∙ sym (asked-formed _ _ _ (yes (c .before .before .is-by-form .ensures) (c .before .if1 .taken)))
+    ∙ sym
+    (asked-formed _ _ _ (yes (c .before .before .is-by-form .ensures) (c .before .if1 .taken)))
 
 pub unheard-spec : {M : Type 1} → statement M
 unheard-spec =
