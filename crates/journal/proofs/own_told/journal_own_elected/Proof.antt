@@ -5,12 +5,10 @@ use Rattle.journal.proofs.own_told.journal_own_elected.Statement.{state
 use Rattle.journal.proofs.own_told.journal_own_elected.Tie as tie
 
 returns : tie.Need-returns
-returns c =
-    told-alone (c .before .before .before .before .before .elected .ensures)
-    (c .answer-number .ensures)
+returns c = told-alone (c .before .before .before .elected .ensures) (c .answer-number .ensures)
 
 pub journal-own-elected-spec : {M : Type 1} → statement M
 journal-own-elected-spec =
     tie.close
     (tie.spec
-    (λ c κs. search needs) (λ c κs. search needs) (λ c. search needs) (λ c. search needs) returns)
+    (λ c κs. search needs) (λ c κs. search needs) (λ c. search needs) returns)
