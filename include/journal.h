@@ -149,10 +149,8 @@ uint32_t journal_unheard(const uint64_t *site, size_t site_words, const uint64_t
  * letter in `out` is for, or 0, and then `out` is as it was; where the mail is discarded *to is 0;
  * where the call is refused *to stays too.
  *
- * A fresh box is a row of 0, but 1 in its word 5 (the first load that it keeps) and 4,294,967,295
- * in its words 16 to 20 (the peers' lasts are unknown). An election, who is present and the links
- * are the caller's part: when box c is elected, in every row word 0 becomes 1 at c and 0 elsewhere,
- * words 1, 2, 14 and 15 become 0 (word 1 becomes 1 where exactly one box is present).
+ * A box begins with journal_own_fresh. Who is present, the links and the elections are the caller's
+ * part: when box c is elected, each box is told of it by journal_own_elected.
  *
  * Answers 0, 13, 1, 2, 10, 3, 6, 7, 12; mail 100 to 104, 13, 1, 2, 3, 6, 7, 12. */
 uint32_t journal_own_recover(uint64_t *row, size_t row_words, uint64_t *out, size_t out_words,
@@ -186,6 +184,20 @@ uint32_t journal_own_mail(uint64_t *row, size_t row_words, const uint64_t *lette
                           size_t letter_words, uint64_t *out, size_t out_words, uint32_t *to,
                           uint32_t n, uint32_t j, uint32_t l, uint32_t epoch, uint32_t present,
                           uint32_t me, uint32_t sender);
+
+/* The row becomes a fresh box, whatever its words were. Answers 0, 13, 12 (it is too short). */
+uint32_t journal_own_fresh(uint64_t *row, size_t row_words, uint32_t n, uint32_t j, uint32_t l);
+
+/* Box c is elected: the row becomes what the election makes of the box. epoch and present are those
+ * that there are after it, so the epoch is even. Answers 0, 13, 1, 2, 3 (the epoch is odd, or c is
+ * not present), 4. */
+uint32_t journal_own_elected(uint64_t *row, size_t row_words, uint32_t n, uint32_t j, uint32_t l,
+                             uint32_t epoch, uint32_t present, uint32_t me, uint32_t c);
+
+/* Is load k agreed at the box with these frames? As journal_holds. Answers 0, 13, 1, 2, 14. */
+uint32_t journal_own_holds(const uint64_t *row, size_t row_words, uint32_t n, uint32_t j,
+                           uint32_t l, uint32_t epoch, uint32_t present, uint32_t me, uint32_t k,
+                           uint32_t left, uint32_t right);
 
 /* Which boxes are silent, of a leader by itself: as journal_unheard. Answers 0, 13, 1, 2, 3. */
 uint32_t journal_own_unheard(const uint64_t *row, size_t row_words, uint32_t *set, uint32_t n,

@@ -322,6 +322,31 @@ mod c {
             me: u32,
             sender: u32,
         ) -> u32;
+        pub fn journal_own_fresh(row: *mut u64, rn: usize, n: u32, j: u32, l: u32) -> u32;
+        pub fn journal_own_elected(
+            row: *mut u64,
+            rn: usize,
+            n: u32,
+            j: u32,
+            l: u32,
+            epoch: u32,
+            present: u32,
+            me: u32,
+            c: u32,
+        ) -> u32;
+        pub fn journal_own_holds(
+            row: *const u64,
+            rn: usize,
+            n: u32,
+            j: u32,
+            l: u32,
+            epoch: u32,
+            present: u32,
+            me: u32,
+            k: u32,
+            left: u32,
+            right: u32,
+        ) -> u32;
         pub fn journal_own_unheard(
             row: *const u64,
             rn: usize,
@@ -639,6 +664,65 @@ pub fn own_mail(
         )
     })?;
     Ok((mail, set))
+}
+
+/// A box by itself: the row becomes a fresh box, whatever its words were.
+pub fn own_fresh(row: &mut [u64], sizes: Sizes) -> Result<(), Refusal> {
+    let Sizes {
+        boxes: n,
+        loads: j,
+        mails: l,
+    } = sizes;
+    // SAFETY: a slice with its own length.
+    done(unsafe { c::journal_own_fresh(row.as_mut_ptr(), row.len(), n, j, l) })
+}
+
+/// A box by itself: box c is elected; `s` is what there is to know after it.
+pub fn own_elected(row: &mut [u64], s: Setting, c: u32) -> Result<(), Refusal> {
+    let Setting {
+        sizes: Sizes {
+            boxes: n,
+            loads: j,
+            mails: l,
+        },
+        epoch,
+        present,
+        me,
+    } = s;
+    // SAFETY: a slice with its own length.
+    done(unsafe {
+        c::journal_own_elected(row.as_mut_ptr(), row.len(), n, j, l, epoch, present, me, c)
+    })
+}
+
+/// A box by itself: whether load k is agreed with these frames, as `Site::holds`.
+pub fn own_holds(row: &[u64], s: Setting, k: u32, left: u32, right: u32) -> Result<(), Refusal> {
+    let Setting {
+        sizes: Sizes {
+            boxes: n,
+            loads: j,
+            mails: l,
+        },
+        epoch,
+        present,
+        me,
+    } = s;
+    // SAFETY: a slice with its own length, that is only read.
+    done(unsafe {
+        c::journal_own_holds(
+            row.as_ptr(),
+            row.len(),
+            n,
+            j,
+            l,
+            epoch,
+            present,
+            me,
+            k,
+            left,
+            right,
+        )
+    })
 }
 
 /// A box by itself: the present boxes that have not answered its lease, as `Site::unheard`.

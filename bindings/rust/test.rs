@@ -104,23 +104,31 @@ fn main() {
     assert_eq!(s.write(&mut again), Ok(length));
     assert_eq!(again, image[..length]);
 
-    let mut row = [0u64; 26];
-    row[5] = 1;
-    row[16..21].fill(4294967295);
-    row[0] = 1;
-    let mut peer = row;
-    peer[0] = 0;
+    let (mut row, mut peer) = ([7u64; 26], [9u64; 26]);
     let (mut letter, mut out) = ([0u64; 10], [0u64; 10]);
+    let sizes = Sizes {
+        boxes: 2,
+        loads: 4,
+        mails: 2,
+    };
     let own = Setting {
-        sizes: Sizes {
-            boxes: 2,
-            loads: 4,
-            mails: 2,
-        },
+        sizes,
         epoch: 2,
         present: 3,
         me: 1,
     };
+    let other = Setting { me: 2, ..own };
+    assert_eq!(own_fresh(&mut row[1..], sizes), Err(Refusal::Buffer));
+    assert_eq!(own_elected(&mut row, own, 1), Err(Refusal::Form));
+    assert_eq!(own_fresh(&mut row, sizes), Ok(()));
+    assert_eq!(own_fresh(&mut peer, sizes), Ok(()));
+    assert_eq!(
+        own_elected(&mut row, Setting { epoch: 1, ..own }, 1),
+        Err(Refusal::Condition)
+    );
+    assert_eq!(own_elected(&mut row, own, 1), Ok(()));
+    assert_eq!(own_elected(&mut peer, other, 1), Ok(()));
+    assert_eq!((row[0], peer[0]), (1, 0));
     assert_eq!(
         own_act(&mut row, &mut out, Setting { me: 3, ..own }, Act::Recover),
         Err(Refusal::Box)
@@ -132,7 +140,6 @@ fn main() {
     );
     assert_eq!(own_act(&mut row, &mut out, own, Act::Collect), Ok(2));
     letter.copy_from_slice(&out);
-    let other = Setting { me: 2, ..own };
     assert_eq!(
         own_mail(&mut peer, &letter, &mut out, other, 1),
         Ok((Mail::Taken, 1))
@@ -173,7 +180,9 @@ fn main() {
         own_mail(&mut row, &letter, &mut out, own, 2),
         Ok((Mail::Taken, 0))
     );
+    assert_eq!(own_holds(&row, own, 1, 7, 8), Err(Refusal::Untrue));
     assert_eq!(own_act(&mut row, &mut out, own, Act::Agree), Ok(2));
+    assert_eq!(own_holds(&row, own, 1, 7, 8), Ok(()));
     assert_eq!(own_act(&mut row, &mut out, own, Act::Finish), Ok(2));
     assert_eq!(
         own_act(&mut row, &mut out, own, Act::Finish),

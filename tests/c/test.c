@@ -684,6 +684,86 @@ static void own_boxes(void) {
     release(row), release(letter), release(out);
 }
 
+/* A box by itself is started, told of an election, and asked. A refused call leaves every word, and
+ * the others the words past the row's. */
+static void told_boxes(void) {
+    enum { J = 4, EVEN = 2, ODD = 3, ALL = 7 };
+#define LENT row.words, row.lent
+#define TELL(want, past, call)                                                                     \
+    do {                                                                                           \
+        keep(row);                                                                                 \
+        check(__LINE__, #call, call, want);                                                        \
+        check(__LINE__, "row stays", stays(row, want == JOURNAL_DONE ? past : 0), 1);              \
+    } while (0)
+#define FRESH(want, n, j, l) TELL(want, 22, journal_own_fresh(LENT, n, j, l))
+#define ELECTED(want, epoch, present, me, c)                                                       \
+    TELL(want, 16, journal_own_elected(LENT, 3, J, 2, epoch, present, me, c))
+#define HELD(want, epoch, me, k, left, right)                                                      \
+    TELL(want, 0, journal_own_holds(LENT, 3, J, 2, epoch, ALL, me, k, left, right))
+    row = lend(JOURNAL_ROW_WORDS(J));
+    for (size_t i = 0; i < row.size; i++) row.words[i] = 70 + i;
+    ELECTED(JOURNAL_FORM, EVEN, ALL, 1, 1);
+    HELD(JOURNAL_FORM, EVEN, 1, 1, 7, 8);
+    FRESH(JOURNAL_SIZES, 0, J, 2);
+    FRESH(JOURNAL_SIZES, 6, J, 2);
+    FRESH(JOURNAL_SIZES, 3, 0, 2);
+    FRESH(JOURNAL_SIZES, 3, 4097, 2);
+    FRESH(JOURNAL_SIZES, 3, J, 0);
+    FRESH(JOURNAL_SIZES, 3, J, 17);
+    FRESH(JOURNAL_BUFFER, 3, J + 1, 2);
+    row.lent--;
+    FRESH(JOURNAL_SIZES, 6, J, 2);
+    FRESH(JOURNAL_BUFFER, 3, J, 2);
+    row.lent = 0;
+    FRESH(JOURNAL_BUFFER, 3, J, 2);
+    row.lent = row.size;
+    FRESH(JOURNAL_DONE, 3, J, 2);
+    for (size_t i = 0; i < 22; i++)
+        WORD(row, i, 16 <= i && i <= 20 ? UINT32_MAX : i == 5);
+    TELL(JOURNAL_SIZES, 0, journal_own_elected(LENT, 6, J, 2, EVEN, ALL, 1, 1));
+    TELL(JOURNAL_SIZES, 0, journal_own_holds(LENT, 3, J, 17, EVEN, ALL, 1, 1, 7, 8));
+    ELECTED(JOURNAL_FORM, 0, ALL, 1, 1);
+    ELECTED(JOURNAL_FORM, 1000001, ALL, 1, 1);
+    ELECTED(JOURNAL_FORM, EVEN, 8, 1, 1);
+    row.lent--;
+    ELECTED(JOURNAL_FORM, EVEN, ALL, 1, 1);
+    HELD(JOURNAL_FORM, EVEN, 1, 1, 7, 8);
+    row.lent = row.size;
+    ELECTED(JOURNAL_BOX, EVEN, ALL, 0, 1);
+    ELECTED(JOURNAL_BOX, EVEN, ALL, 4, 1);
+    ELECTED(JOURNAL_BOX, EVEN, ALL, 1, 0);
+    ELECTED(JOURNAL_BOX, ODD, ALL, 1, 4);
+    ELECTED(JOURNAL_CONDITION, ODD, ALL, 1, 1);
+    ELECTED(JOURNAL_CONDITION, EVEN, 3, 1, 3);
+    ELECTED(JOURNAL_CONDITION, EVEN, 1, 1, 2); /* before 4 */
+    ELECTED(JOURNAL_MAJORITY, EVEN, 1, 1, 1);
+    ELECTED(JOURNAL_MAJORITY, EVEN, 4, 1, 3);
+    ELECTED(JOURNAL_DONE, EVEN, 6, 1, 3); /* told although it is away */
+    WORD(row, 0, 0);
+    ELECTED(JOURNAL_DONE, EVEN, ALL, 1, 1);
+    WORD(row, 0, 1), WORD(row, 1, 0), WORD(row, 2, 0);
+    row.words[1] = 1, row.words[2] = 4, row.words[14] = row.words[15] = 0x700000008u;
+    ELECTED(JOURNAL_DONE, 1000000, 3, 1, 2);
+    WORD(row, 0, 0), WORD(row, 1, 0), WORD(row, 2, 0), WORD(row, 14, 0), WORD(row, 15, 0);
+    TELL(JOURNAL_DONE, 16, journal_own_elected(LENT, 1, J, 2, EVEN, 1, 1, 1));
+    WORD(row, 0, 1), WORD(row, 1, 1);
+    HELD(JOURNAL_UNTRUE, EVEN, 1, 0, 0, 0);
+    HELD(JOURNAL_UNTRUE, EVEN, 1, 1, 7, 8);
+    row.words[4] = 3, row.words[5] = 2, row.words[21] = 3; /* loads 2 and 3, and 4 unagreed */
+    row.words[22] = 0x200000012u, row.words[23] = 0x300000013u, row.words[24] = 0x400000014u;
+    HELD(JOURNAL_BOX, EVEN, 0, 2, 2, 18);
+    HELD(JOURNAL_BOX, EVEN, 4, 2, 2, 18);
+    HELD(JOURNAL_FORM, 0, 1, 2, 2, 18);
+    HELD(JOURNAL_DONE, EVEN, 1, 2, 2, 18);
+    HELD(JOURNAL_DONE, ODD, 1, 3, 3, 19);
+    HELD(JOURNAL_UNTRUE, EVEN, 1, 1, 2, 18);
+    HELD(JOURNAL_UNTRUE, EVEN, 1, 2, 18, 2);
+    HELD(JOURNAL_UNTRUE, EVEN, 1, 3, 2, 18);
+    HELD(JOURNAL_UNTRUE, EVEN, 1, 4, 4, 20);
+    HELD(JOURNAL_UNTRUE, EVEN, 1, UINT32_MAX, 2, 18);
+    release(row);
+}
+
 /* Box c has agreed on k loads, number i with the frames i and i. */
 static void put_book(uint32_t j, uint32_t c, uint64_t k) {
     uint64_t *r = site.words + 5 + (size_t)(c - 1) * JOURNAL_ROW_WORDS(j);
@@ -900,6 +980,7 @@ int main(void) {
     trims();
     mails();
     own_boxes();
+    told_boxes();
     largest();
     one_box();
     images();

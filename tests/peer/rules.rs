@@ -120,20 +120,23 @@ fn settle(site: &mut Site, c: u32, mut turn: Turn, fault: Fault) -> Result<Answe
     Ok(turn.answer)
 }
 
+/// What an election makes of a box.
+pub fn be_elected(b: &mut Camera, leads: bool, present: u32) {
+    let alone = present.count_ones() == 1;
+    b.leads = leads;
+    b.state = if alone { State::Active } else { State::Recovering };
+    b.phase = Phase::Election;
+    b.waiting = 0;
+    b.agreeing = 0;
+}
+
 fn elect(site: &mut Site, c: u32) -> Result<Answer, Refusal> {
     needs(site.epoch % 2 == 1 && member(site.present, c))?;
-    let count = site.present.count_ones();
-    if count < majority(site.sizes.n) {
+    let present = site.present;
+    if present.count_ones() < majority(site.sizes.n) {
         return Err(4);
     }
-    for k in site.numbers() {
-        let b = site.at_mut(k);
-        b.leads = k == c;
-        b.state = if count == 1 { State::Active } else { State::Recovering };
-        b.phase = Phase::Election;
-        b.waiting = 0;
-        b.agreeing = 0;
-    }
+    site.numbers().for_each(|k| be_elected(site.at_mut(k), k == c, present));
     site.clear_links();
     site.epoch += 1;
     Ok(Answer::Done)
@@ -190,7 +193,12 @@ pub fn holds(site: &Site, c: u32, k: u32, left: u32, right: u32) -> Result<Answe
     if !(1..=site.sizes.n).contains(&c) {
         return Err(2);
     }
-    let (r, b) = ((left as u64) << 32 | right as u64, site.at(c));
+    held(site.at(c), k, left, right)
+}
+
+/// .. in the box's book.
+pub fn held(b: &Camera, k: u32, left: u32, right: u32) -> Result<Answer, Refusal> {
+    let r = (left as u64) << 32 | right as u64;
     if k <= b.last && b.record(k) == Some(r) {
         Ok(Answer::Done)
     } else {

@@ -10,6 +10,9 @@
 //!     book C K         box C has agreed K loads, number i with the frames i and i
 //!     box C, mails A B the words of a box, the mails of a link
 //!     own CALL         the call at its box by itself; its letter is the next that is handed over
+//!     start C N J L, tell C D, ask C K LEFT RIGHT
+//!                      box C by itself is made fresh for a site of these sizes, is told that D is
+//!                      elected, is asked whether it holds load K with these frames
 
 use crate::faults::Fault;
 use crate::rules::*;
@@ -75,6 +78,20 @@ fn part(words: &mut [u64], lent: usize) -> &mut [u64] {
     &mut words[..lent.min(most)]
 }
 
+fn short(value: u64) -> u32 {
+    u32::try_from(value).unwrap_or(u32::MAX)
+}
+
+/// The row of box `me`, which stands where the site that was made last has it, and what it is told.
+fn row_of<'a>(site: &'a mut [u64], lent: &Lent, made: Sizes, me: u32) -> (&'a mut [u64], Told) {
+    let site = part(site, lent.site);
+    let word = |at: usize| short(site.get(at).copied().unwrap_or_default());
+    let sizes = Sizes { n: word(0), j: word(1), l: word(2) };
+    let around = Told { sizes, epoch: word(3), present: word(4), me };
+    let from = made.row_at(me.max(1)).min(site.len());
+    (part(&mut site[from..], made.row_words()), around)
+}
+
 impl Stage {
     fn new(fault: Fault) -> Stage {
         Stage {
@@ -86,6 +103,10 @@ impl Stage {
             out: vec![0; LARGEST.place_words()],
             fault,
         }
+    }
+
+    fn row(&mut self, me: u64) -> (&mut [u64], Told) {
+        row_of(&mut self.site, &self.lent, self.sizes, short(me))
     }
 
     /// What came of a line.
@@ -121,6 +142,19 @@ impl Stage {
                 let link = &self.links[self.sizes.link_at(a as u32, b as u32)..];
                 let mails = (0..link[1]).map(|i| &link[self.sizes.place_at(link[0], i)..]);
                 return format!(" | {}{}", link[1], mails.map(shown_letter).collect::<String>());
+            }
+            ("start", &[c, n, j, l]) => {
+                let sizes = Sizes { n: short(n), j: short(j), l: short(l) };
+                return told(words::started(self.row(c).0, sizes));
+            }
+            ("tell", &[c, leader]) => {
+                let (row, around) = self.row(c);
+                return told(words::elected(row, around, short(leader)));
+            }
+            ("ask", &[c, k, left, right]) => {
+                let (row, around) = self.row(c);
+                let line = (short(k), short(left), short(right));
+                return told(words::asked_alone(row, around, line));
             }
             ("own", _) => return self.own(rest),
             _ => return self.trace(line),
@@ -163,16 +197,7 @@ impl Stage {
             Call::Deliver(a, b) => (b, Event::Mail(a, letter)),
             _ => (call.at(), Event::Act(call)),
         };
-        let site = part(&mut self.site, self.lent.site);
-        let word = |at: usize| {
-            let word = site.get(at).copied().unwrap_or_default();
-            u32::try_from(word).unwrap_or(u32::MAX)
-        };
-        let sizes = Sizes { n: word(0), j: word(1), l: word(2) };
-        let around = Told { sizes, epoch: word(3), present: word(4), me };
-        // the row stands where the site that was made last has it
-        let from = self.sizes.row_at(me.max(1)).min(site.len());
-        let row = part(&mut site[from..], self.sizes.row_words());
+        let (row, around) = row_of(&mut self.site, &self.lent, self.sizes, me);
         let out = part(&mut self.out, self.lent.out);
         let came = words::alone(row, out, around, event, self.fault);
         let answer = told(came.map(|(answer, _)| answer));

@@ -236,6 +236,62 @@ pub struct Told {
     pub me: u32,
 }
 
+impl Told {
+    /// The box that the row holds: 13, 1 for what concerns it alone.
+    fn own(self, row: &[u64]) -> Result<Camera, Refusal> {
+        let Told { sizes, epoch, present, me } = self;
+        if !sizes.in_range() {
+            return Err(13);
+        }
+        let by_form = (1..=LAST_EPOCH).contains(&epoch) && present <= everyone(sizes.n);
+        read_row(row, sizes).filter(|b| by_form && b.by_form(sizes, me)).ok_or(1)
+    }
+}
+
+/// A row becomes a fresh box, whatever its words were.
+pub fn started(row: &mut [u64], sizes: Sizes) -> Result<Answer, Refusal> {
+    if !sizes.in_range() {
+        return Err(13);
+    }
+    if row.len() < sizes.row_words() {
+        return Err(12);
+    }
+    row[PEERS].fill(UNKNOWN as u64);
+    put_row(row, &Camera::fresh(sizes.n));
+    Ok(Answer::Done)
+}
+
+/// A box by itself is told that c is elected; the epoch is the one after it.
+pub fn elected(row: &mut [u64], told: Told, c: u32) -> Result<Answer, Refusal> {
+    let mut own = told.own(row)?;
+    let is_box = |c: u32| (1..=told.sizes.n).contains(&c);
+    if !is_box(told.me) || !is_box(c) {
+        return Err(2);
+    }
+    if told.epoch % 2 == 1 || !member(told.present, c) {
+        return Err(3);
+    }
+    if told.present.count_ones() < majority(told.sizes.n) {
+        return Err(4);
+    }
+    be_elected(&mut own, told.me == c, told.present);
+    put_row(row, &own);
+    Ok(Answer::Done)
+}
+
+/// A box by itself is asked whether load k is agreed with these frames.
+pub fn asked_alone(
+    row: &[u64],
+    told: Told,
+    (k, left, right): (u32, u32, u32),
+) -> Result<Answer, Refusal> {
+    let own = told.own(row)?;
+    if !(1..=told.sizes.n).contains(&told.me) {
+        return Err(2);
+    }
+    held(&own, k, left, right)
+}
+
 /// A call of the box's own, or the words of a letter and their sender.
 pub enum Event<'a> {
     Act(Call),
@@ -252,11 +308,7 @@ pub fn alone(
     fault: Fault,
 ) -> Result<(Answer, u32), Refusal> {
     let Told { sizes, epoch, present, me } = told;
-    if !sizes.in_range() {
-        return Err(13);
-    }
-    let told_by_form = (1..=LAST_EPOCH).contains(&epoch) && present <= everyone(sizes.n);
-    let own = read_row(row, sizes).filter(|b| told_by_form && b.by_form(sizes, me)).ok_or(1u32)?;
+    let own = told.own(row)?;
     let around = Around { n: sizes.n, j: sizes.j, epoch, present, fault };
     let is_box = |c: u32| (1..=sizes.n).contains(&c);
     let turn = match event {

@@ -13,7 +13,7 @@ use Rattle.rules.specs.Fields.{withLeads, withState, withPhase, withWaiting, wi
 use Rattle.rules.specs.Steps.{elected}
 use Rattle.rules.specs.Form.{formBox, form}
 use Rattle.rules.specs.Box.{Box, Letter, Event, own, mail}
-use Rattle.rules.specs.Own.{OwnOutcome, ownStep}
+use Rattle.rules.specs.Own.{OwnOutcome, ownStep, electedBox}
 use Rattle.rules.specs.Site.{Site, Outcome, fresh, freshBox, setting, upd, relinked, popped, twice}
 use Rattle.rules.specs.Site.{doubled}
 use Rattle.rules.specs.Step.{did, elect, risen, presented, step, run}
@@ -43,10 +43,6 @@ rest x = record {
       (withAgreeing 0 (x .head)))));
   records = x .records;
 }
-
--- what an election of c makes of a box
-abbrev electedBox : Setting → ℕ → Box → Box
-electedBox s c x = record { head = elected (x .head) s c; records = x .records }
 
 -- the box x by itself and the site's box z; s is what there is to know, c was elected last
 pub record Follows (s : Setting) (c : ℕ) (x : Alone) (z : Box) : Type 0 where

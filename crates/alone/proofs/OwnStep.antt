@@ -17,6 +17,7 @@ use Rattle.rules.specs.Needs.{Need, need, ruled}
 use Rattle.rules.specs.Box.{Box, Letter, Event, own, mail, letterOf, turnOf, turned, brought}
 use Rattle.rules.specs.Own.{OwnOutcome, unmoved, receivers, lettersOf, ownTurn, formEvent}
 use Rattle.rules.specs.Own.{rightNumbers, formOwn, ownStep, ownFresh, ownElected, ownHolds}
+use Rattle.rules.specs.Own.{electedBox}
 use Rattle.rules.specs.Site.{Site, Outcome, isBox, isLink, setting, upd, posted, room, played}
 use Rattle.rules.specs.Site.{popped, fresh}
 use Rattle.rules.specs.Steps.{elected}
@@ -267,11 +268,7 @@ module _ (s : Site) (f : form s ≡ true) where
         and-both (le-leb 1 (s .epoch + 1) (omega arith))
         (le-leb (s .epoch + 1) mostEpoch (omega (arith, h .few-epochs, odd-number)))
 
-    is-elected : record {
-      head = elected (s .box b .head) (at-epoch s b (s .epoch + 1)) c;
-      records = s .box b .records;
-    }
-        ≡ elect s c .box b
+    is-elected : electedBox (at-epoch s b (s .epoch + 1)) c (s .box b) ≡ elect s c .box b
     unfolding elect elected
     is-elected = rw (box-is box) refl
 
@@ -290,11 +287,10 @@ module _ (s : Site) (f : form s ≡ true) where
 
 -- .. and where it was told, it is what the election makes of it
 pub told-done : (s : Setting) (x : Box) (c : ℕ) → ownElected s x c .answer ≡ Answer.Done
-    → (even (s .epoch) ≡ true)
-    × (ownElected s x c .next ≡ record { head = elected (x .head) s c; records = x .records })
+    → (even (s .epoch) ≡ true) × (ownElected s x c .next ≡ electedBox s c x)
 unfolding ownElected
 told-done s x c =
     by-needs (λ (o : OwnOutcome). o .answer ≡ Answer.Done → (even (s .epoch) ≡ true)
-    × (o .next ≡ record { head = elected (x .head) s c; records = x .records }))
+    × (o .next ≡ electedBox s c x))
     (λ why. unmoved x (Answer.Refused why)) _ _
     (λ why e. absurd (true≠false (ap isRefusal e))) (λ p e. (p .1 .1 .1 .0, refl))

@@ -10,9 +10,9 @@ use Rattle.rules.specs.declared.model.Answer.{Answer}
 use Rattle.rules.specs.declared.model.Call.{Call}
 use Rattle.rules.specs.declared.model.Setting.{Setting}
 use Rattle.site.specs.Entries.{After, FreshMade, stepOn}
-use Rattle.own.specs.Entry.{Owned}
+use Rattle.own.specs.Entry.{Owned, Told}
 use Rattle.own.specs.Lent.{StillReads}
-use Rattle.journal.specs.Numbered.{Stepped, Freshened, Alone}
+use Rattle.journal.specs.Numbered.{Stepped, Freshened, Alone, ToldAlone}
 
 pub stepped : {d : Call} {xs ls xs' ls' : List ℕ} {a : Answer} {r : ℕ}
     → After (stepOn xs ls d) xs ls xs' ls' a → r ≡ answerNumber a → Stepped d xs ls xs' ls' r
@@ -41,4 +41,11 @@ alone {s} {o} {x} {out} {x'} {out'} {a} {set} {to} h reads told t e = record {
   set =
       t ∙ ap (λ b. cond b to set) (told ∙ ap isRefusal (h .answer))
       ∙ ap (cond (isRefusal (o .answer)) to) (h .receivers);
+}
+
+pub told-alone : {n J : ℕ} {o : OwnOutcome} {x x' : List ℕ} {a : Answer} {r : ℕ}
+    → Told n J o x x' a → r ≡ answerNumber a → ToldAlone n J o x x' r
+told-alone {n} {J} {o} {x} {x'} h e = record {
+  number = e ∙ ap answerNumber (h .answer);
+  told = subst (Told n J o x x') (h .answer) h;
 }

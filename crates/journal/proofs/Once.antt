@@ -1,20 +1,24 @@
 -- Nothing else could satisfy the statements: two results of one exported call are the same.
 use Prim.Native.Nat.{ℕ}
 use mathlib.Core.Path.{_≡_, refl, sym, ap, _∙_}
+use mathlib.Core.Bool.{true}
 use mathlib.Core.List.{List}
 use Rattle.rules.specs.Numbers.{answerNumber}
+use Rattle.rules.specs.Answers.{isRefusal}
 use Rattle.rules.specs.Own.{OwnOutcome}
 use Rattle.rules.specs.declared.model.Call.{Call}
 use Rattle.rules.specs.declared.model.Setting.{Setting}
 use Rattle.rules.specs.declared.model.Unheard.{Unheard}
 use Rattle.site.specs.Entries.{stepOn, freshOn}
 use Rattle.site.proofs.Once.{Same, once}
-use Rattle.own.proofs.Firm.{Alike, alike}
+use Rattle.row.specs.Row.{boxOf}
+use Rattle.own.specs.Entry.{rowOf}
+use Rattle.own.proofs.Firm.{Alike, alike, same-box, same-row}
 use Rattle.writer.specs.declared.Written.{Written}
 use Rattle.writer.proofs.Once.{write-once, length-once}
 use Rattle.reader.proofs.Once.{read-once}
 use Rattle.reader.proofs.Once as reader
-use Rattle.journal.specs.Numbered.{Stepped, Freshened, Alone}
+use Rattle.journal.specs.Numbered.{Stepped, Freshened, Alone, ToldAlone}
 use Rattle.journal.specs.Images.{writtenNumber, writtenLength}
 use Rattle.journal.specs.Images.{LengthAnswered, WriteAnswered, ReadAnswered}
 use Rattle.journal.specs.Unheard.{unheardNumber, unheardSet, UnheardAnswered}
@@ -36,6 +40,15 @@ alone-once {s} {o} p q = (
   p .number ∙ sym (q .number),
   p .set ∙ sym (q .set),
   alike s o o refl (p .owned) (q .owned),
+)
+
+pub told-once : {n J : ℕ} {o : OwnOutcome} {x y z : List ℕ} {r q : ℕ}
+    → ToldAlone n J o x y r → ToldAlone n J o x z q
+    → (r ≡ q) × (boxOf n (rowOf J y) ≡ boxOf n (rowOf J z)) × (isRefusal (o .answer) ≡ true → y ≡ z)
+told-once {n} {J} {o} p q = (
+  p .number ∙ sym (q .number),
+  same-box n J o (p .told) (q .told),
+  same-row n J o (p .told) (q .told),
 )
 
 pub unheard-once : {u : Unheard} {w t v r q : ℕ} → UnheardAnswered u w t r

@@ -10,7 +10,7 @@ use Rattle.rules.specs.Own.{OwnOutcome}
 use Rattle.rules.specs.declared.model.Call.{Call}
 use Rattle.rules.specs.declared.model.Setting.{Setting}
 use Rattle.site.specs.Entries.{After, FreshMade, stepOn, freshOn}
-use Rattle.own.specs.Entry.{Owned}
+use Rattle.own.specs.Entry.{Owned, Told}
 use Rattle.own.specs.Lent.{StillReads}
 
 -- `step` of the call d on the words xs and ls: they have become xs' and ls', and r was answered
@@ -31,6 +31,12 @@ pub record Alone (s : Setting) (o : OwnOutcome) (x out x' out' : List ℕ) (to t
   pub owned : Owned s o x out x' out' (o .answer) (o .to)
   pub reads : StillReads s x x' out' (o .to)
   pub set : to' ≡ cond (isRefusal (o .answer)) to (o .to)
+
+-- the outcome o of a box that is started or told, on the row x of a box of n with room for J
+-- records: it has become x', and r was answered
+pub record ToldAlone (n J : ℕ) (o : OwnOutcome) (x x' : List ℕ) (r : ℕ) : Type 0 where
+  pub number : r ≡ answerNumber (o .answer)
+  pub told : Told n J o x x' (o .answer)
 
 -- what a box is told of its site
 abbrev pub settingOf : ℕ → ℕ → ℕ → ℕ → ℕ → ℕ → Setting

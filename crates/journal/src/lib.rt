@@ -4,5 +4,6 @@
 mod calls;
 mod images;
 mod own_box;
+mod own_told;
 mod sizes;
 mod unheard;

@@ -7,10 +7,11 @@ use native.Mathlib.Omega.{arith}
 use Rattle.rules.specs.Steps.{elected}
 use Rattle.rules.specs.Box.{Box}
 use Rattle.rules.specs.Site.{freshBox}
+use Rattle.rules.specs.Own.{electedBox}
 use Rattle.rules.specs.declared.model.Setting.{Setting}
 use Rattle.row.specs.Row.{boxOf, rowForm}
 use Rattle.memory.specs.Memory.{rowAt}
-use Rattle.memory.specs.After.{boxesOf, RowSet, RowsPut, BoxesLent, settingFor, electedBox}
+use Rattle.memory.specs.After.{boxesOf, RowSet, RowsPut, BoxesLent, settingFor}
 use Rattle.memory.specs.After.{electedBoxes}
 use Rattle.memory.proofs.RowLaws.{box-at, row-form}
 use Rattle.memory.proofs.EveryLaws.{next-box}

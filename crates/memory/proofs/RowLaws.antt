@@ -1,34 +1,28 @@
 -- What the functions of one row have computed, in terms of all boxes.
-use Prim.Native.Nat.{ℕ, zero, suc, _+_, _-_, _≤_, _<_}
-use mathlib.Core.Path.{_≡_, refl, sym, ap, _∙_, subst}
+use Prim.Native.Nat.{ℕ, _+_, _-_, _≤_, _<_}
+use mathlib.Core.Path.{_≡_, sym, ap, _∙_, subst}
 use mathlib.Core.Bool.{Bool, true, cond}
-use mathlib.Core.List.{List, _++_}
+use mathlib.Core.List.{List}
 use native.Mathlib.Omega.{arith}
-use lib.ListN.{length, take, drop, getD, length-append, length-drop}
+use lib.ListN.{length, take, drop, getD}
 use lib.Dec.{eqb}
 use borrow.Author.Tests.{leb-true, eq-eqb, ne-eqb}
 use Rattle.words.specs.Rows.{splice}
 use Rattle.words.proofs.PartLaws.{length-part}
-use Rattle.rules.specs.Sizes.{mostBoxes, sizesForm, unknown}
-use Rattle.rules.specs.Parts.{allUnknown}
-use Rattle.rules.specs.Steps.{elected}
+use Rattle.rules.specs.Sizes.{sizesForm, unknown}
 use Rattle.rules.specs.Box.{Box, turned, BookFits}
 use Rattle.rules.specs.Form.{formBox}
-use Rattle.rules.specs.Site.{freshHead, freshBox, isBox}
-use Rattle.rules.specs.declared.model.BoxState.{BoxState}
+use Rattle.rules.specs.Site.{freshBox, isBox}
+use Rattle.rules.specs.Own.{electedBox}
 use Rattle.rules.specs.declared.model.Setting.{Setting}
 use Rattle.rules.specs.declared.model.Turn.{Turn}
 use Rattle.laws.proofs.Logic.{left, right, passed, _&_, none, made}
 use Rattle.laws.proofs.FormLaws.{Peer, sizes-says, box-says}
 use Rattle.letter.specs.Place.{letterAt}
-use Rattle.row.specs.Row.{headOf, boxOf, rowFits, rowForm, wordsOf, countAt, headWords}
-use Rattle.row.specs.Lent.{RowSized, RowByForm, Plays, Played}
-use Rattle.row.proofs.PeerLaws.{peers-at, peer-above}
-use Rattle.row.proofs.StoreLaws.{box-stored, fits-stored}
-use Rattle.row.proofs.TurnLaws.{row-formed}
+use Rattle.row.specs.Row.{boxOf, rowFits, rowForm, countAt, headWords}
+use Rattle.row.specs.Lent.{RowSized, RowByForm, RowHolds, Plays, Played}
 use Rattle.memory.specs.Memory.{rowWidth, siteWords, rowStart, rowAt}
-use Rattle.memory.specs.After.{boxesOf, RowsLent, BoxLent, RowSet, RowHolds, Playable}
-use Rattle.memory.specs.After.{settingFor, electedBox}
+use Rattle.memory.specs.After.{boxesOf, RowsLent, BoxLent, RowSet, Playable, settingFor}
 use Rattle.memory.proofs.SizeLaws.{box-few, row-within}
 use Rattle.memory.proofs.PutLaws.{part-cut, part-put, row-set}
 
@@ -138,36 +132,7 @@ module _ (s : Setting) (xs place : List ℕ) (t : Turn) {p e : ℕ}
         words = done .words;
       })
 
--- ---- a head is stored in a row
-
--- r becomes q, the head h with so many of its records
-module _ (n J : ℕ) (h : BoxState) (count : ℕ) (r : List ℕ) (room : length r ≡ headWords + J)
-    (few : count ≤ J) (five : length (h .peers) ≡ mostBoxes)
-    (above : (k : ℕ) → n < k → k ≤ mostBoxes → getD (h .peers) (k - 1) 0 ≡ unknown) where
-  row-stored : (q : List ℕ) → q ≡ wordsOf h count ++ drop headWords r
-      → RowHolds n J (record { head = h; records = take count (drop headWords r) }) r q
-  row-stored q e =
-      rw e
-      (record {
-        box = box-stored n h count (drop headWords r) five above;
-        fits = fits-stored J h count (drop headWords r) few;
-        words = simp (length-append, length-drop) (omega (arith, room));
-      })
-
--- the head of the elected
-pub elect-law : (s : Setting) (c : ℕ) (r : List ℕ) → RowByForm s r
-    → (head next : BoxState) (held : ℕ) (q : List ℕ)
-    → head ≡ headOf (s .n) r → next ≡ elected head s c → held ≡ getD r countAt 0
-    → q ≡ wordsOf next held ++ drop headWords r
-    → RowHolds (s .n) (s .j) (electedBox s c (boxOf (s .n) r)) r q
-unfolding elected
-elect-law s c r ok head next held q eh en ec eq =
-    let f = row-formed s r ok in
-    row-stored (s .n) (s .j) (elected (headOf (s .n) r) s c) (getD r countAt 0) r (ok .size .words)
-    (f .says .count) refl
-    (λ k a m. peers-at (s .n) r k (omega arith) m ∙ peer-above (s .n) r k a) q
-    (eq ∙ (λ i. wordsOf ((en
-    ∙ ap (λ (h : BoxState). elected h s c) eh) i) (ec i) ++ drop headWords r))
+-- ---- the elected
 
 -- r is the row of box b of s
 pub elect-there : (s : Setting) (b c : ℕ) {r r' q : List ℕ} → r ≡ r'
@@ -178,23 +143,6 @@ elect-there s b c e holds = record {
   fits = holds .fits;
   words = holds .words;
 }
-
--- a fresh head
-pub fresh-law : (n J : ℕ) (r : List ℕ) → length r ≡ headWords + J → (h : BoxState) (q : List ℕ)
-    → h ≡ freshHead → q ≡ wordsOf h 0 ++ drop headWords r → RowHolds n J freshBox r q
-unfolding freshHead
-fresh-law n J r room h q eh eq =
-    row-stored n J freshHead 0 r room (omega arith) refl unknown-all q
-    (eq ∙ ap (λ (x : BoxState). wordsOf x 0 ++ drop headWords r) eh)
-  where
-    unknown-all : (k : ℕ) → n < k → k ≤ mostBoxes → getD allUnknown (k - 1) 0 ≡ unknown
-    unknown-all zero a m = refl
-    unknown-all (suc zero) a m = refl
-    unknown-all (suc (suc zero)) a m = refl
-    unknown-all (suc (suc (suc zero))) a m = refl
-    unknown-all (suc (suc (suc (suc zero)))) a m = refl
-    unknown-all (suc (suc (suc (suc (suc zero))))) a m = refl
-    unknown-all (suc (suc (suc (suc (suc (suc k)))))) a m = absurd (omega arith)
 
 -- ---- the leader, by the first word of its row
 

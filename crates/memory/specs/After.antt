@@ -163,10 +163,7 @@ settingFor s b = record {
   me = b;
 }
 
--- the box x of s, and every box, when c is elected
-abbrev pub electedBox : Setting → ℕ → Box → Box
-electedBox s c x = record { head = elected (x .head) s c; records = x .records }
-
+-- every box when c is elected
 abbrev pub electedBoxes : Setting → ℕ → (ℕ → Box) → ℕ → Box
 electedBoxes s c box b = record {
   head = cond (isBox (s .n) b) (elected (box b .head) (settingFor s b) c) (box b .head);
@@ -177,9 +174,3 @@ electedBoxes s c box b = record {
 pub record BoxesLent (s : Setting) (xs : List ℕ) : Type 0 where
   pub rows : RowsLent s xs
   pub form : (b : ℕ) → isBox (s .n) b ≡ true → formBox (s .n) (s .j) b (boxesOf s xs b) ≡ true
-
--- the row r has become q, whose box is x
-pub record RowHolds (n J : ℕ) (x : Box) (r q : List ℕ) : Type 0 where
-  pub box : boxOf n q ≡ x
-  pub fits : rowFits J q ≡ true
-  pub words : length q ≡ length r

@@ -5,11 +5,11 @@ ghost use Prim.Native.Nat.{_+_, _-_, _≤_};
 ghost use lib.ListN.{length};
 ghost use Rattle.rules.specs.Sizes.{sizesForm};
 ghost use Rattle.rules.specs.Box.{own, mail, turnOf, turned};
-ghost use Rattle.rules.specs.Site.{freshHead, freshBox, isBox, upd};
+ghost use Rattle.rules.specs.Site.{freshBox, isBox, upd};
+ghost use Rattle.rules.specs.Own.{electedBox};
 ghost use Rattle.words.specs.Rows.{part};
 ghost use Rattle.letter.specs.Place.{letterAt, placeForm};
 ghost use Rattle.row.specs.Row.{boxOf, rowForm};
-ghost use Rattle.row.specs.Lent.{RowByForm};
 ghost use Rattle.link.specs.Link.{placeWidth};
 ghost use Rattle.memory.specs.Memory.{siteWords, rowAt};
 ghost use Rattle.memory.specs.After.{
@@ -19,20 +19,12 @@ ghost use Rattle.memory.specs.After.{
   RowsPut,
   Playable,
   settingFor,
-  electedBox,
   electedBoxes,
   BoxesLent,
-  RowHolds,
 };
 use crate::places;
 use rules::model::Act;
-use rules::model::Best;
-use rules::model::BoxState;
-use rules::model::Kept;
-use rules::model::Phase;
 use rules::model::Setting;
-use rules::model::State;
-use rules::model::Stored;
 use rules::model::Turn;
 
 // What a step of its own makes of box me.
@@ -84,19 +76,6 @@ pub fn play(site: &mut [u64], links: &[u64], s: Setting, p: usize, q: usize, t: 
     play_row(site, &links[p..q], s, t);
 }
 
-// The row holds the box when c is elected.
-fn elect_box(row: &mut [u64], s: Setting, c: u32)
-    requires { ⌜ RowByForm s (now row) ⌝ }
-    ensures { λ _.
-        ⌜ RowHolds (s .n) (s .j) (electedBox s c (boxOf (s .n) (now (row .entry))))
-        (now (row .entry)) (now (row .exit)) ⌝ }
-{
-    let held = values::number(row[row::COUNT]);
-    let head = row::load(row, s.n);
-    let next = head.elected(s, c);
-    row::store(row, next, held);
-}
-
 // Box b when c is elected.
 fn elect_row(site: &mut [u64], s: Setting, b: u32, c: u32)
     requires { ⌜ sizesForm (s .n) (s .j) (s .l) ≡ true ⌝ }
@@ -111,7 +90,7 @@ fn elect_row(site: &mut [u64], s: Setting, b: u32, c: u32)
     let start = places::row_start(s, b);
     let end = start + places::row_width(s.j);
     let known = Setting { me: b, ..s };
-    elect_box(&mut site[start..end], known, c);
+    row::elect(&mut site[start..end], known, c);
 }
 
 // Every box when c is elected.
@@ -128,33 +107,6 @@ pub fn elect_rows(site: &mut [u64], s: Setting, c: u32)
     }
 }
 
-fn fresh_head() -> BoxState
-    ensures { λ r. ⌜ r ≡ freshHead ⌝ }
-{
-    BoxState {
-        leads: false,
-        state: State::Recovering,
-        phase: Phase::Election,
-        kept: Kept {
-            pn: 0,
-            last: 0,
-            first: 1,
-            stored: Stored { pn: 0, number: 0 },
-        },
-        best: Best {
-            pn: 0,
-            number: 0,
-            value: 0,
-        },
-        answered: 0,
-        accepts: 0,
-        heard: 0,
-        waiting: 0,
-        agreeing: 0,
-        peers: [4294967295; 5],
-    }
-}
-
 // Box b is fresh, whatever its words were.
 fn fresh_row(site: &mut [u64], s: Setting, b: u32)
     requires { ⌜ sizesForm (s .n) (s .j) (s .l) ≡ true ⌝ }
@@ -164,7 +116,7 @@ fn fresh_row(site: &mut [u64], s: Setting, b: u32)
 {
     let start = places::row_start(s, b);
     let end = start + places::row_width(s.j);
-    row::store(&mut site[start..end], fresh_head(), 0);
+    row::fresh(&mut site[start..end]);
 }
 
 // Every box is fresh, whatever the words were.

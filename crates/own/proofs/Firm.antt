@@ -12,7 +12,8 @@ use Rattle.laws.proofs.Types.{Answer, Refusal, Setting, Turn}
 use Rattle.laws.proofs.Logic.{both-no}
 use Rattle.laws.proofs.StepLaws.{by-needs}
 use Rattle.rules.specs.Answers.{isRefusal, isAccepted}
-use Rattle.own.specs.Entry.{ownBox, buffered, ownOn, lettersIn, Owned}
+use Rattle.row.specs.Row.{boxOf}
+use Rattle.own.specs.Entry.{rowOf, ownBox, buffered, ownOn, lettersIn, Owned, Told}
 use Rattle.letter.specs.Place.{headWords as letterHead}
 
 -- a row, a place, an answer and a set that show the same
@@ -88,3 +89,16 @@ module _ (s : Setting) (x : Box) (reads : Bool) (e : Event) {r out r₁ out₁ r
     p .kept h ∙ sym (q .kept (rw (← same-end .answer) h)),
     same-place (p .receivers ∙ silent s x reads e out (rw (← p .answer) h)),
   )
+
+-- So it is of a box that is started or told, whatever it is told: one answer and one box, and a
+-- refusal leaves the same words.
+module _ (n J : ℕ) (o : OwnOutcome) {r r₁ r₂ : List ℕ} {a a' : Answer} (p : Told n J o r r₁ a)
+    (q : Told n J o r r₂ a') where
+  pub same-answer : a ≡ a'
+  same-answer = p .answer ∙ sym (q .answer)
+
+  pub same-box : boxOf n (rowOf J r₁) ≡ boxOf n (rowOf J r₂)
+  same-box = p .box ∙ sym (q .box)
+
+  pub same-row : isRefusal a ≡ true → r₁ ≡ r₂
+  same-row h = p .kept h ∙ sym (q .kept (rw (← same-answer) h))

@@ -5,5 +5,6 @@ pub mod TurnLaws
 pub mod PostLaws
 pub mod OwnedLaws
 pub mod EntryLaws
+pub mod ToldLaws
 pub mod Firm
 pub mod Room

@@ -1,21 +1,21 @@
 -- What comes before the turn, in the order of the refusals: 13, 1 and 2.
 use mathlib.Core.Path.{_≡_, refl, sym, ap}
 use mathlib.Core.Bool.{Bool, true, false, not, _&&_, _||_, cond}
-use mathlib.Core.List.{List}
+use mathlib.Core.List.{List, [], _∷_}
 use Prim.Native.Nat.{ℕ}
 use Rattle.rules.specs.Sizes.{mostEpoch, within, sizesForm}
 use Rattle.rules.specs.Sets.{setForm}
 use Rattle.rules.specs.Needs.{Need, ruled}
 use Rattle.rules.specs.Box.{Box, Event, own, turnOf, brought}
 use Rattle.rules.specs.Site.{isBox}
-use Rattle.rules.specs.Own.{unmoved, ownTurn, formOwn, rightNumbers, ownStep}
+use Rattle.rules.specs.Own.{unmoved, ownTurn, formOwn, rightNumbers, ownStep, ownNeeds}
 use Rattle.rules.specs.Unheard.{unheardBy, ownUnheard}
 use Rattle.rules.specs.declared.model.Unheard.{Unheard}
 use Rattle.laws.proofs.Types.{Act, Answer, Refusal, Setting}
 use Rattle.laws.proofs.Logic.{Passed, true≠false, and4}
 use Rattle.laws.proofs.StepLaws.{mets, by-needs}
 use Rattle.own.specs.declared.Judged.{Judged}
-use Rattle.own.specs.Entry.{ownBox, rowReads, ownOn, unheardOn, buffered}
+use Rattle.own.specs.Entry.{ownBox, rowReads, ifRead, ownOn, unheardOn, buffered}
 use Rattle.own.specs.Lent.{rowTest, placeTest, inOrder, judged}
 use Rattle.own.proofs.FormLaws.{Asks, act-asks}
 
@@ -31,6 +31,21 @@ all-met ks =
     by-needs (λ v. v ≡ Judged.Passed → Passed (mets ks)) Judged.Refused ks Judged.Passed
     (λ why e. absurd (true≠false (sym (ap (by (λ w. false) true) e))))
     (λ p e. p)
+
+-- What refuses is what is judged.
+one-more {ℓ} : {A : Type ℓ} (refuse : Refusal → A) (a more : A) (rest : Judged) (why : Refusal)
+    (met : Bool) → more ≡ by refuse a rest
+    → cond met more (refuse why) ≡ by refuse a (cond met rest (Judged.Refused why))
+one-more refuse a more rest why true e = e
+one-more refuse a more rest why false e = refl
+
+pub judged-by {ℓ} : {A : Type ℓ} (refuse : Refusal → A) (a : A) (ks : List Need)
+    → ruled refuse ks a ≡ by refuse a (ruled Judged.Refused ks Judged.Passed)
+unfolding ruled
+judged-by refuse a [] = refl
+judged-by refuse a (k ∷ ks) =
+    one-more refuse a (ruled refuse ks a) (ruled Judged.Refused ks Judged.Passed) (k .why) (k .met)
+    (judged-by refuse a ks)
 
 -- Words that cannot be read are not by form; sizes come first.
 module _ {ℓ κ} {A : Type ℓ} {B : Type κ} (f : A → B) (refuse : Refusal → A) (a : A) where
@@ -101,3 +116,26 @@ unheard-found s r p h =
     (sym (first-found (λ u. u) Unheard.Refused (unheardBy (ownBox s r .head) s)
     (sizesForm (s .n) (s .j) (s .l)) (rowReads (s .j) r) (formOwn s (ownBox s r) (own Act.Heard))
     (isBox (s .n) (s .me))))
+
+-- None of these is found before what sends nothing.
+pub asked : (s : Setting) (r p : List ℕ) (numbers : Bool)
+    → judged s r p false numbers ≡ Judged.Passed
+    → (sizesForm (s .n) (s .j) (s .l) ≡ true) × (rowTest s r ≡ true) × (numbers ≡ true)
+unfolding judged
+asked s r p numbers h =
+    let t = all-met _ h in
+    (t .0, and4 (within 1 mostEpoch (s .epoch)) _ (rowTest s r) _ (t .1 .0) .2, t .1 .1 .0)
+
+-- What a box is told or asked that sends nothing, after the same; `more` is needed then.
+module _ {ℓ} {A : Type ℓ} (refuse : Refusal → A) (s : Setting) (r p : List ℕ) (numbers : Bool)
+    (more : List Need) (a : A) where
+  pub told-found : {v : Judged} → judged s r p false numbers ≡ v
+      → by refuse (ruled refuse more a) v
+      ≡ ifRead s (rowReads (s .j) r) (ruled refuse (ownNeeds s (ownBox s r) numbers more) a)
+      (refuse Refusal.Form)
+  unfolding judged ruled
+  told-found h =
+      rw (← h, act-asks s r p Act.Recover .form)
+      (sym (first-found (λ u. u) refuse (ruled refuse more a)
+      (sizesForm (s .n) (s .j) (s .l)) (rowReads (s .j) r)
+      (formOwn s (ownBox s r) (own Act.Recover)) numbers))

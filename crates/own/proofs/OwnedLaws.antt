@@ -92,11 +92,11 @@ went-on (Answer.Refused why) true h = sym h
 
 -- ---- the first w of xs have become ys
 
-front-is : (w : ℕ) (xs ys : List ℕ) → w ≤ length xs → length ys ≡ length (take w xs)
+pub front-is : (w : ℕ) (xs ys : List ℕ) → w ≤ length xs → length ys ≡ length (take w xs)
     → take w (ys ++ drop w xs) ≡ ys
 front-is w xs ys h e = take-at ys (drop w xs) w (e ∙ length-take-le w xs h)
 
-front-past : (w : ℕ) (xs ys : List ℕ) → w ≤ length xs → length ys ≡ length (take w xs)
+pub front-past : (w : ℕ) (xs ys : List ℕ) → w ≤ length xs → length ys ≡ length (take w xs)
     → drop w (ys ++ drop w xs) ≡ drop w xs
 front-past w xs ys h e = drop-at ys (drop w xs) w (e ∙ length-take-le w xs h)
 

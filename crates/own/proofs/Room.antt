@@ -18,7 +18,7 @@ use Rattle.row.specs.Row.{storedNumberAt, bestPnAt, bestNumberAt, answeredAt, a
 use Rattle.row.specs.Row.{bestAt, waitingAt, agreeingAt, beforePeers, peersAt, countAt}
 use Rattle.row.specs.Lent.{recordsOf}
 use Rattle.own.specs.Entry.{rowOf, placeOf, ownBox, ownLetter, rowReads, placeReads}
-use Rattle.own.specs.Entry.{buffered, ownOn, actOn, mailOn}
+use Rattle.own.specs.Entry.{buffered, ownOn, actOn, mailOn, freshOn, electedOn, holdsOn}
 
 -- ---- rows and places that are read alike give the same outcome
 
@@ -65,6 +65,22 @@ module _ (s : Setting) where
             (length out') (letterHead + s .j),
         f,
       )
+
+  -- of a row that becomes a fresh box's, only whether it is long enough, and the box that it held
+  pub fresh-room : (r r' : List ℕ)
+      → leb (headWords + s .j) (length r) ≡ leb (headWords + s .j) (length r')
+      → ownBox s r ≡ ownBox s r' → freshOn (s .n) (s .j) (s .l) r ≡ freshOn (s .n) (s .j) (s .l) r'
+  unfolding freshOn
+  fresh-room r r' long e = rw (long, e)
+
+  pub elected-room : (c : ℕ) (r r' : List ℕ) → RowsAlike r r' → electedOn s r c ≡ electedOn s r' c
+  unfolding electedOn
+  elected-room c r r' e = rw (e .reads, e .box)
+
+  pub holds-room : (k left right : ℕ) (r r' : List ℕ) → RowsAlike r r'
+      → holdsOn s r k left right ≡ holdsOn s r' k left right
+  unfolding holdsOn
+  holds-room k left right r r' e = rw (e .reads, e .box)
 
 -- ---- the words that are read
 

@@ -2,14 +2,14 @@
 -- receivers out.
 use Prim.Native.Nat.{ℕ, _+_}
 use mathlib.Core.Path.{_≡_}
-use mathlib.Core.Bool.{Bool, true, not, _&&_, _||_, cond}
+use mathlib.Core.Bool.{Bool, true, false, not, _&&_, _||_, cond}
 use mathlib.Core.List.{List, [], _∷_}
 use lib.Dec.{eqb, leb, ltb}
 use lib.ListN.{length, take, drop}
 use Rattle.rules.specs.Sizes.{sizesForm}
 use Rattle.rules.specs.Answers.{isRefusal, isAccepted}
 use Rattle.rules.specs.Box.{Box, Letter, Event, own, mail}
-use Rattle.rules.specs.Own.{OwnOutcome, unmoved, ownStep}
+use Rattle.rules.specs.Own.{OwnOutcome, unmoved, ownStep, ownFresh, ownElected, ownHolds}
 use Rattle.rules.specs.Unheard.{ownUnheard}
 use Rattle.rules.specs.declared.model.Act.{Act}
 use Rattle.rules.specs.declared.model.Answer.{Answer}
@@ -70,6 +70,25 @@ unfoldable pub unheardOn : Setting → List ℕ → Unheard
 unheardOn s r =
     ifRead s (rowReads (s .j) r) (ownUnheard s (ownBox s r)) (Unheard.Refused Refusal.Form)
 
+-- a fresh box in the words of a row, whatever they were: 12 where they are too few, after 13
+unfoldable pub freshOn : ℕ → ℕ → ℕ → List ℕ → OwnOutcome
+freshOn n J L r =
+    cond (leb (headWords + J) (length r) || not (sizesForm n J L))
+    (ownFresh n J L (boxOf n (rowOf J r)))
+    (unmoved (boxOf n (rowOf J r)) (Answer.Refused Refusal.Buffer))
+
+-- c is elected: the row holds what the election makes of the box
+unfoldable pub electedOn : Setting → List ℕ → ℕ → OwnOutcome
+electedOn s r c =
+    ifRead s (rowReads (s .j) r) (ownElected s (ownBox s r) c)
+    (unmoved (ownBox s r) (Answer.Refused Refusal.Form))
+
+-- a holds line
+unfoldable pub holdsOn : Setting → List ℕ → ℕ → ℕ → ℕ → Answer
+holdsOn s r k left right =
+    ifRead s (rowReads (s .j) r) (ownHolds s (ownBox s r) k left right)
+    (Answer.Refused Refusal.Form)
+
 -- the letters to each box of a set: one, in the lent place, or none where the set is empty
 abbrev pub lettersIn : Setting → ℕ → List ℕ → List Letter
 lettersIn s to out = cond (eqb to 0) [] (ownLetter s out ∷ [])
@@ -88,3 +107,13 @@ pub record Owned (s : Setting) (o : OwnOutcome) (r out r' out' : List ℕ) (a : 
   pub past-out : drop (letterHead + s .j) out' ≡ drop (letterHead + s .j) out
   pub row-words : length r' ≡ length r
   pub out-words : length out' ≡ length out
+
+-- the outcome o, which sends nothing, on the row r of a box of n with room for J records: it has
+-- become r', which can be read where the call was not refused; a was answered
+pub record Told (n J : ℕ) (o : OwnOutcome) (r r' : List ℕ) (a : Answer) : Type 0 where
+  pub answer : a ≡ o .answer
+  pub box : boxOf n (rowOf J r') ≡ o .next
+  pub kept : isRefusal a ≡ true → r' ≡ r
+  pub reads : isRefusal a ≡ false → rowReads J r' ≡ true
+  pub past-row : drop (headWords + J) r' ≡ drop (headWords + J) r
+  pub row-words : length r' ≡ length r

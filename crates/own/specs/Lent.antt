@@ -9,8 +9,10 @@ use Rattle.rules.specs.Sizes.{mostEpoch, within, sizesForm}
 use Rattle.rules.specs.Sets.{setForm}
 use Rattle.rules.specs.Needs.{Need, need, ruled}
 use Rattle.rules.specs.Form.{formBox, formLetter}
-use Rattle.rules.specs.Box.{turned}
-use Rattle.rules.specs.Own.{OwnOutcome, receivers, lettersOf, ownTurn}
+use Rattle.rules.specs.Box.{Box, turned}
+use Rattle.rules.specs.Own.{OwnOutcome, unmoved, receivers, lettersOf, ownTurn}
+use Rattle.rules.specs.Own.{electedBox, toldNeeds}
+use Rattle.rules.specs.declared.model.Answer.{Answer}
 use Rattle.rules.specs.declared.model.Out.{Out}
 use Rattle.rules.specs.declared.model.Refusal.{Refusal}
 use Rattle.rules.specs.declared.model.Setting.{Setting}
@@ -18,7 +20,7 @@ use Rattle.rules.specs.declared.model.Turn.{Turn}
 use Rattle.letter.specs.Place.{letterAt, placeFits, headWords as letterHead}
 use Rattle.letter.specs.Lent.{Encloses}
 use Rattle.row.specs.Row.{boxOf, headWords}
-use Rattle.row.specs.Lent.{Plays, Played}
+use Rattle.row.specs.Lent.{RowByForm, Plays, Played}
 use Rattle.own.specs.declared.Judged.{Judged}
 use Rattle.own.specs.Entry.{rowOf, ownBox, ownLetter, rowReads, placeReads, buffered}
 
@@ -48,6 +50,17 @@ judged s r p mailed numbers =
     (inOrder (sizesForm (s .n) (s .j) (s .l))
     (formTest s r p mailed) numbers)
     Judged.Passed
+
+-- a box's own row r is by form: it can be told of an election, and asked
+pub record RowLent (s : Setting) (r : List ℕ) : Type 0 where
+  pub words : headWords + s .j ≤ length r
+  pub by-form : RowByForm s (rowOf (s .j) r)
+
+-- what an election of c makes of the box x then
+abbrev pub electedBy : Setting → Box → ℕ → OwnOutcome
+electedBy s x c =
+    ruled (λ why. unmoved x (Answer.Refused why)) (toldNeeds s c)
+    (unmoved (electedBox s c x) Answer.Done)
 
 -- rs has the records of what is sent, and the place p has room for them
 abbrev pub Posts : List ℕ → Out → List ℕ → Type 0

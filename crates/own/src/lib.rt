@@ -32,6 +32,12 @@ use rules::model::Turn;
 use rules::model::Unheard;
 use rules::ranges;
 
+mod told;
+
+pub use told::elected;
+pub use told::fresh;
+pub use told::holds;
+
 // The answer, and the set of boxes that the letter goes to; the set is empty where there is none.
 pub struct Sent {
     pub answer: Answer,

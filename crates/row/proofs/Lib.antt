@@ -5,3 +5,5 @@ pub mod FormLaws
 pub mod StoreLaws
 pub mod BookLaws
 pub mod TurnLaws
+pub mod HeadLaws
+pub mod AgreedLaws

@@ -6,7 +6,7 @@ use mathlib.Core.List.{List}
 use lib.ListN.{length, take, drop, getD}
 use Rattle.words.specs.Rows.{part, splice}
 use Rattle.rules.specs.Sizes.{mostBoxes, mostLoads, unknown}
-use Rattle.rules.specs.Box.{BookFits, written, turned}
+use Rattle.rules.specs.Box.{Box, BookFits, written, turned}
 use Rattle.rules.specs.declared.model.Book.{Book}
 use Rattle.rules.specs.declared.model.Setting.{Setting}
 use Rattle.rules.specs.declared.model.Turn.{Turn}
@@ -42,6 +42,12 @@ pub record RowByForm (s : Setting) (r : List ℕ) : Type 0 where
   pub size : RowSized (s .n) (s .j) r
   pub form : rowForm (s .n) (s .j) (s .me) r ≡ true
   pub me : s .me ≤ mostBoxes
+
+-- the row r has become q, whose box is x
+pub record RowHolds (n J : ℕ) (x : Box) (r q : List ℕ) : Type 0 where
+  pub box : boxOf n q ≡ x
+  pub fits : rowFits J q ≡ true
+  pub words : length q ≡ length r
 
 -- a mail's place in the same site, by form
 pub record PlaceByForm (s : Setting) (p : List ℕ) : Type 0 where

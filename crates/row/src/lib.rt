@@ -7,6 +7,8 @@ ghost use Rattle.words.specs.Rows.{part, splice};
 ghost use Rattle.rules.specs.Sizes.{mostBoxes};
 ghost use Rattle.rules.specs.Numbers.{flagNumber};
 ghost use Rattle.rules.specs.Box.{own, mail, turnOf};
+ghost use Rattle.rules.specs.Site.{freshHead};
+ghost use Rattle.rules.specs.Own.{electedBox};
 ghost use Rattle.letter.specs.Place.{letterAt, headWords as letterHead};
 ghost use Rattle.row.specs.Row.{
   stateOf,
@@ -21,6 +23,7 @@ ghost use Rattle.row.specs.Row.{
 ghost use Rattle.row.specs.Lent.{
   RowReadable,
   RowByForm,
+  RowHolds,
   PlaceByForm,
   recordsOf,
   countAfter,
@@ -44,8 +47,10 @@ use rules::model::Turn;
 use rules::numbers;
 use rules::parts;
 
+mod agreed;
 mod form;
 
+pub use agreed::is_agreed;
 pub use form::head_fault;
 pub use form::is_by_form;
 
@@ -232,6 +237,55 @@ pub fn store(row: &mut [u64], h: BoxState, held: u32)
         values::wide(held),
     ];
     words::copy(&fields, &mut row[0..HEAD]);
+}
+
+fn fresh_head() -> BoxState
+    ensures { λ r. ⌜ r ≡ freshHead ⌝ }
+{
+    BoxState {
+        leads: false,
+        state: State::Recovering,
+        phase: Phase::Election,
+        kept: Kept {
+            pn: 0,
+            last: 0,
+            first: 1,
+            stored: Stored { pn: 0, number: 0 },
+        },
+        best: Best {
+            pn: 0,
+            number: 0,
+            value: 0,
+        },
+        answered: 0,
+        accepts: 0,
+        heard: 0,
+        waiting: 0,
+        agreeing: 0,
+        peers: [4294967295; 5],
+    }
+}
+
+// A fresh box, whatever the words were.
+pub fn fresh(row: &mut [u64])
+    requires { ⌜ headWords ≤ length (now row) ⌝ }
+    ensures { λ _.
+        ⌜ now (row .exit) ≡ wordsOf freshHead 0 ++ drop headWords (now (row .entry)) ⌝ }
+{
+    store(row, fresh_head(), 0);
+}
+
+// The row holds the box when c is elected.
+pub fn elect(row: &mut [u64], s: Setting, c: u32)
+    requires { ⌜ RowByForm s (now row) ⌝ }
+    ensures { λ _.
+        ⌜ RowHolds (s .n) (s .j) (electedBox s c (boxOf (s .n) (now (row .entry))))
+        (now (row .entry)) (now (row .exit)) ⌝ }
+{
+    let held = values::number(row[COUNT]);
+    let head = load(row, s.n);
+    let next = head.elected(s, c);
+    store(row, next, held);
 }
 
 // What a step of its own makes of the box.

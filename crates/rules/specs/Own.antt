@@ -100,17 +100,25 @@ ownNeeds s x numbers more =
     ∷ need Refusal.Box numbers
     ∷ more
 
--- what an election of c makes of the box: s is what there is to know after it, so its epoch is
--- even; "Elect c: .. c present" (3), and 4 of the present set that it is told
+-- the box x of s when c is elected
+abbrev pub electedBox : Setting → ℕ → Box → Box
+electedBox s c x = record { head = elected (x .head) s c; records = x .records }
+
+-- s is what there is to know after an election of c, so its epoch is even; "Elect c: .. c present"
+-- (3), and 4 of the present set that the box is told
+abbrev pub toldNeeds : Setting → ℕ → List Need
+toldNeeds s c =
+    need Refusal.Condition (even (s .epoch))
+    ∷ need Refusal.Condition (has (s .present) c)
+    ∷ need Refusal.Majority (leb (majorityOf (s .n)) (ones (s .present)))
+    ∷ []
+
+-- what the election makes of the box
 unfoldable pub ownElected : Setting → Box → ℕ → OwnOutcome
 ownElected s x c =
     ruled (λ why. unmoved x (Answer.Refused why))
-    (ownNeeds s x (isBox (s .n) (s .me) && isBox (s .n) c)
-    (need Refusal.Condition (even (s .epoch))
-    ∷ need Refusal.Condition (has (s .present) c)
-    ∷ need Refusal.Majority (leb (majorityOf (s .n)) (ones (s .present)))
-    ∷ []))
-    (unmoved (record { head = elected (x .head) s c; records = x .records }) Answer.Done)
+    (ownNeeds s x (isBox (s .n) (s .me) && isBox (s .n) c) (toldNeeds s c))
+    (unmoved (electedBox s c x) Answer.Done)
 
 -- a holds line: 14 where it is untrue
 unfoldable pub ownHolds : Setting → Box → ℕ → ℕ → ℕ → Answer

@@ -49,7 +49,7 @@ pub fn includes_all(w: u32, v: u32) -> bool
 }
 
 // Box k is in the set w.
-pub(crate) fn has(w: u32, k: u32) -> bool
+pub fn has(w: u32, k: u32) -> bool
     requires { ⌜ k ≤ mostBoxes ⌝ }
     ensures { λ r. ⌜ r ≡ has w k ⌝ }
 {

@@ -14,4 +14,3 @@ pub mod HoldsLaws
 pub mod UnheardLaws
 pub mod Once
 pub mod Unformed
-pub mod AgreedLaws

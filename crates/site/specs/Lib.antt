@@ -1,7 +1,6 @@
 -- What the contracts of `site` cite.
 pub mod Entries
 pub mod Verdicts
-pub mod Records
 pub mod General
 pub mod Carry
 pub mod Calls

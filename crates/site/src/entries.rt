@@ -11,7 +11,6 @@ use crate::mail;
 use crate::mail::OnLink;
 use crate::presence;
 use crate::presence::Presence;
-use crate::records;
 use crate::turns;
 use rules::model::Act;
 use rules::model::Answer;
@@ -58,7 +57,7 @@ pub fn holds_formed(site: &[u64], links: &[u64], c: u32, k: u32, left: u32, righ
         return Answer::Refused(Refusal::Box);
     }
     let row = memory::row_of(site, s, c);
-    if records::is_agreed(row, s.n, k, left, right) {
+    if row::is_agreed(row, s, k, left, right) {
         return Answer::Done;
     }
     Answer::Refused(Refusal::Untrue)

@@ -4,7 +4,6 @@ mod elections;
 mod entries;
 mod mail;
 mod presence;
-mod records;
 mod start;
 mod turns;
 mod verdicts;

@@ -1,5 +1,6 @@
 // A box by itself: its row stands in the site, its letters in two trays.
 ghost use Prim.Native.Nat.{_≤_};
+use crate::decimals::Numbers;
 use crate::lent;
 use crate::lent::Lent;
 use crate::see;
@@ -14,6 +15,7 @@ use crate::spots::get;
 use crate::spots::row_at;
 use own::Sent;
 use rules::model::Act;
+use rules::model::Answer;
 use rules::model::Call;
 use rules::model::Setting;
 
@@ -167,4 +169,56 @@ pub(crate) fn line(
         out_before,
         event_of(call),
     );
+}
+
+// A box is started, told of an election, or asked what it holds.
+pub(crate) enum Words {
+    Start,
+    Tell,
+    Ask,
+}
+
+fn told(a: Answer, kept: bool) {
+    show::answer(rules::numbers::answer_number(a), kept);
+    show::text(b"\n");
+}
+
+fn start(z: Lent, site: &mut [u64], before: &[u64], c: u32, n: u32, j: u32, l: u32) {
+    let most = site.len();
+    let a = lent::least(row_at(z.j, c as u64), most);
+    let e = row_end(a, z.j, most);
+    let r = own::fresh(&mut site[a..e], n, j, l);
+    told(r, lent::same(site, before));
+}
+
+fn tell(z: Lent, site: &mut [u64], before: &[u64], c: u32, leader: u32) {
+    let s = setting(site, c);
+    let most = site.len();
+    let a = lent::least(row_at(z.j, c as u64), most);
+    let e = row_end(a, z.j, most);
+    let r = own::elected(&mut site[a..e], s, leader);
+    told(r, lent::same(site, before));
+}
+
+// Nothing can change here: the words are only read.
+fn ask(z: Lent, site: &[u64], c: u32, k: u32, left: u32, right: u32) {
+    let s = setting(site, c);
+    let most = site.len();
+    let a = lent::least(row_at(z.j, c as u64), most);
+    let e = row_end(a, z.j, most);
+    told(own::holds(&site[a..e], s, k, left, right), true);
+}
+
+// `start C N J L`, `tell C LEADER` and `ask C K LEFT RIGHT`, of box C by itself.
+pub(crate) fn words(z: Lent, site: &mut [u64], before: &mut [u64], w: Words, n: Numbers) {
+    lent::copy(site, before);
+    let a = short(n.a);
+    let b = short(n.b);
+    let c = short(n.c);
+    let d = short(n.d);
+    match w {
+        Words::Start => start(z, site, before, a, b, c, d),
+        Words::Tell => tell(z, site, before, c, d),
+        Words::Ask => ask(z, site, a, b, c, d),
+    }
 }

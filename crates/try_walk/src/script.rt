@@ -14,12 +14,14 @@ use lines::Line;
 use std::num::wrapping_add_usize;
 
 // What a line is. Told: text, or so many words that are lent from now on. Put: a word is put. See:
-// a box or a link is shown. Own: an event at a box by itself. Trace: a line of the paper's trace.
+// a box or a link is shown. Own: an event at a box by itself. Alone: it is started, told of an
+// election, or asked. Trace: a line of the paper's trace.
 enum Kind {
     Told(Told),
     Put(Put),
     See(See),
     Own,
+    Alone(alone::Words),
     Trace,
 }
 
@@ -63,6 +65,9 @@ fn kind_of(s: &[u8]) -> Kind {
     let k = or_kind(b"book ", s, Kind::Put(Put::Book), k);
     let k = or_kind(b"box ", s, Kind::See(See::Box), k);
     let k = or_kind(b"mails ", s, Kind::See(See::Mails), k);
+    let k = or_kind(b"start ", s, Kind::Alone(alone::Words::Start), k);
+    let k = or_kind(b"tell ", s, Kind::Alone(alone::Words::Tell), k);
+    let k = or_kind(b"ask ", s, Kind::Alone(alone::Words::Ask), k);
     or_kind(b"own ", s, Kind::Own, k)
 }
 
@@ -188,6 +193,11 @@ fn line(
         }
         Kind::Own => {
             own_line(s, z, site, site_before, letter, out, links_before);
+            z
+        }
+        Kind::Alone(w) => {
+            let m = lent::least(z.site, site.len());
+            alone::words(z, &mut site[0..m], site_before, w, n);
             z
         }
         Kind::Trace => trace_line(s, z, site, links, site_before, links_before),

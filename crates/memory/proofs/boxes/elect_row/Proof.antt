@@ -7,8 +7,8 @@ use Rattle.memory.proofs.RowLaws.{row-sized, row-cut, row-done, elect-t
 use Rattle.memory.proofs.boxes.elect_row.Statement.{statement}
 use Rattle.memory.proofs.boxes.elect_row.Tie as tie
 
-elect-box-requires : tie.Need-elect-box-requires
-elect-box-requires c κs =
+elect-requires : tie.Need-elect-requires
+elect-requires c κs =
     let started = c .before .before in
     let s = started .before .before in
     let t = s .args .s in
@@ -35,13 +35,13 @@ returns c =
     let cut = row-cut t (s .args .b) (s .args .site .now) (s .pre .1 .1 .0) from to in
     row-done t (s .args .b) (s .args .site .now) (s .pre .1 .1 .0) from to (s .pre .0)
     (s .pre .1 .0) _
-    (chosen .elect-box .last .0)
-    (elect-there t (s .args .b) (s .args .c) cut (chosen .elect-box .ensures))
+    (chosen .elect .last .0)
+    (elect-there t (s .args .b) (s .args .c) cut (chosen .elect .ensures))
 
 pub elect-row-spec : {M : Type 1} → statement M
 elect-row-spec =
     tie.close
     (tie.spec
     (λ c κs. search needs) (λ c κs. search needs) (λ c. search needs) (λ c. search needs)
-    (λ c. search needs) (λ c. search needs) (λ c. search needs) elect-box-requires
+    (λ c. search needs) (λ c. search needs) (λ c. search needs) elect-requires
     (λ c. search needs) returns)

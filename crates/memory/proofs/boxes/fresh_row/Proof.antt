@@ -4,14 +4,14 @@ use mathlib.Core.List.{List}
 use Prim.Native.Nat.{ℕ, _+_}
 use lib.ListN.{length}
 use Rattle.rules.specs.Site.{freshBox}
-use Rattle.memory.proofs.RowLaws.{row-sized, row-cut, row-done, fresh-law}
+use Rattle.row.proofs.HeadLaws.{fresh-law}
+use Rattle.memory.proofs.RowLaws.{row-sized, row-cut, row-done}
 use Rattle.memory.proofs.boxes.fresh_row.Statement.{statement}
 use Rattle.memory.proofs.boxes.fresh_row.Tie as tie
 
 returns : tie.Need-returns
 returns c =
-    let stored = c .before .before in
-    let made = stored .before in
+    let made = c .before .before in
     let ended = made .before .before in
     let started = ended .before in
     let s = started .before .before in
@@ -24,9 +24,8 @@ returns c =
     .words in
     row-done t (s .args .b) (s .args .site .now) (s .pre .1 .1) from to (s .pre .0) (s .pre .1 .0)
     freshBox
-    (stored .store .last .0)
-    (fresh-law (t .n) (t .j) _ words (made .fresh-head .result) (stored .store .last .0)
-    (made .fresh-head .ensures) (stored .store .ensures))
+    (made .fresh .last .0)
+    (fresh-law (t .n) (t .j) _ words (made .fresh .last .0) (made .fresh .ensures))
 
 pub fresh-row-spec : {M : Type 1} → statement M
 fresh-row-spec =
@@ -34,4 +33,4 @@ fresh-row-spec =
     (tie.spec
     (λ c κs. search needs) (λ c κs. search needs) (λ c. search needs) (λ c. search needs)
     (λ c. search needs) (λ c. search needs) (λ c. search needs) (λ c κs. search needs)
-    (λ c κs. search needs) (λ c. search needs) returns)
+    (λ c. search needs) returns)

@@ -5,7 +5,7 @@ use Rattle.words.proofs.TestLaws.{passes}
 use Rattle.memory.specs.Memory.{siteOf}
 use Rattle.site.proofs.CallLaws.{holds-no-box}
 use Rattle.site.proofs.KnownLaws.{general-lent, rows-lent, not-box, AtBox, at-box, knows}
-use Rattle.site.proofs.HoldsLaws.{row-lies, holds-yes, holds-no}
+use Rattle.site.proofs.HoldsLaws.{row-here, holds-yes, holds-no}
 use Rattle.site.proofs.entries.holds_formed.Statement.{statement}
 use Rattle.site.proofs.entries.holds_formed.Tie as tie
 
@@ -52,4 +52,4 @@ holds-formed-spec =
     tie.close
     (tie.spec
     (λ c κs. general-lent _ _ (c .before .before .pre)) (λ c κs. search needs) returns
-    row-of-requires (λ c κs. row-lies (known (c .before)) (c .row-of .ensures)) returns-2 returns-3)
+    row-of-requires (λ c κs. row-here (known (c .before)) (c .row-of .ensures)) returns-2 returns-3)

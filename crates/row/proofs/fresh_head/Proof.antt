@@ -1,7 +1,7 @@
 use mathlib.Core.Path.{refl}
 use Rattle.rules.specs.Site.{freshHead}
-use Rattle.memory.proofs.boxes.fresh_head.Statement.{statement}
-use Rattle.memory.proofs.boxes.fresh_head.Tie as tie
+use Rattle.row.proofs.fresh_head.Statement.{statement}
+use Rattle.row.proofs.fresh_head.Tie as tie
 
 returns : tie.Need-returns
 unfolding freshHead

@@ -1,9 +1,9 @@
 use borrow.Author.Needs.{needs}
 use native.Mathlib.Omega.{arith}
 use Rattle.row.proofs.TurnLaws.{row-formed}
-use Rattle.memory.proofs.RowLaws.{elect-law}
-use Rattle.memory.proofs.boxes.elect_box.Statement.{statement}
-use Rattle.memory.proofs.boxes.elect_box.Tie as tie
+use Rattle.row.proofs.HeadLaws.{elect-law}
+use Rattle.row.proofs.elect.Statement.{statement}
+use Rattle.row.proofs.elect.Tie as tie
 
 number-requires : tie.Need-number-requires
 number-requires c κs =
@@ -28,8 +28,8 @@ returns c =
     (read .number .result) (stored .store .last .0) (loaded .load .ensures)
     (chosen .elected .ensures) (read .number .ensures) (stored .store .ensures)
 
-pub elect-box-spec : {M : Type 1} → statement M
-elect-box-spec =
+pub elect-spec : {M : Type 1} → statement M
+elect-spec =
     tie.close
     (tie.spec
     (λ c. search needs) number-requires load-requires (λ c κs. search needs) (λ c κs. search needs)
