@@ -1,7 +1,7 @@
 -- Laws of a line's answer: what is kept, printed, and what comes after it.
 use Prim.Native.Nat.{ℕ, _+_, _≤_}
 use mathlib.Core.Path.{_≡_, refl, ap, sym, _∙_, subst}
-use mathlib.Core.Bool.{true, false}
+use mathlib.Core.Bool.{Bool, true, false, cond}
 use mathlib.Core.List.{List, []}
 use native.Mathlib.Omega.{arith}
 use lib.ListN.{take}
@@ -22,11 +22,12 @@ use Rattle.trace.specs.Replay.{Run, ended, Told, done, told, opened, judged, mo
 use Rattle.trace.specs.Replay.{lasts, toldText, toldNext, lineText, lineNext}
 use Rattle.trace.proofs.FirstRefused.{told-done}
 use Rattle.feed.specs.State.{Course, toldSite, lineSite, courseNext, courseText, runOf}
-use Rattle.feed.specs.State.{courseOf, feedingOf, Lent}
+use Rattle.feed.specs.State.{courseOf, feedingOf, Lent, toldMark, lineMark, courseMark}
 use Rattle.feed.specs.Says.{Rowed, Answers, Finishes, Keeps, Turns, answerMost}
 use Rattle.feed.specs.declared.state.Feed.{Feed}
 use Rattle.feed.specs.declared.state.Stage.{Stage}
 use Rattle.feed.specs.declared.state.Turn.{Turn}
+use Rattle.feed.proofs.PastLaws.{some-not-none}
 
 pub keeps-is : (f g : Feed) (p : List ℕ) → g .stage ≡ f .stage → g .k ≡ f .k
     → take (g .len) (g .line) ≡ hold (take (f .len) (f .line)) p → Keeps f p g
@@ -58,6 +59,7 @@ finish-done k next a xs line e n w =
           (sym (told-done a (siteOf xs ls) e));
       wrote = λ ls. spelled (ap (toldText k) (sym (told-done a (siteOf xs ls) e))) w;
       form = λ ls h. h e;
+      stage = ap (λ (b : Bool). cond b Stage.Ended Stage.Going) (sym e);
     }
 
 refused-text : (k : ℕ) (a : Answer) (s : Site) → isRefusal a ≡ true
@@ -80,6 +82,7 @@ finish-refused k c a xs line e n w =
       wrote = λ ls. at-most (omega arith)
           (spelled (ap (refusedText k) n ∙ sym (refused-text k a (siteOf xs ls) e .0)) w);
       form = λ ls h. refl;
+      stage = ap (λ (b : Bool). cond b Stage.Ended Stage.Going) (sym e);
     }
 
 -- ---- what the printing needs
@@ -103,17 +106,39 @@ in-time k s l a {xs' = xs'} {ls' = ls'} w h =
 
 -- ---- the whole turn
 
+-- a line without a mark was refused
+unmarked : (a : Answer) (s : Site) → toldMark (told a s) ≡ [] → isRefusal a ≡ true
+unfolding toldMark
+unmarked Answer.Done s e = absurd (some-not-none 1 [] e)
+unmarked Answer.Taken s e = absurd (some-not-none 1 [] e)
+unmarked (Answer.Discarded why) s e = absurd (some-not-none 1 [] e)
+unmarked (Answer.Refused why) s e = refl
+
+abbrev isFirst : Stage → Bool
+isFirst Stage.First = true
+isFirst Stage.Going = false
+isFirst Stage.Ended = false
+
+not-first : (t : Stage) → isFirst t ≡ false → t ≡ Stage.First → ⊥
+not-first t e f = both-no refl (ap isFirst (sym f) ∙ e)
+
+no-more-first : (b : Bool) → isFirst (cond b Stage.Ended Stage.Going) ≡ false
+no-more-first true = refl
+no-more-first false = refl
+
 pub answer-turn : (f : Feed) (xs ls xs' ls' : List ℕ) {x y : List ℕ} {at : ℕ} (l : Line)
     (a : Answer) (t : Turn) (k : ℕ) (q : Told)
     → lineText (runOf (f .stage) (f .k) (siteOf xs ls)) l ≡ toldText k q
+    → lineMark (runOf (f .stage) (f .k) (siteOf xs ls)) l ≡ toldMark q
     → lineNext (runOf (f .stage) (f .k) (siteOf xs ls)) l ≡ toldNext k q
     → lineSite (runOf (f .stage) (f .k) (siteOf xs ls)) (siteOf xs ls) l ≡ toldSite (siteOf xs ls) q
     → l ≡ readLine (take (f .len) (f .line)) → Answers q xs ls xs' ls' a
     → Finishes k a xs' x y at t → Lent (f .stage) xs ls
     → Turns (answered courseNext (feedingOf f xs ls))
     (lineText (runOf (f .stage) (f .k) (siteOf xs ls)) (readLine (take (f .len) (f .line))))
+    (lineMark (runOf (f .stage) (f .k) (siteOf xs ls)) (readLine (take (f .len) (f .line))))
     xs ls xs' ls' x y at t
-answer-turn f xs ls xs' ls' l a t k q et en es r w v h =
+answer-turn f xs ls xs' ls' l a t k q et em en es r w v h =
     let run = runOf (f .stage) (f .k) (siteOf xs ls) in
     let now = siteOf xs ls in
     record {
@@ -130,6 +155,12 @@ answer-turn f xs ls xs' ls' l a t k q et en es r w v h =
           })
           r)));
       wrote = spelled (ap (toldText k) (w .answer) ∙ (sym et ∙ ap (lineText run) r)) (v .wrote ls');
+      kept = λ none.
+          w .kept (unmarked a (siteOf xs' ls')
+          (ap toldMark (w .answer) ∙ (sym em ∙ (ap (lineMark run) r ∙ none))));
+      past = w .past;
+      later =
+          not-first (t .feed .stage) (ap isFirst (v .stage) ∙ no-more-first (isRefusal a));
       lent = record {
         site = subst (λ (n : ℕ). siteWords 5 32 ≤ n) (sym (w .site)) (h .site);
         links = subst (λ (n : ℕ). linksWords 5 32 8 ≤ n) (sym (w .links)) (h .links);
@@ -145,11 +176,13 @@ pub answer-first : (f : Feed) (xs ls xs' ls' : List ℕ) {x y : List ℕ} {at : 
     → Answers (opened l) xs ls xs' ls' a → Finishes 1 a xs' x y at t → Lent (f .stage) xs ls
     → Turns (answered courseNext (feedingOf f xs ls))
     (lineText (runOf (f .stage) (f .k) (siteOf xs ls)) (readLine (take (f .len) (f .line))))
+    (lineMark (runOf (f .stage) (f .k) (siteOf xs ls)) (readLine (take (f .len) (f .line))))
     xs ls xs' ls' x y at t
-unfolding lineText lineNext lineSite
+unfolding lineText lineMark lineNext lineSite
 answer-first f xs ls xs' ls' l a t e r w v h =
     answer-turn f xs ls xs' ls' l a t 1 (opened l)
     (ap (λ (s : Stage). lineText (runOf s (f .k) (siteOf xs ls)) l) e)
+    (ap (λ (s : Stage). lineMark (runOf s (f .k) (siteOf xs ls)) l) e)
     (ap (λ (s : Stage). lineNext (runOf s (f .k) (siteOf xs ls)) l) e)
     (ap (λ (s : Stage). lineSite (runOf s (f .k) (siteOf xs ls)) (siteOf xs ls) l) e) r w v h
 
@@ -158,20 +191,23 @@ pub answer-going : (f : Feed) (xs ls xs' ls' : List ℕ) {x y : List ℕ} {at : 
     → Answers (judged (f .k) (siteOf xs ls) l) xs ls xs' ls' a → Finishes (f .k) a xs' x y at t
     → Lent (f .stage) xs ls → Turns (answered courseNext (feedingOf f xs ls))
     (lineText (runOf (f .stage) (f .k) (siteOf xs ls)) (readLine (take (f .len) (f .line))))
+    (lineMark (runOf (f .stage) (f .k) (siteOf xs ls)) (readLine (take (f .len) (f .line))))
     xs ls xs' ls' x y at t
-unfolding lineText lineNext lineSite
+unfolding lineText lineMark lineNext lineSite
 answer-going f xs ls xs' ls' l a t e r w v h =
     answer-turn f xs ls xs' ls' l a t (f .k) (judged (f .k) (siteOf xs ls) l)
     (ap (λ (s : Stage). lineText (runOf s (f .k) (siteOf xs ls)) l) e)
+    (ap (λ (s : Stage). lineMark (runOf s (f .k) (siteOf xs ls)) l) e)
     (ap (λ (s : Stage). lineNext (runOf s (f .k) (siteOf xs ls)) l) e)
     (ap (λ (s : Stage). lineSite (runOf s (f .k) (siteOf xs ls)) (siteOf xs ls) l) e) r w v h
 
 pub answer-ended : (f : Feed) (xs ls x line : List ℕ) (k at : ℕ) → f .stage ≡ Stage.Ended
     → Lent (f .stage) xs ls → Turns (answered courseNext (feedingOf f xs ls))
     (lineText (runOf (f .stage) (f .k) (siteOf xs ls)) (readLine (take (f .len) (f .line))))
+    (lineMark (runOf (f .stage) (f .k) (siteOf xs ls)) (readLine (take (f .len) (f .line))))
     xs ls xs ls x x at
     (record { feed = record { stage = Stage.Ended; k = k; len = 0; line = line }; at = at })
-unfolding lineText lineNext lineSite
+unfolding lineText lineMark lineNext lineSite
 answer-ended f xs ls x line k at e h =
     let l = readLine (take (f .len) (f .line)) in
     record {
@@ -181,6 +217,9 @@ answer-ended f xs ls x line k at e h =
           (sym e);
       wrote =
           spelled (ap (λ (s : Stage). lineText (runOf s (f .k) (siteOf xs ls)) l) (sym e)) nothing;
+      kept = λ none. (refl, refl);
+      past = record { site = refl; links = refl };
+      later = not-first Stage.Ended refl;
       lent = record { site = h .site; links = h .links; form = refl };
       site = refl;
       links = refl;
@@ -193,10 +232,14 @@ lent-as {s} {t} {xs} {ls} e h = subst (λ (u : Stage). Lent u xs ls) e h
 pub line-turn : (f g : Feed) (p xs ls xs' ls' : List ℕ) {x y : List ℕ} {at : ℕ} (t : Turn)
     → Keeps f p g → Turns (answered courseNext (feedingOf g xs ls))
     (lineText (runOf (g .stage) (g .k) (siteOf xs ls)) (readLine (take (g .len) (g .line))))
+    (lineMark (runOf (g .stage) (g .k) (siteOf xs ls)) (readLine (take (g .len) (g .line))))
     xs ls xs' ls' x y at t → Turns (answered courseNext (holding (feedingOf f xs ls) p))
     (lineText (runOf (f .stage) (f .k) (siteOf xs ls)) (readLine (hold (take (f .len) (f .line))
+    p)))
+    (lineMark (runOf (f .stage) (f .k) (siteOf xs ls)) (readLine (hold (take (f .len) (f .line))
     p))) xs ls xs' ls' x y at t
 line-turn f g p xs ls xs' ls' {x} {y} {at} t w v =
     subst (λ (s : Feeding Course).
-    Turns (answered courseNext s) (courseText (s .run) (readLine (s .held))) xs ls xs' ls' x y at t)
+    Turns (answered courseNext s) (courseText (s .run) (readLine (s .held)))
+    (courseMark (s .run) (readLine (s .held))) xs ls xs' ls' x y at t)
     (w .next xs ls) v

@@ -18,14 +18,14 @@ use Rattle.rules.specs.declared.model.Refusal.{Refusal}
 use Rattle.laws.proofs.Logic.{Or, and-yes, and-both, or-cases, or-no}
 use Rattle.laws.proofs.Logic.{both-no}
 use Rattle.laws.proofs.FormLaws.{sizes-says}
-use Rattle.memory.specs.Memory.{siteWords, linksWords, siteOf, memoryForm}
+use Rattle.memory.specs.Memory.{siteWords, linksWords, pastSite, pastLinks, siteOf, memoryForm}
 use Rattle.rules.specs.Answers.{isRefusal}
-use Rattle.site.specs.Entries.{FormedStep, FreshMade, freshOn}
+use Rattle.site.specs.Entries.{After, FormedStep, FreshMade, freshOn}
 use Rattle.site.proofs.AfterLaws.{no-needs, need-met, need-not}
 use Rattle.lines.specs.declared.Line.{Line}
 use Rattle.trace.specs.Replay.{Told, refused, told, traceSizes, opened, played, judged, mostLines}
 use Rattle.trace.specs.Stops.{opens, plays}
-use Rattle.feed.specs.State.{toldSite}
+use Rattle.feed.specs.State.{toldSite, Past}
 use Rattle.feed.specs.Says.{Answers}
 use Rattle.feed.proofs.EntryLaws.{either}
 use Rattle.letter.specs.Place.{headWords as letterHead}
@@ -55,9 +55,25 @@ stays t xs ls why e = record {
   answer = sym e;
   holds = ap (toldSite (siteOf xs ls)) (sym e);
   form = λ h. absurd (both-no refl h);
+  kept = λ h. (refl, refl);
+  past = record { site = refl; links = refl };
   site = refl;
   links = refl;
 }
+
+-- what the engine leaves past the site's own words
+past-after : {o : Outcome} {xs ls xs' ls' : List ℕ} {a : Answer} → After o xs ls xs' ls' a
+    → Past xs ls xs' ls'
+past-after {o} {xs} {ls} {xs'} {ls'} w = let s = sym (w .site) in
+    record {
+      site =
+          subst (λ (z : Site). pastSite (z .n) (z .J) xs' ≡ pastSite (z .n) (z .J) xs) s
+          (w .past-site);
+      links =
+          subst
+          (λ (z : Site). pastLinks (z .n) (z .J) (z .L) ls' ≡ pastLinks (z .n) (z .J) (z .L) ls) s
+          (w .past-links);
+    }
 
 pub past-last : (k : ℕ) (xs ls : List ℕ) (l : Line) → mostLines < k
     → Answers (judged k (siteOf xs ls) l) xs ls xs ls (Answer.Refused Refusal.Line)
@@ -79,10 +95,11 @@ module _ (k : ℕ) (xs ls : List ℕ) (h : k ≤ mostLines) where
 
   stepped : (xs' ls' : List ℕ) (c : Call) (a : Answer) → a ≡ step (siteOf xs ls) c .answer
       → siteOf xs' ls' ≡ step (siteOf xs ls) c .next → memoryForm xs' ls' ≡ true
-      → (isRefusal a ≡ true → (xs' ≡ xs) × (ls' ≡ ls)) → length xs' ≡ length xs
-      → length ls' ≡ length ls → Answers (judged k (siteOf xs ls) (Line.Call c)) xs ls xs' ls' a
+      → (isRefusal a ≡ true → (xs' ≡ xs) × (ls' ≡ ls)) → Past xs ls xs' ls'
+      → length xs' ≡ length xs → length ls' ≡ length ls
+      → Answers (judged k (siteOf xs ls) (Line.Call c)) xs ls xs' ls' a
   unfolding played
-  stepped xs' ls' c a ea es f kept p q =
+  stepped xs' ls' c a ea es f kept past p q =
       let e : told a (siteOf xs' ls') ≡ judged k (siteOf xs ls) (Line.Call c) =
       ap (λ (b : Answer). told b (siteOf xs' ls')) ea
       ∙ (ap (told (step (siteOf xs ls) c .answer)) es ∙ sym (in-time (Line.Call c))) in
@@ -90,6 +107,8 @@ module _ (k : ℕ) (xs ls : List ℕ) (h : k ≤ mostLines) where
         answer = e;
         holds = held-by a (judged k (siteOf xs ls) (Line.Call c)) xs ls xs' ls' e kept;
         form = λ e. f;
+        kept = kept;
+        past = past;
         site = p;
         links = q;
       }
@@ -100,7 +119,7 @@ module _ (k : ℕ) (xs ls : List ℕ) (h : k ≤ mostLines) where
       let o = w .after in
       as-told (ap (judged k (siteOf xs ls)) (sym e))
       (stepped xs' ls' c a (o .answer) (o .site) (w .form) (o .kept)
-      (o .site-words) (o .links-words))
+      (past-after o) (o .site-words) (o .links-words))
 
   held : (c i left right : ℕ) (a : Answer) → a ≡ holds (siteOf xs ls) c i left right
       → memoryForm xs ls ≡ true
@@ -114,6 +133,8 @@ module _ (k : ℕ) (xs ls : List ℕ) (h : k ≤ mostLines) where
         answer = d;
         holds = held-by a (judged k (siteOf xs ls) l) xs ls xs ls d (λ no. (refl, refl));
         form = λ d. f;
+        kept = λ no. (refl, refl);
+        past = record { site = refl; links = refl };
         site = refl;
         links = refl;
       }
@@ -133,10 +154,10 @@ module _ (k : ℕ) (xs ls : List ℕ) (h : k ≤ mostLines) where
 -- a site line
 founded : (n J L : ℕ) (xs ls xs' ls' : List ℕ) (a : Answer) → sizesForm n J L ≡ true → J ≤ 32
     → L ≤ 8 → a ≡ Answer.Done → siteOf xs' ls' ≡ fresh n J L → memoryForm xs' ls' ≡ true
-    → length xs' ≡ length xs → length ls' ≡ length ls
+    → Past xs ls xs' ls' → length xs' ≡ length xs → length ls' ≡ length ls
     → Answers (opened (Line.Site n J L)) xs ls xs' ls' a
 unfolding opened traceSizes
-founded n J L xs ls xs' ls' a s hj hl ea es f p q =
+founded n J L xs ls xs' ls' a s hj hl ea es f past p q =
     let e : told a (siteOf xs' ls') ≡ opened (Line.Site n J L) =
     ap (λ (b : Answer). told b (siteOf xs' ls')) ea ∙ (ap (told Answer.Done) es
     ∙ sym (pick-true _ _ _ (and-both (and-both s (le-leb J 32 hj)) (le-leb L 8 hl)))) in
@@ -146,6 +167,8 @@ founded n J L xs ls xs' ls' a s hj hl ea es f p q =
           held-by a (opened (Line.Site n J L)) xs ls xs' ls' e
           (λ no. absurd (both-no no (ap isRefusal ea)));
       form = λ e. f;
+      kept = λ no. absurd (both-no no (ap isRefusal ea));
+      past = past;
       site = p;
       links = q;
     }
@@ -201,7 +224,7 @@ module _ (n J L : ℕ) (xs ls xs' ls' : List ℕ) (a : Answer) (w : FreshMade n 
         (le-leb _ _ (links-enough n J L (length ls) (z .few-boxes) j l hl))) ∙ no-needs _ _ in
         let done : a ≡ Answer.Done = o .answer ∙ ap (λ (r : Outcome). r .answer) is in
         founded n J L xs ls xs' ls' a s j l done (o .site ∙ ap (λ (r : Outcome). r .next) is)
-        (w .form (ap isRefusal done)) (o .site-words) (o .links-words)
+        (w .form (ap isRefusal done)) (past-after o) (o .site-words) (o .links-words)
 
     open-bad : sizesForm n J L ≡ false → Answers (opened (Line.Site n J L)) xs ls xs' ls' a
     unfolding freshOn opened traceSizes
@@ -218,6 +241,8 @@ module _ (n J L : ℕ) (xs ls xs' ls' : List ℕ) (a : Answer) (w : FreshMade n 
               held-by a (opened (Line.Site n J L)) xs ls xs' ls' e
               (o .kept);
           form = λ r. absurd (both-no (ap isRefusal b) r);
+          kept = o .kept;
+          past = past-after o;
           site = o .site-words;
           links = o .links-words;
         }

@@ -9,7 +9,7 @@ use borrow.Author.Tests.{le-leb, lt-leb, leb-true}
 use Rattle.rules.specs.Answers.{isRefusal}
 use Rattle.rules.specs.declared.model.Answer.{Answer}
 use Rattle.rules.specs.declared.model.Refusal.{Refusal}
-use Rattle.laws.proofs.Logic.{and-yes, both-no}
+use Rattle.laws.proofs.Logic.{and-yes, and-both, both-no}
 use Rattle.memory.specs.Memory.{siteWords, linksWords}
 use Rattle.site.proofs.AfterLaws.{no-needs, need-met, need-not}
 use Rattle.print.specs.Text.{Wrote}
@@ -76,6 +76,15 @@ module _ (f : Feed) (piece xs ls x : List ℕ) where
     fed = λ a. w;
     kept = λ a. absurd (both-no a (ap isRefusal (w .answer)));
   }
+
+  -- what `feed_formed` is required of and says is what `feed_piece` says, where one answer has room
+  pub formed-piece : (xs' ls' y : List ℕ) (g : Fed) → Lent (f .stage) xs ls
+      → answerMost ≤ length x → Feeds f piece xs ls xs' ls' x y g
+      → PieceFed f piece xs ls xs' ls' x y g
+  unfolding hasRoom
+  formed-piece xs' ls' y g lent room =
+      well-fed xs' ls' y g (lent .form)
+      (and-both (and-both (le-leb _ _ (lent .site)) (le-leb _ _ (lent .links))) (le-leb _ _ room))
 
 -- ---- the end
 

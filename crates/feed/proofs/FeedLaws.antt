@@ -26,12 +26,14 @@ use Rattle.trace.specs.Feeding.{feedNext, feedText, endText}
 use Rattle.trace.specs.Replay.{Told, opened, played, judged, toldText, lineText}
 use Rattle.trace.proofs.Pieces.{next-append, text-append, plain-next, plain-text, line-next}
 use Rattle.trace.proofs.Pieces.{line-text, feed-held}
-use Rattle.feed.specs.State.{Course, courseNext, courseText, runOf, feedingOf, Lent}
+use Rattle.feed.specs.State.{Course, courseNext, courseText, lineMark, courseMark, runOf}
+use Rattle.feed.specs.State.{feedingOf, NoneDone, Untouched, Past, Lent}
 use Rattle.feed.specs.Says.{LineEnd, Keeps, Turns, Feeds, taken, answerMost}
 use Rattle.feed.specs.declared.state.Feed.{Feed}
 use Rattle.feed.specs.declared.state.Stage.{Stage}
 use Rattle.feed.specs.declared.state.Turn.{Turn}
 use Rattle.feed.proofs.HeldLaws.{part-more}
+use Rattle.feed.proofs.PastLaws.{none-both, past-on}
 
 -- ---- cuts of a piece
 
@@ -123,6 +125,9 @@ pub record Kept (s : Feeding Course) (piece xs₀ ls₀ xs ls before after : Lis
       (feedText courseNext courseText s (take i piece))
   pub left : taken (length before) s piece
       ≡ i + taken (length before - at) (feedNext courseNext s (take i piece)) (drop i piece)
+  pub kept : NoneDone s (take i piece) → Untouched xs₀ ls₀ xs ls
+  pub past : Past xs₀ ls₀ xs ls
+  pub first : g .stage ≡ Stage.First → Untouched xs₀ ls₀ xs ls
   pub lent : Lent (g .stage) xs ls
   pub site : length xs ≡ length xs₀
   pub links : length ls ≡ length ls₀
@@ -152,6 +157,9 @@ kept-none f piece xs ls x n e w h = record {
   left =
       let z : length x ≡ length x - 0 = omega arith in
       ap (λ (r : ℕ). taken r (feedingOf f xs ls) piece) z ∙ none-before _;
+  kept = λ none. (refl, refl);
+  past = record { site = refl; links = refl };
+  first = λ e. (refl, refl);
   lent = h;
   site = refl;
   links = refl;
@@ -162,6 +170,8 @@ pub kept-more : (s : Feeding Course) (piece xs₀ ls₀ xs ls xs' ls' : List ℕ
     → e < n → answerMost ≤ length x - at → Kept s piece xs₀ ls₀ xs ls x y n i e g at
     → Turns (answered courseNext (holding (feedingOf g xs ls) (part piece i (e - i))))
     (lineText (runOf (g .stage) (g .k) (siteOf xs ls))
+    (readLine (hold (take (g .len) (g .line)) (part piece i (e - i)))))
+    (lineMark (runOf (g .stage) (g .k) (siteOf xs ls))
     (readLine (hold (take (g .len) (g .line)) (part piece i (e - i))))) xs ls xs' ls' y z at t
     → LineEnd piece (e + 1) n e' → Kept s piece xs₀ ls₀ xs' ls' x z n (e + 1) e' (t .feed) (t .at)
 kept-more s piece xs₀ ls₀ xs ls xs' ls' {x} {y} {z} n i e e' g {at} t short all l free k w more =
@@ -204,6 +214,19 @@ kept-more s piece xs₀ ls₀ xs ls xs' ls' {x} {y} {z} n i e e' g {at} t short 
           (fitted (omega (arith, w .wrote .few)) (then (k .wrote) (w .wrote)));
       left =
           sum _ (k .left) rest (part-length piece i e (k .end .from) (omega arith)) (k .end .from);
+      kept = λ none.
+          let both =
+          none-both _ _ (sym (text-append courseNext courseMark s (take i piece) (p ++ (10 ∷ [])))
+          ∙ (ap (feedText courseNext courseMark s) (sym cut) ∙ none)) in
+          let old = k .kept (both .0) in
+          let new = w .kept (ap (λ (u : Feeding Course).
+          courseMark (u .run) (readLine (hold (u .held) p))) (k .next)
+          ∙ (sym (line-text courseNext courseMark p q few (k .end .plain)) ∙ both .1)) in
+          (new .0 ∙ old .0, new .1 ∙ old .1);
+      past =
+          past-on (w .past) (g .stage) (g .k) _ (k .first) (k .past)
+          (ap (λ (u : Feeding Course). u .run .site) (w .next));
+      first = λ f. absurd (w .later f);
       lent = w .lent;
       site = w .site ∙ k .site;
       links = w .links ∙ k .links;
@@ -263,14 +286,14 @@ kept-all f piece xs₀ ls₀ xs ls {x} {y} n i e g h {at} short all stop k w =
     let q = feedNext courseNext s (take i piece) in
     let few : length (q .held) ≤ 65 = feed-held courseNext courseText (take i piece) s short in
     let cut : take e piece ≡ take i piece ++ p = take-on piece i e (k .end .from) in
-    let text : feedText courseNext courseText s (take e piece)
-    ≡ feedText courseNext courseText s (take i piece) = ap (feedText courseNext courseText s) cut
-    ∙ (text-append courseNext courseText s (take i piece) p
-    ∙ (ap (λ (u : List ℕ). feedText courseNext courseText s (take i piece) ++ u)
-    (plain-text courseNext courseText p q (k .end .plain))
-    ∙ append-nil (feedText courseNext courseText s (take i piece)))) in
+    let same : (t : Course → Line → List ℕ) → feedText courseNext t s (take e piece)
+    ≡ feedText courseNext t s (take i piece) = λ t. ap (feedText courseNext t s) cut
+    ∙ (text-append courseNext t s (take i piece) p
+    ∙ (ap (λ (u : List ℕ). feedText courseNext t s (take i piece) ++ u)
+    (plain-text courseNext t p q (k .end .plain))
+    ∙ append-nil (feedText courseNext t s (take i piece)))) in
     let v : Wrote (length x) x y 0 at (feedText courseNext courseText s (take e piece)) =
-    spelled (sym text) (k .wrote) in
+    spelled (sym (same courseText)) (k .wrote) in
     record {
       answer = refl;
       took = sym (took-is s piece xs₀ ls₀ xs ls n i e g all stop k);
@@ -282,6 +305,8 @@ kept-all f piece xs₀ ls₀ xs ls {x} {y} n i e g h {at} short all stop k w =
       bytes = v .bytes;
       end = omega (arith, v .end);
       fits = omega (arith, v .few, v .room);
+      kept = λ none. k .kept (sym (same courseMark) ∙ none);
+      past = k .past;
       lent = subst (λ (u : Stage). Lent u xs ls) (sym (w .stage)) (k .lent);
       site = k .site;
       links = k .links;

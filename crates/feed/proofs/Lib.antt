@@ -1,6 +1,7 @@
 -- Laws of the feeding.
 pub mod HeldLaws
 pub mod TellLaws
+pub mod PastLaws
 pub mod EngineLaws
 pub mod AnswerLaws
 pub mod FeedLaws

@@ -1,7 +1,7 @@
 -- What each function of the feeding says.
 use Prim.Native.Nat.{ℕ, suc, _-_, _≤_, _<_}
 use mathlib.Core.Path.{_≡_}
-use mathlib.Core.Bool.{true, false, _&&_}
+use mathlib.Core.Bool.{true, false, _&&_, cond}
 use mathlib.Core.List.{List, [], _∷_}
 use lib.Dec.{eqb, ltb}
 use lib.ListN.{length, take, getD}
@@ -17,9 +17,10 @@ use Rattle.trace.specs.Feeding.{Feeding, plain, holding, byteNext, byteText, fe
 use Rattle.trace.specs.Feeding.{feedText}
 use Rattle.trace.specs.Replay.{Told, told, toldText, toldNext}
 use Rattle.feed.specs.State.{Course, toldSite, courseNext, courseText, feedingOf, formed}
-use Rattle.feed.specs.State.{Lent}
+use Rattle.feed.specs.State.{Lent, NoneDone, Untouched, Past}
 use Rattle.feed.specs.declared.state.Feed.{Feed}
 use Rattle.feed.specs.declared.state.Fed.{Fed}
+use Rattle.feed.specs.declared.state.Stage.{Stage}
 use Rattle.feed.specs.declared.state.Turn.{Turn}
 
 -- the longest answer: two numbers and five lasts, each of at most 20 digits, spaces and a newline
@@ -52,6 +53,8 @@ pub record Answers (t : Told) (xs ls xs' ls' : List ℕ) (a : Answer) : Type 0 w
   pub answer : told a (siteOf xs' ls') ≡ t
   pub holds : siteOf xs' ls' ≡ toldSite (siteOf xs ls) t
   pub form : isRefusal a ≡ false → memoryForm xs' ls' ≡ true
+  pub kept : isRefusal a ≡ true → Untouched xs ls xs' ls'
+  pub past : Past xs ls xs' ls'
   pub site : length xs' ≡ length xs
   pub links : length ls' ≡ length ls
 
@@ -67,17 +70,21 @@ pub record Finishes (k : ℕ) (a : Answer) (xs before after : List ℕ) (at : �
         → Wrote answerMost before after at (t .at) (toldText k (told a (siteOf xs ls)))
     pub form : (ls : List ℕ) → (isRefusal a ≡ false → memoryForm xs ls ≡ true)
         → formed (t .feed .stage) xs ls ≡ true
+    pub stage : t .feed .stage ≡ cond (isRefusal a) Stage.Ended Stage.Going
 
 -- the line that has begun went on with p
 pub record Keeps (f : Feed) (p : List ℕ) (g : Feed) : Type 0 where
   pub next : (xs ls : List ℕ) → feedingOf g xs ls ≡ holding (feedingOf f xs ls) p
   pub stage : g .stage ≡ f .stage
 
--- the state after a line is s, and its text was written
-pub record Turns (s : Feeding Course) (text xs ls xs' ls' before after : List ℕ) (at : ℕ) (t : Turn)
-    : Type 0 where
+-- the state after a line is s, and its text was written; where it has no mark it was not done
+pub record Turns (s : Feeding Course) (text mark xs ls xs' ls' before after : List ℕ) (at : ℕ)
+    (t : Turn) : Type 0 where
   pub next : feedingOf (t .feed) xs' ls' ≡ s
   pub wrote : Wrote answerMost before after at (t .at) text
+  pub kept : mark ≡ [] → Untouched xs ls xs' ls'
+  pub past : Past xs ls xs' ls'
+  pub later : t .feed .stage ≡ Stage.First → ⊥
   pub lent : Lent (t .feed .stage) xs' ls'
   pub site : length xs' ≡ length xs
   pub links : length ls' ≡ length ls
@@ -93,6 +100,8 @@ pub record Feeds (f : Feed) (piece xs ls xs' ls' before after : List ℕ) (g : F
   pub end : g .at
       ≡ length (feedText courseNext courseText (feedingOf f xs ls) (take (g .took) piece))
   pub fits : g .at ≤ length after
+  pub kept : NoneDone (feedingOf f xs ls) (take (g .took) piece) → Untouched xs ls xs' ls'
+  pub past : Past xs ls xs' ls'
   pub lent : Lent (g .feed .stage) xs' ls'
   pub site : length xs' ≡ length xs
   pub links : length ls' ≡ length ls

@@ -2,12 +2,12 @@
 use Prim.Native.Nat.{ℕ, _≤_}
 use mathlib.Core.Path.{_≡_}
 use mathlib.Core.Bool.{Bool, true, false}
-use mathlib.Core.List.{List, []}
+use mathlib.Core.List.{List, [], _∷_}
 use lib.ListN.{length, take}
 use Rattle.rules.specs.Site.{Site}
-use Rattle.memory.specs.Memory.{siteWords, linksWords, siteOf, memoryForm}
+use Rattle.memory.specs.Memory.{siteWords, linksWords, pastSite, pastLinks, siteOf, memoryForm}
 use Rattle.lines.specs.declared.Line.{Line}
-use Rattle.trace.specs.Feeding.{Feeding}
+use Rattle.trace.specs.Feeding.{Feeding, feedText}
 use Rattle.trace.specs.Replay.{Run, first, going, ended, Told, done, refused, opened, judged}
 use Rattle.trace.specs.Replay.{lineNext, lineText}
 use Rattle.feed.specs.declared.state.Feed.{Feed}
@@ -34,6 +34,35 @@ courseNext c l = record { run = lineNext (c .run) l; site = lineSite (c .run) (c
 
 abbrev pub courseText : Course → Line → List ℕ
 courseText c l = lineText (c .run) l
+
+-- a mark for each line that is done
+unfoldable pub toldMark : Told → List ℕ
+toldMark (done t) = 1 ∷ []
+toldMark (refused why) = []
+
+unfoldable pub lineMark : Run → Line → List ℕ
+lineMark first l = toldMark (opened l)
+lineMark (going k t) l = toldMark (judged k t l)
+lineMark ended l = []
+
+abbrev pub courseMark : Course → Line → List ℕ
+courseMark c l = lineMark (c .run) l
+
+-- no line of these bytes is done: those that end among them are refused, or come after the run's
+-- end
+abbrev pub NoneDone : Feeding Course → List ℕ → Type 0
+NoneDone s p = feedText courseNext courseMark s p ≡ []
+
+-- every word is as it was
+abbrev pub Untouched : List ℕ → List ℕ → List ℕ → List ℕ → Type 0
+Untouched xs ls xs' ls' = (xs' ≡ xs) × (ls' ≡ ls)
+
+-- the words past the site's own are as they were
+pub record Past (xs ls xs' ls' : List ℕ) : Type 0 where
+  pub site : pastSite (siteOf xs' ls' .n) (siteOf xs' ls' .J) xs'
+      ≡ pastSite (siteOf xs' ls' .n) (siteOf xs' ls' .J) xs
+  pub links : pastLinks (siteOf xs' ls' .n) (siteOf xs' ls' .J) (siteOf xs' ls' .L) ls'
+      ≡ pastLinks (siteOf xs' ls' .n) (siteOf xs' ls' .J) (siteOf xs' ls' .L) ls
 
 -- before the first byte, with any words
 abbrev pub begun : Site → Feeding Course

@@ -9,7 +9,7 @@ ghost use Rattle.lines.specs.Read.{readLine};
 ghost use Rattle.lines.specs.declared.Line.{Line as Lined};
 ghost use Rattle.trace.specs.Feeding.{answered, hold as holds, holding};
 ghost use Rattle.trace.specs.Replay.{lineText, opened, judged};
-ghost use Rattle.feed.specs.State.{courseNext, runOf, feedingOf, Lent};
+ghost use Rattle.feed.specs.State.{courseNext, lineMark, runOf, feedingOf, Lent};
 ghost use Rattle.feed.specs.Says.{Answers, Turns, answerMost};
 use crate::held::read_held;
 use crate::settle::finish;
@@ -76,6 +76,8 @@ fn answer(f: Feed, site: &mut [u64], links: &mut [u64], out: &mut [u8], at: usiz
         ⌜ Turns (answered courseNext (feedingOf f (now (site .entry)) (now (links .entry))))
         (lineText (runOf (f .stage) (f .k) (siteOf (now (site .entry)) (now (links .entry))))
         (readLine (take (f .len) (f .line))))
+        (lineMark (runOf (f .stage) (f .k) (siteOf (now (site .entry)) (now (links .entry))))
+        (readLine (take (f .len) (f .line))))
         (now (site .entry)) (now (links .entry)) (now (site .exit)) (now (links .exit))
         (now (out .entry)) (now (out .exit)) at t ⌝ }
 {
@@ -122,6 +124,8 @@ pub(crate) fn answer_line(
         (answered courseNext (holding (feedingOf f (now (site .entry)) (now (links .entry)))
         (part (now (piece .entry)) i (e - i))))
         (lineText (runOf (f .stage) (f .k) (siteOf (now (site .entry)) (now (links .entry))))
+        (readLine (holds (take (f .len) (f .line)) (part (now (piece .entry)) i (e - i)))))
+        (lineMark (runOf (f .stage) (f .k) (siteOf (now (site .entry)) (now (links .entry))))
         (readLine (holds (take (f .len) (f .line)) (part (now (piece .entry)) i (e - i)))))
         (now (site .entry)) (now (links .entry)) (now (site .exit)) (now (links .exit))
         (now (out .entry)) (now (out .exit)) at t ⌝ }

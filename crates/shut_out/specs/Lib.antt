@@ -1,0 +1,2 @@
+-- The engines that the paper shuts out by name.
+pub mod Engines

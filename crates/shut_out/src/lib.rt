@@ -1,0 +1,1 @@
+// The engines that the paper shuts out by name (specs/, proofs/). No code.
