@@ -132,8 +132,8 @@ module _ (s : Setting) (r : List ℕ) (c : ℕ) where
       → RowHolds (s .n) (s .j) (electedBox s c (boxOf (s .n) (take end r))) (take end r) q
       → Told (s .n) (s .j) outcome r (q ++ drop end r) Answer.Done
   was-elected h lent end ee q holds =
-      row-told (s .n) (s .j) r outcome (electedBox s c (ownBox s r)) (comes h) (lent .words) end ee q
-      (rw ee at holds)
+      row-told (s .n) (s .j) r outcome (electedBox s c (ownBox s r)) (comes h) (lent .words) end ee
+      q (rw ee at holds)
 
 module _ (s : Setting) (r p : List ℕ) where
   pub told-lent : (numbers : Bool) → judged s r p false numbers ≡ Judged.Passed
