@@ -52,6 +52,7 @@ static u32 journal_call(u32 call, u32 a, u32 b, u32 c) {
     case PROPOSE: return journal_propose(LENT, a);
     case AGREE: return journal_agree(LENT, a);
     case FINISH: return journal_finish(LENT, a);
+    case HEARD: return journal_heard(LENT, a);
     case STOP: return journal_stop(LENT, a);
     case RETURN: return journal_return(LENT, a);
     case TIMEOUT: return journal_timeout(LENT, a);

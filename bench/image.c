@@ -12,7 +12,7 @@ static u64 link_length(const struct link *link, u32 l) {
 }
 
 static u64 box_length(const struct site *s, u32 c) {
-    return 76 + 4 * s->n + 8 * (u64)s->boxes[c].held;
+    return 80 + 4 * s->n + 8 * (u64)s->boxes[c].held;
 }
 
 static u64 mail_length(const struct site *s) {
@@ -47,8 +47,8 @@ static u8 *put_entry(u8 *p, u64 *offset, u64 length) {
 
 static u8 *put_box(u8 *p, const struct site *s, const struct camera *b) {
     u32 head[] = {b->leads, b->state, b->phase, b->pn, b->last, b->first, b->stored_pn,
-                  b->stored_number, b->best_pn, b->best_number, b->answered, b->accepts};
-    for (u32 i = 0; i < 12; i++) p = put(p, head[i]);
+                  b->stored_number, b->best_pn, b->best_number, b->answered, b->accepts, b->heard};
+    for (u32 i = 0; i < 13; i++) p = put(p, head[i]);
     u64 three[] = {b->best, b->waiting, b->agreeing};
     p = put_records(p, three, 3);
     for (u32 k = 0; k < s->n; k++) p = put(p, b->peers[k]);
@@ -115,7 +115,7 @@ static void get_box(struct rest *r, const struct site *s, struct camera *b) {
     b->leads = get(r), b->state = get(r), b->phase = get(r), b->pn = get(r), b->last = get(r);
     b->first = get(r);
     b->stored_pn = get(r), b->stored_number = get(r), b->best_pn = get(r), b->best_number = get(r);
-    b->answered = get(r), b->accepts = get(r);
+    b->answered = get(r), b->accepts = get(r), b->heard = get(r);
     get_records(r, &b->best, 1), get_records(r, &b->waiting, 1), get_records(r, &b->agreeing, 1);
     for (u32 k = 0; k < s->n; k++) b->peers[k] = get(r);
     b->held = get_count(r, s->j);
@@ -180,11 +180,11 @@ static u32 kept_by_form(u32 first, u32 last, u32 count) {
 
 static u32 box_by_form(const struct site *s, u32 c) {
     const struct camera *b = &s->boxes[c];
-    u32 fine = b->leads <= 1 && b->state <= REFRESH && b->phase <= COMMIT_PHASE;
+    u32 fine = b->leads <= 1 && b->state <= REFRESH && b->phase <= LEASE_DONE;
     fine &= b->pn <= HIGHEST_PN && b->stored_pn <= HIGHEST_PN && b->best_pn <= HIGHEST_PN;
     fine &= b->stored_number <= HIGHEST_NUMBER && b->best_number <= HIGHEST_NUMBER;
     fine &= b->held <= s->j && kept_by_form(b->first, b->last, b->held);
-    fine &= !(b->answered >> s->n) && !(b->accepts >> s->n);
+    fine &= !(b->answered >> s->n) && !(b->accepts >> s->n) && !(b->heard >> s->n);
     fine &= !b->best || proper(b->best);
     fine &= !b->waiting || proper(b->waiting);
     fine &= !b->agreeing || proper(b->agreeing);
@@ -203,7 +203,8 @@ static u32 mail_by_form(const struct site *s, const struct mail *m) {
     case COMMIT: return m->count == all && kept_by_form(m->first, m->last, all);
     case BEGIN:
         return m->count == 1 && m->last < HIGHEST_NUMBER && kept_by_form(m->first, m->last, all);
-    case LEASE: return m->count == 0 && m->first == 0 && m->pn == 0;
+    case LEASE:
+    case LEASE_ACK: return m->count == 0 && m->first == 0 && m->pn == 0;
     case COLLECT:
     case ACCEPT: return m->count == 0 && m->first == 0;
     default: return 0;

@@ -48,9 +48,9 @@ static const struct {
     WORD("mail", DELIVER, 2),   WORD("holds", HOLDS, 4),     WORD("elect", ELECT, 1),
     WORD("recover", RECOVER, 1), WORD("collect", COLLECT_CALL, 1), WORD("ready", READY, 1),
     WORD("offer", OFFER, 3),    WORD("propose", PROPOSE, 1), WORD("agree", AGREE, 1),
-    WORD("finish", FINISH, 1),  WORD("stop", STOP, 1),       WORD("return", RETURN, 1),
-    WORD("timeout", TIMEOUT, 1), WORD("lose", LOSE, 2),      WORD("repeat", REPEAT, 2),
-    WORD("trim", TRIM, 2),    WORD("site", SITE, 3),
+    WORD("finish", FINISH, 1),  WORD("heard", HEARD, 1),     WORD("stop", STOP, 1),
+    WORD("return", RETURN, 1),  WORD("timeout", TIMEOUT, 1), WORD("lose", LOSE, 2),
+    WORD("repeat", REPEAT, 2),  WORD("trim", TRIM, 2),       WORD("site", SITE, 3),
 };
 #define WORD_COUNT (sizeof WORDS / sizeof *WORDS)
 

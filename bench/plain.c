@@ -166,6 +166,7 @@ static u32 collect(struct site *s, u32 c, struct camera *b) {
 /* The links to the others have room. */
 static u32 lease(struct site *s, u32 c, struct camera *b) {
     b->state = ACTIVE, b->phase = LEASE_PHASE;
+    b->heard = 1u << (c - 1);
     send(s, c, others(s, c), LEASE, 0, b->last, 0, 0, 0);
     return DONE;
 }
@@ -197,8 +198,8 @@ static u32 offer(struct camera *b, u32 left, u32 right) {
 }
 
 static u32 propose(struct site *s, u32 c, struct camera *b) {
-    if (b->state != ACTIVE || (b->phase != LEASE_PHASE && b->phase != ELECTION)) return 3;
-    if (!b->waiting) return 3;
+    if (b->state != ACTIVE || !b->waiting) return 3;
+    if (b->phase != LEASE_PHASE && b->phase != LEASE_DONE && b->phase != ELECTION) return 3;
     if (no_room(s, b->first, b->last)) return 7;
     if (full(s, c, others(s, c))) return 8;
     u64 r = b->waiting;
@@ -223,6 +224,12 @@ static u32 finish(struct site *s, u32 c, struct camera *b) {
     if (b->state != REFRESH || b->phase != COMMIT_PHASE) return 3;
     if (full(s, c, others(s, c))) return 8;
     return lease(s, c, b);
+}
+
+static u32 heard(const struct site *s, struct camera *b) {
+    if (b->phase != LEASE_PHASE || (b->heard & s->present) != s->present) return 3;
+    b->phase = LEASE_DONE;
+    return DONE;
 }
 
 /* Any box, not a leader alone. */
@@ -301,10 +308,19 @@ static u32 on_commit(struct camera *b, const struct mail *m) {
     return TAKEN;
 }
 
-static u32 on_lease(struct camera *b, const struct mail *m) {
+static u32 on_lease(struct site *s, u32 from, u32 c, struct camera *b, const struct mail *m) {
     if (b->leads) return ROLE;
     if (m->last != b->last) return PLACE;
+    if (full(s, c, 1u << (from - 1))) return 8;
     b->state = ACTIVE;
+    send(s, c, 1u << (from - 1), LEASE_ACK, 0, b->last, 0, 0, 0);
+    return TAKEN;
+}
+
+static u32 on_lease_ack(u32 from, struct camera *b) {
+    if (!b->leads) return ROLE;
+    if (b->phase != LEASE_PHASE) return PHASE;
+    b->heard |= 1u << (from - 1);
     return TAKEN;
 }
 
@@ -320,7 +336,8 @@ static u32 deliver(struct site *s, u32 a, u32 c) {
     case BEGIN: answer = on_begin(s, a, c, b, m); break;
     case ACCEPT: answer = on_accept(a, b, m); break;
     case COMMIT: answer = on_commit(b, m); break;
-    default: answer = on_lease(b, m); break;
+    case LEASE: answer = on_lease(s, a, c, b, m); break;
+    default: answer = on_lease_ack(a, b); break;
     }
     if (answer >= TAKEN) drop_head(s, link);
     return answer;
@@ -357,7 +374,8 @@ u32 step(struct site *s, u32 call, u32 c, u32 x, u32 y) {
     case OFFER: return offer(b, x, y);
     case PROPOSE: return propose(s, c, b);
     case AGREE: return agree(s, c, b);
-    default: return finish(s, c, b);
+    case FINISH: return finish(s, c, b);
+    default: return heard(s, b);
     }
 }
 

@@ -20,9 +20,9 @@ typedef unsigned int u32;
 typedef unsigned long u64;
 
 enum { RECOVERING, ACTIVE, UPDATING, UPDATING_PREVIOUS, REFRESH };
-enum { ELECTION, SEND_COLLECT, COLLECT_PHASE, LEASE_PHASE, BEGIN_PHASE, COMMIT_PHASE };
-enum { COLLECT = 1, LAST, BEGIN, ACCEPT, COMMIT, LEASE };
-enum { ELECT, RECOVER, COLLECT_CALL, READY, PROPOSE, AGREE, FINISH, STOP, RETURN, TIMEOUT,
+enum { ELECTION, SEND_COLLECT, COLLECT_PHASE, LEASE_PHASE, BEGIN_PHASE, COMMIT_PHASE, LEASE_DONE };
+enum { COLLECT = 1, LAST, BEGIN, ACCEPT, COMMIT, LEASE, LEASE_ACK };
+enum { ELECT, RECOVER, COLLECT_CALL, READY, PROPOSE, AGREE, FINISH, HEARD, STOP, RETURN, TIMEOUT,
        OFFER, TRIM, LOSE, REPEAT, DELIVER, HOLDS, SITE };
 enum { DONE = 0, TAKEN = 100, ROLE, PHASE, NUMBER, PLACE };
 
@@ -38,7 +38,7 @@ struct link {
 
 struct camera {
     u32 leads, state, phase, pn, last, first, stored_pn, stored_number, best_pn, best_number;
-    u32 answered, accepts;
+    u32 answered, accepts, heard;
     u64 best, waiting, agreeing;
     u32 peers[N_MAX];
     u32 held;

@@ -52,12 +52,16 @@ static void stop(void) { must(journal_stop(LENT, 5), 0); }
 static void asked(void) { must(journal_holds(LENT, 1, 1, 7, 8), 14); }
 /* A row that keeps loads 1 and 2. */
 static void keeps(u64 *r) {
-    r[4] = r[20] = 2, r[5] = 1;
-    r[21] = r[22] = 0x700000008u;
+    r[4] = r[21] = 2, r[5] = 1;
+    r[22] = r[23] = 0x700000008u;
 }
 static void trim(void) {
     keeps(boxes + 5);
     must(journal_trim(LENT, 1, 2), 0);
+}
+static void heard(void) { must(journal_heard(LENT, 1), 3); }
+static void own_heard(void) {
+    must(journal_own_heard(ROW, OUT, &to, 5, J, 16, 2, 31, 1), 3);
 }
 static void own_trim(void) {
     must(journal_own_trim(ROW, OUT, &to, 5, J, 16, 2, 31, 1, 2), 0);
@@ -77,7 +81,7 @@ int main(void) {
     boxes = malloc(8 * box_words), links = malloc(8 * link_words), image = malloc(1 << 20);
     row = malloc(8 * JOURNAL_ROW_WORDS(J)), out = malloc(8 * JOURNAL_PLACE_WORDS(J));
     letter = malloc(8 * JOURNAL_PLACE_WORDS(J));
-    for (u32 i = 0; i < JOURNAL_ROW_WORDS(J); i++) row[i] = i >= 15 && i < 20 ? 4294967295u : 0;
+    for (u32 i = 0; i < JOURNAL_ROW_WORDS(J); i++) row[i] = i >= 16 && i < 21 ? 4294967295u : 0;
     keeps(row);
     for (u32 i = 0; i < JOURNAL_PLACE_WORDS(J); i++) letter[i] = i == 0; /* Collect(0, 0) */
     const struct {
@@ -89,6 +93,7 @@ int main(void) {
         {"journal_deliver, a Collect", deliver}, {"journal_deliver, a Last", answer},
         {"journal_repeat", repeat},            {"journal_lose", lose},
         {"journal_trim", trim},                {"journal_own_trim", own_trim},
+        {"journal_heard", heard},              {"journal_own_heard", own_heard},
         {"journal_holds", asked},              {"journal_stop", stop},
         {"journal_own_recover", own_recover},  {"journal_own_mail", own_mail},
         {"journal_image_length", image_size},  {"journal_write", written},

@@ -13,12 +13,15 @@ function hand_out(c, k) {
     for (k = 1; k <= 5; k++) if (k != c) say("mail " c " " k)
 }
 
-# An election of c, from an odd epoch until all have the lease.
+# The lease that is out is answered and heard.
+function lease(c) { round_trip(c); say("heard " c) }
+
+# An election of c, from an odd epoch until all have heard the lease.
 function election(c) {
     say("elect " c); say("recover " c); say("collect " c)
     round_trip(c)
     say("ready " c)
-    hand_out(c)
+    lease(c)
 }
 
 function load(c, k) {
@@ -27,7 +30,7 @@ function load(c, k) {
     say("agree " c)
     hand_out(c)
     say("finish " c)
-    hand_out(c)
+    lease(c)
 }
 
 BEGIN {

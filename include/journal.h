@@ -10,8 +10,8 @@
  * as a pointer and its length in words; a longer one is allowed, and the words past those needed
  * are never read or written. What C must see to, since no test can: a pointer is not null, not even
  * with the length 0; words are aligned to 8 bytes; the length is no more than is there; two arrays of
- * one call do not overlap (nor do the numbers behind `to` and `length`). What the words hold is
- * tested by every call: words that are not by form are refused with 1.
+ * one call do not overlap (nor do the numbers behind `to`, `set` and `length`). What the words hold
+ * is tested by every call: words that are not by form are refused with 1.
  *
  * ANSWERS. Every function but the two that count words answers one of these numbers. A refused call
  * (1 to 14) leaves every word as it was. A mail that is discarded (101 to 104) has left its link,
@@ -53,7 +53,7 @@ enum {
 
 /* The words of an array, as constants: for sizes within their ranges the same as the two functions
  * below. A row is one box, a place is one letter. */
-#define JOURNAL_ROW_WORDS(J) (21 + (J))
+#define JOURNAL_ROW_WORDS(J) (22 + (J))
 #define JOURNAL_PLACE_WORDS(J) (6 + (J))
 #define JOURNAL_SITE_WORDS(n, J) (5 + (n) * JOURNAL_ROW_WORDS(J))
 #define JOURNAL_LINKS_WORDS(n, J, L) ((n) * ((n) - 1) * (2 + (L) * JOURNAL_PLACE_WORDS(J)))
@@ -68,7 +68,7 @@ size_t journal_links_words(uint32_t n, uint32_t j, uint32_t l);
 uint32_t journal_fresh(uint64_t *site, size_t site_words, uint64_t *links, size_t links_words,
                        uint32_t n, uint32_t j, uint32_t l);
 
-/* The fifteen calls. Each can answer 1, 2 and 3 beside what stands with it, and 0 where it is
+/* The sixteen calls. Each can answer 1, 2 and 3 beside what stands with it, and 0 where it is
  * done. c is a box.
  *
  * elect: c alone leads; needs an odd epoch, c present, and a majority present.            4
@@ -78,7 +78,9 @@ uint32_t journal_fresh(uint64_t *site, size_t site_words, uint64_t *links, size_
  * offer: the frames left and right wait at leader c.                                      10
  * propose: leader c starts the waiting pair under the next load number.                   7 8
  * agree: all present have accepted; the number is agreed, and the others are told.        8
- * finish: leader c is active again.                                                       8
+ * finish: leader c is active again, and leases.                                           8
+ * heard: all present have answered the lease of leader c; propose does not wait for it.
+ *        (3: no lease is out, or one has not answered: journal_unheard says which)
  * trim: box c, which need not lead, drops its agreed loads below k; the room is used
  *       again. (3: c absent, an odd epoch, k not above the first load that it keeps or
  *       above its last agreed one)
@@ -105,6 +107,8 @@ uint32_t journal_agree(uint64_t *site, size_t site_words, uint64_t *links, size_
                        uint32_t c);
 uint32_t journal_finish(uint64_t *site, size_t site_words, uint64_t *links, size_t links_words,
                         uint32_t c);
+uint32_t journal_heard(uint64_t *site, size_t site_words, uint64_t *links, size_t links_words,
+                       uint32_t c);
 uint32_t journal_trim(uint64_t *site, size_t site_words, uint64_t *links, size_t links_words,
                       uint32_t c, uint32_t k);
 uint32_t journal_stop(uint64_t *site, size_t site_words, uint64_t *links, size_t links_words,
@@ -125,6 +129,17 @@ uint32_t journal_deliver(uint64_t *site, size_t site_words, uint64_t *links, siz
 uint32_t journal_holds(const uint64_t *site, size_t site_words, const uint64_t *links,
                        size_t links_words, uint32_t c, uint32_t k, uint32_t left, uint32_t right);
 
+/* Which boxes are silent? 0 where a lease of leader c is out: since ready or finish, and until it
+ * proposes or the epoch becomes odd. Then *set has the present boxes that have not answered it, box
+ * k as the value 2^(k-1): 0 where all have. 3 where none is out; 1, 2; a refused call leaves *set.
+ *
+ *     uint32_t set;
+ *     if (journal_unheard(site, s, links, l, 1, &set) == JOURNAL_DONE)
+ *         for (uint32_t k = 1; k <= 5; k++)
+ *             if (set >> (k - 1) & 1) printf("box %u is silent\n", k); */
+uint32_t journal_unheard(const uint64_t *site, size_t site_words, const uint64_t *links,
+                         size_t links_words, uint32_t c, uint32_t *set);
+
 /* A BOX BY ITSELF, for a program that runs one box and carries its mails by other means. These may
  * lose mail and hand it over more than once, but none after the next election; they neither alter
  * it nor change its order. Agreement rests on that. `row` is the box (JOURNAL_ROW_WORDS(j) words),
@@ -135,9 +150,9 @@ uint32_t journal_holds(const uint64_t *site, size_t site_words, const uint64_t *
  * where the call is refused *to stays too.
  *
  * A fresh box is a row of 0, but 1 in its word 5 (the first load that it keeps) and 4,294,967,295
- * in its words 15 to 19 (the peers' lasts are unknown). An election, who is present and the links
+ * in its words 16 to 20 (the peers' lasts are unknown). An election, who is present and the links
  * are the caller's part: when box c is elected, in every row word 0 becomes 1 at c and 0 elsewhere,
- * words 1, 2, 13 and 14 become 0 (word 1 becomes 1 where exactly one box is present).
+ * words 1, 2, 14 and 15 become 0 (word 1 becomes 1 where exactly one box is present).
  *
  * Answers 0, 13, 1, 2, 10, 3, 6, 7, 12; mail 100 to 104, 13, 1, 2, 3, 6, 7, 12. */
 uint32_t journal_own_recover(uint64_t *row, size_t row_words, uint64_t *out, size_t out_words,
@@ -161,6 +176,9 @@ uint32_t journal_own_agree(uint64_t *row, size_t row_words, uint64_t *out, size_
 uint32_t journal_own_finish(uint64_t *row, size_t row_words, uint64_t *out, size_t out_words,
                             uint32_t *to, uint32_t n, uint32_t j, uint32_t l, uint32_t epoch,
                             uint32_t present, uint32_t me);
+uint32_t journal_own_heard(uint64_t *row, size_t row_words, uint64_t *out, size_t out_words,
+                           uint32_t *to, uint32_t n, uint32_t j, uint32_t l, uint32_t epoch,
+                           uint32_t present, uint32_t me);
 uint32_t journal_own_trim(uint64_t *row, size_t row_words, uint64_t *out, size_t out_words,
                           uint32_t *to, uint32_t n, uint32_t j, uint32_t l, uint32_t epoch,
                           uint32_t present, uint32_t me, uint32_t k);
@@ -168,6 +186,11 @@ uint32_t journal_own_mail(uint64_t *row, size_t row_words, const uint64_t *lette
                           size_t letter_words, uint64_t *out, size_t out_words, uint32_t *to,
                           uint32_t n, uint32_t j, uint32_t l, uint32_t epoch, uint32_t present,
                           uint32_t me, uint32_t sender);
+
+/* Which boxes are silent, of a leader by itself: as journal_unheard. Answers 0, 13, 1, 2, 3. */
+uint32_t journal_own_unheard(const uint64_t *row, size_t row_words, uint32_t *set, uint32_t n,
+                             uint32_t j, uint32_t l, uint32_t epoch, uint32_t present,
+                             uint32_t me);
 
 /* THE IMAGE of a site, in bytes: one site has one image. image_length and write answer 0 and put the
  * image's length in bytes into *length; write fills that many bytes from the front of `image`, and
@@ -180,7 +203,7 @@ uint32_t journal_own_mail(uint64_t *row, size_t row_words, const uint64_t *lette
  * table of contents, the general body, n boxes, n (n - 1) links. That none is longer is proved, and
  * that some site has it: with so many bytes write never answers 12, and fewer do not do for all. */
 #define JOURNAL_IMAGE_MOST(n, J, L)                                                                \
-    (4 + 8 * ((n) + 2) + 20 + (n) * (76 + 4 * (n) + 8 * (J)) +                                     \
+    (4 + 8 * ((n) + 2) + 20 + (n) * (80 + 4 * (n) + 8 * (J)) +                                     \
      (n) * ((n) - 1) * (4 + (L) * (24 + 8 * (J))))
 
 uint32_t journal_image_length(const uint64_t *site, size_t site_words, const uint64_t *links,

@@ -91,6 +91,7 @@ static u32 act(const struct line *line) {
     case PROPOSE: answer = journal_own_propose(ALONE, c); break;
     case AGREE: answer = journal_own_agree(ALONE, c); break;
     case TRIM: answer = journal_own_trim(ALONE, c, line->b); break;
+    case HEARD: answer = journal_own_heard(ALONE, c); break;
     default: answer = journal_own_finish(ALONE, c); break;
     }
     return settle(c, answer, to);
@@ -128,7 +129,21 @@ static u32 kept(void) {
     return !JOURNAL.write(other, length) && !__builtin_memcmp(given, other, length);
 }
 
+/* Which boxes are silent: of a box of the site and of the same box by itself, as its words say it. */
+static u32 silent(u32 c) {
+    const u64 *r = row_of(c);
+    u32 epoch = (u32)words[3], present = (u32)words[4], of_site = DIFFERS, by_itself = DIFFERS;
+    u32 is_out = epoch % 2 == 0 && r[0] && (r[2] == LEASE_PHASE || r[2] == LEASE_DONE);
+    u32 answer = is_out ? JOURNAL_DONE : JOURNAL_CONDITION;
+    u32 set = is_out ? present & ~(u32)r[12] : DIFFERS;
+    if (journal_unheard(LENT, c, &of_site) != answer || of_site != set) return 0;
+    return journal_own_unheard(r, JOURNAL_ROW_WORDS(j), &by_itself, n, j, l, epoch, present, c) ==
+               answer && by_itself == set;
+}
+
 u32 take_call(const struct line *line) {
+    for (u32 c = 1; c <= n; c++)
+        if (!silent(c)) return DIFFERS;
     u32 answer = by_boxes(line), again = answer;
     if (line->call != HOLDS) again = JOURNAL.step(line->call, line->a, line->b, line->c);
     if (answer != again || (is_refusal(answer) && !kept())) return DIFFERS;

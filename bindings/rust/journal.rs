@@ -122,6 +122,7 @@ mod c {
         pub fn journal_propose(s: *mut u64, sn: usize, l: *mut u64, ln: usize, c: u32) -> u32;
         pub fn journal_agree(s: *mut u64, sn: usize, l: *mut u64, ln: usize, c: u32) -> u32;
         pub fn journal_finish(s: *mut u64, sn: usize, l: *mut u64, ln: usize, c: u32) -> u32;
+        pub fn journal_heard(s: *mut u64, sn: usize, l: *mut u64, ln: usize, c: u32) -> u32;
         pub fn journal_trim(s: *mut u64, sn: usize, l: *mut u64, ln: usize, c: u32, k: u32) -> u32;
         pub fn journal_stop(s: *mut u64, sn: usize, l: *mut u64, ln: usize, c: u32) -> u32;
         pub fn journal_return(s: *mut u64, sn: usize, l: *mut u64, ln: usize, c: u32) -> u32;
@@ -152,6 +153,14 @@ mod c {
             k: u32,
             left: u32,
             right: u32,
+        ) -> u32;
+        pub fn journal_unheard(
+            s: *const u64,
+            sn: usize,
+            l: *const u64,
+            ln: usize,
+            c: u32,
+            set: *mut u32,
         ) -> u32;
         pub fn journal_image_length(
             s: *const u64,
@@ -270,6 +279,19 @@ mod c {
             present: u32,
             me: u32,
         ) -> u32;
+        pub fn journal_own_heard(
+            row: *mut u64,
+            rn: usize,
+            out: *mut u64,
+            on: usize,
+            to: *mut u32,
+            n: u32,
+            j: u32,
+            l: u32,
+            epoch: u32,
+            present: u32,
+            me: u32,
+        ) -> u32;
         pub fn journal_own_trim(
             row: *mut u64,
             rn: usize,
@@ -299,6 +321,17 @@ mod c {
             present: u32,
             me: u32,
             sender: u32,
+        ) -> u32;
+        pub fn journal_own_unheard(
+            row: *const u64,
+            rn: usize,
+            set: *mut u32,
+            n: u32,
+            j: u32,
+            l: u32,
+            epoch: u32,
+            present: u32,
+            me: u32,
         ) -> u32;
     }
 }
@@ -334,7 +367,7 @@ impl Sizes {
             self.mails as usize,
         );
         let links = n * (n - 1) * (4 + l * (24 + 8 * j));
-        Some(4 + 8 * (n + 2) + 20 + n * (76 + 4 * n + 8 * j) + links)
+        Some(4 + 8 * (n + 2) + 20 + n * (80 + 4 * n + 8 * j) + links)
     }
 }
 
@@ -379,8 +412,10 @@ calls! {
     propose = journal_propose(c) -> (), done;
     /// All present have accepted.
     agree = journal_agree(c) -> (), done;
-    /// Leader c is active again.
+    /// Leader c is active again, and leases.
     finish = journal_finish(c) -> (), done;
+    /// All present have answered the lease of leader c.
+    heard = journal_heard(c) -> (), done;
     /// Box c drops its agreed loads below k.
     trim = journal_trim(c, k) -> (), done;
     /// Box c is switched off.
@@ -435,6 +470,24 @@ impl<'a> Site<'a> {
                 right,
             )
         })
+    }
+
+    /// The set of present boxes that have not answered the lease of leader c (box k as 2^(k−1)).
+    /// `Err(Condition)` where none is out.
+    pub fn unheard(&self, c: u32) -> Result<u32, Refusal> {
+        let mut set = 0;
+        // SAFETY: two slices, each with its own length, that are only read, and a number.
+        done(unsafe {
+            c::journal_unheard(
+                self.site.as_ptr(),
+                self.site.len(),
+                self.links.as_ptr(),
+                self.links.len(),
+                c,
+                &mut set,
+            )
+        })?;
+        Ok(set)
     }
 }
 
@@ -509,6 +562,7 @@ pub enum Act {
     Propose,
     Agree,
     Finish,
+    Heard,
     Trim(u32),
 }
 
@@ -539,6 +593,7 @@ pub fn own_act(row: &mut [u64], out: &mut [u64], s: Setting, act: Act) -> Result
             Act::Propose => c::journal_own_propose(r, rn, o, on, to, n, j, l, epoch, present, me),
             Act::Agree => c::journal_own_agree(r, rn, o, on, to, n, j, l, epoch, present, me),
             Act::Finish => c::journal_own_finish(r, rn, o, on, to, n, j, l, epoch, present, me),
+            Act::Heard => c::journal_own_heard(r, rn, o, on, to, n, j, l, epoch, present, me),
             Act::Trim(k) => c::journal_own_trim(r, rn, o, on, to, n, j, l, epoch, present, me, k),
         }
     })?;
@@ -584,4 +639,24 @@ pub fn own_mail(
         )
     })?;
     Ok((mail, set))
+}
+
+/// A box by itself: the present boxes that have not answered its lease, as `Site::unheard`.
+pub fn own_unheard(row: &[u64], s: Setting) -> Result<u32, Refusal> {
+    let Setting {
+        sizes: Sizes {
+            boxes: n,
+            loads: j,
+            mails: l,
+        },
+        epoch,
+        present,
+        me,
+    } = s;
+    let mut set = 0u32;
+    // SAFETY: a slice with its own length, that is only read, and a number.
+    done(unsafe {
+        c::journal_own_unheard(row.as_ptr(), row.len(), &mut set, n, j, l, epoch, present, me)
+    })?;
+    Ok(set)
 }

@@ -8,7 +8,7 @@ fn main() {
         loads: 16,
         mails: 8,
     };
-    assert_eq!(z.words(), Some((79, 356)));
+    assert_eq!(z.words(), Some((81, 356)));
     assert_eq!(
         Sizes {
             boxes: 1,
@@ -16,7 +16,7 @@ fn main() {
             mails: 16
         }
         .words(),
-        Some((4122, 0))
+        Some((4123, 0))
     );
     assert_eq!(Sizes { boxes: 6, ..z }.words(), None);
     let largest = Sizes {
@@ -24,10 +24,10 @@ fn main() {
         loads: 4096,
         mails: 16,
     };
-    assert_eq!(z.image_most(), Some(2920));
-    assert_eq!(largest.image_most(), Some(10_657_920));
+    assert_eq!(z.image_most(), Some(2928));
+    assert_eq!(largest.image_most(), Some(10_657_940));
     assert_eq!(Sizes { loads: 0, ..z }.image_most(), None);
-    let (mut site, mut links) = (vec![0u64; 79], vec![0u64; 356]);
+    let (mut site, mut links) = (vec![0u64; 81], vec![0u64; 356]);
     assert_eq!(Site::of(&mut site, &mut links).elect(1), Err(Refusal::Form));
     assert_eq!(Site::of(&mut [], &mut []).elect(1), Err(Refusal::Form));
     assert_eq!(
@@ -54,11 +54,18 @@ fn main() {
         assert_eq!(s.deliver(1, 2), Ok(Mail::Taken));
         assert_eq!(s.deliver(2, 1), Ok(Mail::Taken));
     }
+    assert_eq!(s.unheard(1), Err(Refusal::Condition));
     s.ready(1).unwrap();
+    assert_eq!(s.unheard(3), Err(Refusal::Box));
+    assert_eq!(s.unheard(1), Ok(2));
+    assert_eq!(s.heard(1), Err(Refusal::Condition));
+    assert_eq!(s.deliver(1, 2), Ok(Mail::Taken));
+    assert_eq!(s.deliver(2, 1), Ok(Mail::Taken));
+    assert_eq!(s.unheard(1), Ok(0));
+    s.heard(1).unwrap();
     assert_eq!(s.offer(1, 0, 72), Err(Refusal::Frame));
     s.offer(1, 71, 72).unwrap();
     s.propose(1).unwrap();
-    assert_eq!(s.deliver(1, 2), Ok(Mail::Taken));
     assert_eq!(s.deliver(1, 2), Ok(Mail::Taken));
     assert_eq!(s.deliver(2, 1), Ok(Mail::Taken));
     s.agree(1).unwrap();
@@ -82,7 +89,7 @@ fn main() {
     assert_eq!(s.write(&mut image[..length - 1]), Err(Refusal::Buffer));
     assert_eq!(s.write(&mut image), Ok(length));
     assert_eq!(image[length], 7);
-    let (mut site, mut links) = (vec![0u64; 79], vec![0u64; 356]);
+    let (mut site, mut links) = (vec![0u64; 81], vec![0u64; 356]);
     assert_eq!(
         Site::read(&image, &mut site, &mut links).err(),
         Some(Refusal::Form)
@@ -97,9 +104,9 @@ fn main() {
     assert_eq!(s.write(&mut again), Ok(length));
     assert_eq!(again, image[..length]);
 
-    let mut row = [0u64; 25];
+    let mut row = [0u64; 26];
     row[5] = 1;
-    row[15..20].fill(4294967295);
+    row[16..21].fill(4294967295);
     row[0] = 1;
     let mut peer = row;
     peer[0] = 0;
@@ -136,6 +143,24 @@ fn main() {
         Ok((Mail::Taken, 0))
     );
     assert_eq!(own_act(&mut row, &mut out, own, Act::Ready), Ok(2));
+    assert_eq!(own_unheard(&row, own), Ok(2));
+    assert_eq!(own_unheard(&peer, other), Err(Refusal::Condition));
+    assert_eq!(
+        own_act(&mut row, &mut out, own, Act::Heard),
+        Err(Refusal::Condition)
+    );
+    letter.copy_from_slice(&out);
+    assert_eq!(
+        own_mail(&mut peer, &letter, &mut out, other, 1),
+        Ok((Mail::Taken, 1))
+    );
+    letter.copy_from_slice(&out);
+    assert_eq!(
+        own_mail(&mut row, &letter, &mut out, own, 2),
+        Ok((Mail::Taken, 0))
+    );
+    assert_eq!(own_unheard(&row, own), Ok(0));
+    assert_eq!(own_act(&mut row, &mut out, own, Act::Heard), Ok(0));
     assert_eq!(own_act(&mut row, &mut out, own, Act::Offer(7, 8)), Ok(0));
     assert_eq!(own_act(&mut row, &mut out, own, Act::Propose), Ok(2));
     letter.copy_from_slice(&out);
@@ -169,7 +194,7 @@ fn main() {
     );
     assert_eq!(own_act(&mut row, &mut out, own, Act::Trim(2)), Ok(0));
     assert_eq!(row[4..6], [2, 2]);
-    assert_eq!(row[20..22], [1, 9 << 32 | 10]);
+    assert_eq!(row[21..23], [1, 9 << 32 | 10]);
     assert_eq!(Refusal::Condition.to_string(), "refused 3");
     println!("Rust: the binding's test passes");
 }

@@ -12,9 +12,11 @@ int main(void) {
     journal_deliver(site, s, links, l, 1, 2); /* Collect */
     journal_deliver(site, s, links, l, 2, 1); /* Last */
     journal_ready(site, s, links, l, 1);
+    journal_deliver(site, s, links, l, 1, 2); /* Lease */
+    journal_deliver(site, s, links, l, 2, 1); /* LeaseAck */
+    journal_heard(site, s, links, l, 1);
     journal_offer(site, s, links, l, 1, 71, 72);
     journal_propose(site, s, links, l, 1);
-    journal_deliver(site, s, links, l, 1, 2); /* Lease */
     journal_deliver(site, s, links, l, 1, 2); /* Begin */
     journal_deliver(site, s, links, l, 2, 1); /* Accept */
     journal_agree(site, s, links, l, 1);

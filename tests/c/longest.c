@@ -6,8 +6,8 @@
 #include <string.h>
 
 /* Proved: longest-of-all and longest-of-traces, crates/image/proofs/LongestLaws.antt. */
-_Static_assert(JOURNAL_IMAGE_MOST(5, 4096, 16) == 10657920, "the longest image of all");
-_Static_assert(JOURNAL_IMAGE_MOST(5, 32, 8) == 46720, "the longest image of a trace's site");
+_Static_assert(JOURNAL_IMAGE_MOST(5, 4096, 16) == 10657940, "the longest image of all");
+_Static_assert(JOURNAL_IMAGE_MOST(5, 32, 8) == 46740, "the longest image of a trace's site");
 
 static int checks, failures;
 static uint32_t n, j, l;
@@ -25,8 +25,8 @@ static void book(uint64_t *records) {
 }
 
 static void fill_box(uint64_t *row) {
-    row[4] = row[20] = j; /* last, and how many are held */
-    book(row + 21);
+    row[4] = row[21] = j; /* last, and how many are held */
+    book(row + 22);
 }
 
 static void fill_link(uint64_t *link) {

@@ -99,6 +99,16 @@ static void settle_own(int line, const char *what, uint32_t got, uint32_t want, 
         keep(row), keep(letter), keep(out), to_before = to;                                        \
         settle_own(__LINE__, #call, call, want, set);                                              \
     } while (0)
+/* Which boxes have not answered a lease: a question leaves every word, and where it is refused the
+ * set too. */
+#define SILENT(want, c, boxes)                                                                     \
+    do {                                                                                           \
+        uint32_t set = 77;                                                                         \
+        keep(site), keep(links);                                                                   \
+        check(__LINE__, "unheard " #c, journal_unheard(ON, c, &set), want);                        \
+        check(__LINE__, "the silent boxes", set, boxes);                                           \
+        check(__LINE__, "site stays", stays(site, 0) && stays(links, 0), 1);                       \
+    } while (0)
 #define WORD(array, at, want) check(__LINE__, #array " " #at, array.words[at], want)
 
 static void lend_site(uint32_t n, uint32_t j, uint32_t l) {
@@ -140,7 +150,7 @@ static void short_arrays(void) {
     SITE(JOURNAL_FORM, journal_elect(ON, 1)); /* words of 0 are no site */
     SITE(JOURNAL_DONE, journal_fresh(ON, 3, 4, 2));
     for (int i = 0; i < 4; i++) {
-        site.lent = i == 0 ? 79 : i == 2 ? 0 : 80;
+        site.lent = i == 0 ? 82 : i == 2 ? 0 : 83;
         links.lent = i == 1 ? 131 : i == 3 ? 0 : 132;
         SITE(JOURNAL_BUFFER, journal_fresh(ON, 3, 4, 2));
         SITE(JOURNAL_SIZES, journal_fresh(ON, 3, 4, 17));
@@ -148,9 +158,11 @@ static void short_arrays(void) {
         SITE(JOURNAL_FORM, journal_deliver(ON, 1, 1));
         SITE(JOURNAL_FORM, journal_repeat(ON, 1, 1));
         SITE(JOURNAL_FORM, journal_trim(ON, 9, 0));
+        SITE(JOURNAL_FORM, journal_heard(ON, 9));
+        SILENT(JOURNAL_FORM, 9, 77);
         SITE(JOURNAL_FORM, journal_holds(ON, 9, 0, 0, 0));
     }
-    site.lent = 80, links.lent = 132;
+    site.lent = 83, links.lent = 132;
     SITE(JOURNAL_DONE, journal_elect(ON, 1));
     release_site();
 }
@@ -170,6 +182,7 @@ static void box_numbers(void) {
         SITE(JOURNAL_BOX, journal_propose(ON, c));
         SITE(JOURNAL_BOX, journal_agree(ON, c));
         SITE(JOURNAL_BOX, journal_finish(ON, c));
+        SITE(JOURNAL_BOX, journal_heard(ON, c));
         SITE(JOURNAL_BOX, journal_trim(ON, c, 2));
         SITE(JOURNAL_BOX, journal_stop(ON, c));
         SITE(JOURNAL_BOX, journal_return(ON, c));
@@ -181,6 +194,7 @@ static void box_numbers(void) {
         SITE(JOURNAL_BOX, journal_deliver(ON, c, 1));
         SITE(JOURNAL_BOX, journal_deliver(ON, 1, c));
         SITE(JOURNAL_BOX, journal_holds(ON, c, 1, 7, 8));
+        SILENT(JOURNAL_BOX, c, 77);
     }
     SITE(JOURNAL_BOX, journal_lose(ON, 2, 2));
     SITE(JOURNAL_BOX, journal_repeat(ON, 1, 1));
@@ -207,12 +221,15 @@ static void each_call(void) {
     SITE(JOURNAL_TAKEN, journal_deliver(ON, 1, 2));
     SITE(JOURNAL_TAKEN, journal_deliver(ON, 2, 1));
     SITE(JOURNAL_DONE, journal_ready(ON, 1));
+    SITE(JOURNAL_TAKEN, journal_deliver(ON, 1, 2));
+    SITE(JOURNAL_CONDITION, journal_heard(ON, 1));
+    SITE(JOURNAL_TAKEN, journal_deliver(ON, 2, 1));
+    SITE(JOURNAL_DONE, journal_heard(ON, 1));
     SITE(JOURNAL_CONDITION, journal_propose(ON, 1));
     SITE(JOURNAL_DONE, journal_offer(ON, 1, 71, 72));
     SITE(JOURNAL_CONDITION, journal_offer(ON, 1, 71, 72));
     SITE(JOURNAL_DONE, journal_propose(ON, 1));
     SITE(JOURNAL_CONDITION, journal_agree(ON, 1));
-    SITE(JOURNAL_TAKEN, journal_deliver(ON, 1, 2));
     SITE(JOURNAL_TAKEN, journal_deliver(ON, 1, 2));
     SITE(JOURNAL_TAKEN, journal_deliver(ON, 2, 1));
     SITE(JOURNAL_CONDITION, journal_finish(ON, 1));
@@ -243,12 +260,12 @@ static void each_call(void) {
     site.words[3] = 1000000;
     SITE(JOURNAL_EPOCH, journal_timeout(ON, 1));
     SITE(JOURNAL_EPOCH, journal_stop(ON, 1));
-    site.words[5 + 22 + 3] = 999999902; /* the promise of box 2, who leads */
+    site.words[5 + 23 + 3] = 999999902; /* the promise of box 2, who leads */
     SITE(JOURNAL_NEW_PN, journal_recover(ON, 2));
-    site.words[5 + 22 + 3] = 999999901;
+    site.words[5 + 23 + 3] = 999999901;
     SITE(JOURNAL_DONE, journal_recover(ON, 2));
-    WORD(site, 5 + 22 + 3, 999999902);
-    site.words[5 + 22 + 1] = UINT64_MAX; /* its state */
+    WORD(site, 5 + 23 + 3, 999999902);
+    site.words[5 + 23 + 1] = UINT64_MAX; /* its state */
     SITE(JOURNAL_FORM, journal_recover(ON, 2));
     release_site();
 }
@@ -296,6 +313,67 @@ static void repeats(void) {
     release_site();
 }
 
+/* Who has heard the lease of box 1 of three, and who is silent; a Lease is answered again and again,
+ * until the link back is full. */
+static void leases(void) {
+    lend_site(3, 1, 2);
+    SITE(JOURNAL_DONE, journal_fresh(ON, 3, 1, 2));
+    SILENT(JOURNAL_CONDITION, 1, 77);
+    SITE(JOURNAL_CONDITION, journal_heard(ON, 1));
+    SITE(JOURNAL_DONE, journal_elect(ON, 1));
+    SITE(JOURNAL_DONE, journal_recover(ON, 1));
+    SITE(JOURNAL_DONE, journal_collect(ON, 1));
+    for (uint32_t b = 2; b <= 3; b++) {
+        SITE(JOURNAL_TAKEN, journal_deliver(ON, 1, b));
+        SITE(JOURNAL_TAKEN, journal_deliver(ON, b, 1));
+    }
+    SILENT(JOURNAL_CONDITION, 1, 77);
+    SITE(JOURNAL_DONE, journal_ready(ON, 1));
+    WORD(site, 5 + 12, 1);
+    SILENT(JOURNAL_DONE, 1, 6);
+    SILENT(JOURNAL_CONDITION, 2, 77);
+    SILENT(JOURNAL_BOX, 4, 77);
+    SITE(JOURNAL_CONDITION, journal_heard(ON, 1));
+    for (int i = 0; i < 2; i++) {
+        SITE(JOURNAL_DONE, journal_repeat(ON, 1, 2));
+        SITE(JOURNAL_TAKEN, journal_deliver(ON, 1, 2));
+    }
+    SITE(JOURNAL_LINK, journal_deliver(ON, 1, 2)); /* two answers fill the link back */
+    SILENT(JOURNAL_DONE, 1, 6);
+    SITE(JOURNAL_TAKEN, journal_deliver(ON, 2, 1));
+    WORD(site, 5 + 12, 3);
+    SILENT(JOURNAL_DONE, 1, 4);
+    SITE(JOURNAL_TAKEN, journal_deliver(ON, 1, 2));
+    SITE(JOURNAL_TAKEN, journal_deliver(ON, 2, 1)); /* box 2 again: it stands for one */
+    WORD(site, 5 + 12, 3);
+    SITE(JOURNAL_CONDITION, journal_heard(ON, 1));
+    SITE(JOURNAL_TAKEN, journal_deliver(ON, 1, 3));
+    SITE(JOURNAL_TAKEN, journal_deliver(ON, 3, 1));
+    WORD(site, 5 + 12, 7), WORD(site, 5 + 2, 3);
+    SILENT(JOURNAL_DONE, 1, 0);
+    SITE(JOURNAL_CONDITION, journal_heard(ON, 2));
+    site.words[5 + 12] = 8; /* box 4 has heard it, and there are three */
+    SITE(JOURNAL_FORM, journal_heard(ON, 1));
+    SILENT(JOURNAL_FORM, 1, 77);
+    site.words[5 + 12] = 7;
+    SITE(JOURNAL_DONE, journal_heard(ON, 1));
+    WORD(site, 5 + 2, 6);
+    SILENT(JOURNAL_DONE, 1, 0);
+    SITE(JOURNAL_CONDITION, journal_heard(ON, 1));
+    DISCARD(JOURNAL_DISCARDED_PHASE, 2, 1);
+    site.words[5 + 2] = 7; /* no phase */
+    SITE(JOURNAL_FORM, journal_heard(ON, 1));
+    site.words[5 + 2] = 6;
+    SITE(JOURNAL_DONE, journal_offer(ON, 1, 71, 72));
+    SITE(JOURNAL_DONE, journal_propose(ON, 1));
+    SILENT(JOURNAL_CONDITION, 1, 77);
+    SITE(JOURNAL_DONE, journal_timeout(ON, 1));
+    site.words[5 + 2] = 3;
+    SITE(JOURNAL_CONDITION, journal_heard(ON, 1)); /* an odd epoch */
+    SILENT(JOURNAL_CONDITION, 1, 77);
+    release_site();
+}
+
 /* Box 1 of two leads, is active, and agrees on one load more; box 2 is told. */
 static void load(uint32_t left, uint32_t right) {
     SITE(JOURNAL_DONE, journal_offer(ON, 1, left, right));
@@ -306,13 +384,14 @@ static void load(uint32_t left, uint32_t right) {
     SITE(JOURNAL_TAKEN, journal_deliver(ON, 1, 2));
     SITE(JOURNAL_DONE, journal_finish(ON, 1));
     SITE(JOURNAL_TAKEN, journal_deliver(ON, 1, 2));
+    SITE(JOURNAL_TAKEN, journal_deliver(ON, 2, 1));
 }
 
 /* Box c keeps the loads first to last, and `more` behind them; J is 2. */
 static void put_kept(uint32_t c, uint64_t first, uint64_t last, uint64_t more) {
     uint64_t *r = site.words + 5 + (c - 1) * JOURNAL_ROW_WORDS(2);
-    r[4] = last, r[5] = first, r[20] = last + 1 - first + more;
-    for (uint64_t i = 0; i < 2; i++) r[21 + i] = (first + i) << 32 | 7;
+    r[4] = last, r[5] = first, r[21] = last + 1 - first + more;
+    for (uint64_t i = 0; i < 2; i++) r[22 + i] = (first + i) << 32 | 7;
 }
 
 /* What box c keeps: its last and first, how many records, and the frames of the first of them. */
@@ -320,8 +399,8 @@ static void kept(int line, uint32_t c, uint64_t last, uint64_t first, uint64_t c
     const uint64_t *b = site.words + 5 + (c - 1) * JOURNAL_ROW_WORDS(2);
     check(line, "last", b[4], last);
     check(line, "first", b[5], first);
-    check(line, "count", b[20], count);
-    check(line, "the first record", b[21], r);
+    check(line, "count", b[21], count);
+    check(line, "the first record", b[22], r);
 }
 
 /* A mail with a first: the head of link 1 to 2, the only one there; J is 2 and L is 4. */
@@ -344,6 +423,7 @@ static void trims(void) {
     SITE(JOURNAL_TAKEN, journal_deliver(ON, 2, 1));
     SITE(JOURNAL_DONE, journal_ready(ON, 1));
     SITE(JOURNAL_TAKEN, journal_deliver(ON, 1, 2));
+    SITE(JOURNAL_TAKEN, journal_deliver(ON, 2, 1));
     SITE(JOURNAL_CONDITION, journal_trim(ON, 1, 1));
     load(71, 72), load(73, 74);
     SITE(JOURNAL_DONE, journal_offer(ON, 1, 75, 76));
@@ -366,6 +446,7 @@ static void trims(void) {
     SITE(JOURNAL_TAKEN, journal_deliver(ON, 1, 2));
     SITE(JOURNAL_DONE, journal_finish(ON, 1));
     SITE(JOURNAL_TAKEN, journal_deliver(ON, 1, 2));
+    SITE(JOURNAL_TAKEN, journal_deliver(ON, 2, 1));
     SITE(JOURNAL_DONE, journal_holds(ON, 2, 3, 75, 76));
     /* Box 2 keeps 2 and 3: there is room for a Begin only where its first raises that of box 2. */
     post_kept(3, 1, 3, 2, 1);
@@ -437,8 +518,8 @@ static void mails(void) {
     WORD(links, 1, 0);
     post(2, 101, 0, 0);
     DISCARD(JOURNAL_DISCARDED_PHASE, 1, 2);
-    site.words[5 + 22 + 0] = 0; /* box 2 does not lead, and has promised 203 */
-    site.words[5 + 22 + 3] = 203;
+    site.words[5 + 23 + 0] = 0; /* box 2 does not lead, and has promised 203 */
+    site.words[5 + 23 + 3] = 203;
     post(3, 202, 0, 1);
     DISCARD(JOURNAL_DISCARDED_NUMBER, 1, 2);
     post(6, 0, 1, 0);
@@ -448,7 +529,13 @@ static void mails(void) {
     WORD(links, 1, 0);
     post(3, 203, 0, 1);
     SITE(JOURNAL_TAKEN, journal_deliver(ON, 1, 2));
-    post(7, 0, 0, 0);
+    post(7, 0, 1, 0);
+    DISCARD(JOURNAL_DISCARDED_ROLE, 1, 2);
+    post(7, 1, 0, 0);
+    SITE(JOURNAL_FORM, journal_deliver(ON, 1, 2));
+    post(7, 0, 0, 1);
+    SITE(JOURNAL_FORM, journal_deliver(ON, 1, 2));
+    post(8, 0, 0, 0);
     SITE(JOURNAL_FORM, journal_deliver(ON, 1, 2));
     links.words[1] = 0;
     /* Link 2 to 1 is full, and its head stands in the last place: the next is the first. */
@@ -465,13 +552,22 @@ static void mails(void) {
 static void own_boxes(void) {
     enum { J = 4, EVEN = 2, ODD = 3, BOTH = 3 };
 #define TOLD 2, J, 2, EVEN, BOTH
+#define ALONE(want, me, boxes)                                                                     \
+    do {                                                                                           \
+        uint32_t set = 77;                                                                         \
+        keep(row);                                                                                 \
+        check(__LINE__, "own_unheard", journal_own_unheard(row.words, row.lent, &set, TOLD, me),   \
+              want);                                                                               \
+        check(__LINE__, "the silent boxes", set, boxes);                                           \
+        check(__LINE__, "row stays", stays(row, 0), 1);                                            \
+    } while (0)
     row = lend(JOURNAL_ROW_WORDS(J));
     letter = lend(JOURNAL_PLACE_WORDS(J));
     out = lend(JOURNAL_PLACE_WORDS(J));
     to = 77;
     uint64_t fresh_row[JOURNAL_ROW_WORDS(J)] = {0}, rows[2][JOURNAL_ROW_WORDS(J)];
     fresh_row[5] = 1;
-    for (int i = 15; i < 20; i++) fresh_row[i] = UINT32_MAX;
+    for (int i = 16; i < 21; i++) fresh_row[i] = UINT32_MAX;
     memcpy(rows[0], fresh_row, sizeof fresh_row);
     memcpy(rows[1], fresh_row, sizeof fresh_row);
     rows[0][0] = 1; /* box 1 is elected */
@@ -515,7 +611,33 @@ static void own_boxes(void) {
     OWN(JOURNAL_TAKEN, 0, journal_own_mail(MAIL, TOLD, 1, 2));
     OWN(JOURNAL_TAKEN, 0, journal_own_mail(MAIL, TOLD, 1, 2)); /* heard again: taken again */
     WORD(row, 10, BOTH);
+    ALONE(JOURNAL_CONDITION, 1, 77);
     OWN(JOURNAL_DONE, 2, journal_own_ready(ROW, TOLD, 1));
+    WORD(out, 0, 6), WORD(row, 12, 1);
+    OWN(JOURNAL_CONDITION, 0, journal_own_heard(ROW, TOLD, 1));
+    ALONE(JOURNAL_DONE, 1, 2);
+    ALONE(JOURNAL_BOX, 3, 77);
+    PUT(1), CARRY(), BOX(2);
+    ALONE(JOURNAL_CONDITION, 2, 77);
+    out.lent--;
+    OWN(JOURNAL_BUFFER, 0, journal_own_mail(MAIL, TOLD, 2, 1));
+    out.lent = out.size;
+    OWN(JOURNAL_TAKEN, 1, journal_own_mail(MAIL, TOLD, 2, 1));
+    WORD(out, 0, 7), WORD(out, 1, 0), WORD(out, 2, 0), WORD(row, 1, 1);
+    PUT(2), CARRY(), BOX(1);
+    OWN(JOURNAL_TAKEN, 0, journal_own_mail(MAIL, TOLD, 1, 2));
+    WORD(row, 12, BOTH);
+    ALONE(JOURNAL_DONE, 1, 0);
+    OWN(JOURNAL_SIZES, 0, journal_own_heard(ROW, 6, J, 2, EVEN, BOTH, 1));
+    OWN(JOURNAL_BOX, 0, journal_own_heard(ROW, TOLD, 3));
+    OWN(JOURNAL_CONDITION, 0, journal_own_heard(ROW, 2, J, 2, ODD, BOTH, 1));
+    row.lent--;
+    OWN(JOURNAL_FORM, 0, journal_own_heard(ROW, TOLD, 1));
+    ALONE(JOURNAL_FORM, 1, 77);
+    row.lent = row.size;
+    OWN(JOURNAL_DONE, 0, journal_own_heard(ROW, TOLD, 1));
+    WORD(row, 2, 6);
+    OWN(JOURNAL_DISCARDED_PHASE, 0, journal_own_mail(MAIL, TOLD, 1, 2));
     OWN(JOURNAL_FRAME, 0, journal_own_offer(ROW, TOLD, 1, 7, 0));
     OWN(JOURNAL_DONE, 0, journal_own_offer(ROW, TOLD, 1, 7, 8));
     OWN(JOURNAL_DONE, 2, journal_own_propose(ROW, TOLD, 1));
@@ -528,7 +650,7 @@ static void own_boxes(void) {
     OWN(JOURNAL_DONE, 2, journal_own_agree(ROW, TOLD, 1));
     PUT(1), CARRY(), BOX(2);
     OWN(JOURNAL_TAKEN, 0, journal_own_mail(MAIL, TOLD, 2, 1));
-    WORD(row, 4, 1), WORD(row, 21, 0x700000008u);
+    WORD(row, 4, 1), WORD(row, 22, 0x700000008u);
     BOX(1);
     uint64_t last[] = {2, 1, 0, 1, 0, 0}, above[] = {3, 2, 0, 1, 0, 1, 0x700000008u};
     uint64_t ahead[] = {3, 1, 1, 1, 0, 1, 0x700000008u};
@@ -547,8 +669,8 @@ static void own_boxes(void) {
     OWN(JOURNAL_CONDITION, 0, journal_own_finish(ROW, TOLD, 1));
     BOX(2);
     OWN(JOURNAL_CONDITION, 0, journal_own_trim(ROW, TOLD, 2, 1));
-    row.words[4] = row.words[20] = 3; /* loads 1 to 3 */
-    row.words[21] = 0x100000001u, row.words[22] = 0x200000002u, row.words[23] = 0x300000003u;
+    row.words[4] = row.words[21] = 3; /* loads 1 to 3 */
+    row.words[22] = 0x100000001u, row.words[23] = 0x200000002u, row.words[24] = 0x300000003u;
     OWN(JOURNAL_SIZES, 0, journal_own_trim(ROW, 6, J, 2, EVEN, BOTH, 2, 3));
     OWN(JOURNAL_BOX, 0, journal_own_trim(ROW, TOLD, 3, 3));
     OWN(JOURNAL_CONDITION, 0, journal_own_trim(ROW, TOLD, 2, 1));
@@ -556,7 +678,7 @@ static void own_boxes(void) {
     OWN(JOURNAL_CONDITION, 0, journal_own_trim(ROW, 2, J, 2, ODD, BOTH, 2, 3));
     OWN(JOURNAL_CONDITION, 0, journal_own_trim(ROW, 2, J, 2, EVEN, 1, 2, 3));
     OWN(JOURNAL_DONE, 0, journal_own_trim(ROW, TOLD, 2, 3));
-    WORD(row, 4, 3), WORD(row, 5, 3), WORD(row, 20, 1), WORD(row, 21, 0x300000003u);
+    WORD(row, 4, 3), WORD(row, 5, 3), WORD(row, 21, 1), WORD(row, 22, 0x300000003u);
     row.words[5] = 4; /* above last */
     OWN(JOURNAL_FORM, 0, journal_own_trim(ROW, TOLD, 2, 3));
     release(row), release(letter), release(out);
@@ -565,14 +687,14 @@ static void own_boxes(void) {
 /* Box c has agreed on k loads, number i with the frames i and i. */
 static void put_book(uint32_t j, uint32_t c, uint64_t k) {
     uint64_t *r = site.words + 5 + (size_t)(c - 1) * JOURNAL_ROW_WORDS(j);
-    r[4] = r[20] = k;
-    for (uint64_t i = 1; i <= k; i++) r[20 + i] = i << 32 | i;
+    r[4] = r[21] = k;
+    for (uint64_t i = 1; i <= k; i++) r[21 + i] = i << 32 | i;
 }
 
 /* n = 5, J = 4,096, L = 16: four boxes have nothing, the leader has 4,095 loads. */
 static void largest(void) {
     lend_site(5, 4096, 16);
-    check(__LINE__, "site words", site.lent, 20590);
+    check(__LINE__, "site words", site.lent, 20595);
     check(__LINE__, "links words", links.lent, 1312680);
     SITE(JOURNAL_DONE, journal_fresh(ON, 5, 4096, 16));
     put_book(4096, 1, 4095);
@@ -584,6 +706,8 @@ static void largest(void) {
     SITE(JOURNAL_DONE, journal_ready(ON, 1));
     for (uint32_t b = 2; b <= 5; b++) /* Commits, one for each Last since its own, and a Lease */
         for (uint32_t i = b; i <= 6; i++) SITE(JOURNAL_TAKEN, journal_deliver(ON, 1, b));
+    for (uint32_t b = 2; b <= 5; b++) SITE(JOURNAL_TAKEN, journal_deliver(ON, b, 1));
+    SITE(JOURNAL_DONE, journal_heard(ON, 1));
     SITE(JOURNAL_DONE, journal_holds(ON, 5, 4095, 4095, 4095));
     SITE(JOURNAL_DONE, journal_offer(ON, 1, UINT32_MAX, UINT32_MAX));
     SITE(JOURNAL_DONE, journal_propose(ON, 1));
@@ -693,25 +817,25 @@ static void images(void) {
     lend_site(1, 1, 1);
     measure(__LINE__, JOURNAL_FORM, 77);
     SITE(JOURNAL_DONE, journal_fresh(ON, 1, 1, 1));
-    measure(__LINE__, JOURNAL_DONE, 128);
+    measure(__LINE__, JOURNAL_DONE, 132);
     write_image(__LINE__, JOURNAL_DONE, 1024, 1024);
     read_back(__LINE__, 1, 1, 1);
     release_site();
     lend_site(3, 4, 2);
     write_image(__LINE__, JOURNAL_FORM, 0, 1024);
     SITE(JOURNAL_DONE, journal_fresh(ON, 3, 4, 2));
-    measure(__LINE__, JOURNAL_DONE, 352);
-    write_image(__LINE__, JOURNAL_BUFFER, 351, 1024);
+    measure(__LINE__, JOURNAL_DONE, 364);
+    write_image(__LINE__, JOURNAL_BUFFER, 363, 1024);
     write_image(__LINE__, JOURNAL_BUFFER, 0, 1024);
-    write_image(__LINE__, JOURNAL_DONE, 352, 1024);
+    write_image(__LINE__, JOURNAL_DONE, 364, 1024);
     read_back(__LINE__, 3, 4, 2);
     /* Every shorter or longer piece is no image, and a changed byte gives none or another site's. */
     for (size_t k = 0; k < 400; k++)
-        if (k != 352) SITE(JOURNAL_FORM, journal_read(image, k, ON));
+        if (k != 364) SITE(JOURNAL_FORM, journal_read(image, k, ON));
     SITE(JOURNAL_DONE, journal_elect(ON, 2));
     SITE(JOURNAL_DONE, journal_recover(ON, 2));
     SITE(JOURNAL_DONE, journal_collect(ON, 2));
-    measure(__LINE__, JOURNAL_DONE, 352 + 2 * 20);
+    measure(__LINE__, JOURNAL_DONE, 364 + 2 * 20);
     write_image(__LINE__, JOURNAL_DONE, bytes, 1024);
     read_back(__LINE__, 3, 4, 2);
     int others = 0, larger = 0;
@@ -752,11 +876,11 @@ static void longest_image(void) {
             uint64_t *place = link + 2 + i * JOURNAL_PLACE_WORDS(4096);
             uint64_t commit[] = {5, 100 * k + i, 4096, 1, 0, 4096};
             memcpy(place, commit, sizeof commit);
-            memcpy(place + 6, site.words + 5 + 21, 4096 * sizeof(uint64_t));
+            memcpy(place + 6, site.words + 5 + 22, 4096 * sizeof(uint64_t));
         }
     }
     measure(__LINE__, JOURNAL_DONE, JOURNAL_IMAGE_MOST(5, 4096, 16));
-    check(__LINE__, "longest image", bytes, 10657920);
+    check(__LINE__, "longest image", bytes, 10657940);
     write_image(__LINE__, JOURNAL_BUFFER, bytes - 1, bytes);
     write_image(__LINE__, JOURNAL_DONE, bytes, bytes);
     read_back(__LINE__, 5, 4096, 16);
@@ -772,6 +896,7 @@ int main(void) {
     box_numbers();
     each_call();
     repeats();
+    leases();
     trims();
     mails();
     own_boxes();

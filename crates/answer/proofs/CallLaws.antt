@@ -104,7 +104,7 @@ read-done (not-by-form n) e = absurd (omega arith)
 read-done (too-few s f i w) e = absurd (omega arith)
 read-done (done h) e = h
 
-held : {im xs ls ys ks : List ℕ} → Stored im xs ls ys ks → Holds im (siteOf ys ks)
+pub held : {im xs ls ys ks : List ℕ} → Stored im xs ls ys ks → Holds im (siteOf ys ks)
 held {ys = ys} {ks} h =
     record { form = held-form h; image = h .image; bounded = memory-bounded ys ks }
 

@@ -1,5 +1,5 @@
 -- With room for every site nothing is too short: `answer` says Short only of a line whose image is
--- longer than any site's, and `call_on_image` and `fresh_image` never do.
+-- longer than any site's, and `call_on_image`, `fresh_image` and `unheard_on_image` never do.
 use Prim.Native.Nat.{ℕ, _≤_, _<_}
 use mathlib.Core.Path.{_≡_, refl, ap}
 use mathlib.Core.Bool.{true}
@@ -28,6 +28,7 @@ use Rattle.lines.specs.Printed.{readable, inRange}
 use Rattle.lines.proofs.Exact.{exact}
 use Rattle.answer.specs.declared.call.Came.{Came}
 use Rattle.answer.specs.declared.tell.Told.{Told}
+use Rattle.answer.specs.declared.unheard.Seen.{Seen}
 use Rattle.answer.specs.Asks.{served, Asks}
 use Rattle.answer.specs.Calls.{outcomeOf, HoldsNone, no-room, Comes, few-words, some}
 use Rattle.answer.specs.Calls.{FreshComes, no-words, made, CallIs, too-long, called, FreshIs}
@@ -35,6 +36,7 @@ use Rattle.answer.specs.Calls.{comes}
 use Rattle.answer.specs.Says.{textRoom, lends, short, call-told, Says, not-by-form}
 use Rattle.answer.specs.Says.{AnswerIs, too-short, asks-long, asks}
 use Rattle.answer.specs.Hold.{heldFor}
+use Rattle.answer.specs.Unheard.{UnheardIs, few-words as few-seen}
 use Rattle.answer.specs.Text.{answerText}
 use Rattle.answer.specs.Ample.{Ample, TooLong}
 use Rattle.answer.proofs.HoldLaws.{asks-short}
@@ -63,6 +65,7 @@ call-fits (Call.Offer c left right) e =
 call-fits (Call.Propose c) e = tt
 call-fits (Call.Agree c) e = tt
 call-fits (Call.Finish c) e = tt
+call-fits (Call.Heard c) e = tt
 call-fits (Call.Stop c) e = tt
 call-fits (Call.Return c) e = tt
 call-fits (Call.Timeout c) e = tt
@@ -102,6 +105,11 @@ fresh-comes-ample {n} {J} {L} lent (made s e (no-room k)) =
 pub fresh-ample : {n J L : ℕ} {xs ls o p : List ℕ} → Ample (length o) (length xs) (length ls)
     → FreshIs n J L xs ls o Came.Short p → ⊥
 fresh-ample lent (comes w) = fresh-comes-ample lent w
+
+pub unheard-ample : {c m : ℕ} {im xs ls : List ℕ} → Ample m (length xs) (length ls)
+    → UnheardIs c im xs ls Seen.Short → ⊥
+unheard-ample {xs = xs} {ls} lent (few-seen s f e w) =
+    both-no (words-enough xs ls lent (form-says f .sizes)) w
 
 -- ---- a line
 

@@ -3,6 +3,7 @@ pub mod AskLaws
 pub mod TellLaws
 pub mod ServeLaws
 pub mod CallLaws
+pub mod UnheardLaws
 pub mod AnswerLaws
 pub mod HoldLaws
 pub mod Once

@@ -1,5 +1,6 @@
--- Nothing else could satisfy what `answer`, `call_on_image` and `fresh_image` say: one answer, one
--- buffer; and the text that `answer` writes is what the paper's rules say of the line.
+-- Nothing else could satisfy what `answer`, `call_on_image`, `fresh_image` and `unheard_on_image`
+-- say: one answer, one buffer; and the text that `answer` writes is what the paper's rules say of the
+-- line.
 use Prim.Native.Nat.{ℕ}
 use mathlib.Core.Path.{_≡_, refl, ap, sym, _∙_, subst}
 use mathlib.Core.List.{List}
@@ -8,6 +9,7 @@ use lib.ListN.{take, drop, length}
 use lib.Seq.{take-append-seam}
 use Rattle.bytes.specs.Bytes.{indexOf}
 use Rattle.rules.specs.Site.{Site}
+use Rattle.rules.specs.Unheard.{unheard}
 use Rattle.rules.specs.declared.model.Answer.{Answer}
 use Rattle.rules.specs.declared.model.Refusal.{Refusal}
 use Rattle.laws.proofs.Logic.{both-no}
@@ -20,10 +22,13 @@ use Rattle.lines.specs.Read.{readLine}
 use Rattle.lines.specs.declared.Line.{Line}
 use Rattle.answer.specs.declared.call.Came.{Came}
 use Rattle.answer.specs.declared.tell.Told.{Told}
+use Rattle.answer.specs.declared.unheard.Seen.{Seen}
 use Rattle.answer.specs.Asks.{Asks}
 use Rattle.answer.specs.Calls.{outcomeOf, Holds, Fits, fits, no-room, Comes, unserved, none}
 use Rattle.answer.specs.Calls.{few-words, some, FreshComes, no-sizes, no-words, made, front}
 use Rattle.answer.specs.Calls.{CallIs, too-long, called, FreshIs, comes}
+use Rattle.answer.specs.Unheard.{UnheardIs, none as no-site, few-words as few-seen}
+use Rattle.answer.specs.Unheard.{some as seen}
 use Rattle.answer.specs.Says.{Says, unreadable, not-by-form, answered}
 use Rattle.answer.specs.Says.{TellIs, told, short, CallTold, call-told}
 use Rattle.answer.specs.Says.{AnswerIs, too-short, asks-nothing, asks-long, asks}
@@ -114,6 +119,23 @@ fresh-comes-once (made s e w) (made t f v) = fits-once w v
 pub fresh-once : {n J L : ℕ} {xs ls o p q : List ℕ} {c d : Came} → FreshIs n J L xs ls o c p
     → FreshIs n J L xs ls o d q → Same c d p q
 fresh-once {o = o} (comes w) (comes v) = front-once o (fresh-comes-once w v)
+
+-- ---- what is said of a lease
+
+pub unheard-once : {c : ℕ} {im xs ls : List ℕ} {r q : Seen} → UnheardIs c im xs ls r
+    → UnheardIs c im xs ls q → r ≡ q
+unheard-once (no-site n) (no-site k) = refl
+unheard-once (no-site n) (few-seen x f e w) = absurd (n x f e)
+unheard-once (no-site n) (seen x h w) = absurd (n x (h .form) (h .image))
+unheard-once (few-seen x f e w) (no-site n) = absurd (n x f e)
+unheard-once (few-seen x f e w) (few-seen y g d v) = refl
+unheard-once {xs = xs} {ls} (few-seen x f e w) (seen y k v) =
+    absurd (both-no v (same-room y x xs ls (k .form) f (k .image ∙ sym e) ∙ w))
+unheard-once (seen x h w) (no-site n) = absurd (n x (h .form) (h .image))
+unheard-once {xs = xs} {ls} (seen x h w) (few-seen y g d v) =
+    absurd (both-no w (same-room x y xs ls (h .form) g (h .image ∙ sym d) ∙ v))
+unheard-once {c} (seen x h w) (seen y k v) =
+    ap (λ (s : Site). Seen.Said (unheard s c)) (holds-once h k)
 
 -- ---- what is told
 

@@ -1,6 +1,7 @@
 -- What the contracts of `answer` cite.
 pub mod Asks
 pub mod Calls
+pub mod Unheard
 pub mod Text
 pub mod Says
 pub mod Hold

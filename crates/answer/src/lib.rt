@@ -15,6 +15,7 @@ pub mod call;
 pub mod hold;
 mod serve;
 pub mod tell;
+pub mod unheard;
 
 // There is room in out for an answer with any image that the buffer for images has room for.
 fn lends(image: &[u8], out: &[u8]) -> bool

@@ -1,10 +1,12 @@
-// Calls on stored images: one for each line of standard input, or one on an image in raw bytes.
+// Calls on stored images: one for each line of standard input, or one on an image in raw bytes; and
+// the question which boxes have not answered a lease, of an image in raw bytes.
 mod buffers;
 mod line;
 mod pieces;
 mod raw;
 mod refused;
 mod run;
+mod unheard;
 
 // `report`: the status goes to descriptor 3.
 fn main() {

@@ -1,4 +1,5 @@
-// One call on one image, both raw: the image in and out, the call as an argument.
+// One call on one image, both raw: the image in and out, the call as an argument. In place of a call
+// it may be asked which boxes have not answered a lease.
 ghost use mathlib.Core.Path.{_≡_};
 ghost use mathlib.Core.Bool.{true};
 ghost use Prim.Native.Nat.{_≤_, _<_};
@@ -13,12 +14,14 @@ use crate::buffers;
 use crate::buffers::Job;
 use crate::refused;
 use crate::run::least;
+use crate::unheard;
 use answer::call;
 use answer::call::Came;
 use answer::hold;
 use libc::STDIN_FILENO;
 use libc::STDOUT_FILENO;
 use lines::Line;
+use lines::One;
 use rules::answers;
 use rules::model::Answer;
 use rules::model::Cause;
@@ -61,7 +64,7 @@ fn say_answer(a: Answer) {
 }
 
 // The image after the answer goes to standard output, and the answer's word to standard error.
-fn tell(a: Answer, image: &[u8], text: &[u8]) -> u8 {
+pub(crate) fn tell(a: Answer, image: &[u8], text: &[u8]) -> u8 {
     if answers::is_refusal(a) {
         wording::refuse(
             b"apply",
@@ -94,7 +97,7 @@ fn come(c: Came, n: usize, image: &[u8], text: &[u8]) -> Done
 }
 
 // Reads to the end of the input, behind the n bytes that are there.
-fn fill(image: &mut [u8], n: usize) -> Filled
+pub(crate) fn fill(image: &mut [u8], n: usize) -> Filled
     ensures { λ r. ⌜ FilledIn (length (now (image .exit))) r ⌝ }
 {
     let mut k = n;
@@ -108,7 +111,7 @@ fn fill(image: &mut [u8], n: usize) -> Filled
     Filled::Full
 }
 
-fn failed() -> Done
+pub(crate) fn failed() -> Done
     ensures { λ r. ⌜ r ≡ Done.Status 3 ⌝ }
 {
     os::fail(b"apply: standard input");
@@ -147,6 +150,18 @@ fn refuse_unreadable(text: &[u8]) -> Done
     Done::Status(1)
 }
 
+// A text that is no line of a trace.
+fn ask_in(n: usize, text: &[u8], image: &mut [u8], site: &mut [u64], links: &mut [u64]) -> Done
+    ensures { λ r.
+        ⌜ OnLarger (λ k. Ample (length (now (image .entry))) (length (now (site .entry)))
+        (length (now (links .entry))) → k ≡ length (now (image .entry))) r ⌝ }
+{
+    match lines::read_one(b"unheard ", text) {
+        One::Number(c) => unheard::ask_of_input(c, n, text, image, site, links),
+        One::Unreadable => refuse_unreadable(text),
+    }
+}
+
 // A site line asks for the image of a fresh site; then standard input is not read.
 fn call_in(
     l: Line,
@@ -168,7 +183,7 @@ fn call_in(
         }
         Line::Call(_) => call_on_input(l, n, text, image, site, links),
         Line::Holds(_, _, _, _) => call_on_input(l, n, text, image, site, links),
-        Line::Unreadable => refuse_unreadable(text),
+        Line::Unreadable => ask_in(n, text, image, site, links),
     }
 }
 

@@ -6,6 +6,7 @@ use Rattle.rules.specs.Numbers.{answerNumber}
 use Rattle.rules.specs.Own.{OwnOutcome}
 use Rattle.rules.specs.declared.model.Call.{Call}
 use Rattle.rules.specs.declared.model.Setting.{Setting}
+use Rattle.rules.specs.declared.model.Unheard.{Unheard}
 use Rattle.site.specs.Entries.{stepOn, freshOn}
 use Rattle.site.proofs.Once.{Same, once}
 use Rattle.own.proofs.Firm.{Alike, alike}
@@ -16,6 +17,7 @@ use Rattle.reader.proofs.Once as reader
 use Rattle.journal.specs.Numbered.{Stepped, Freshened, Alone}
 use Rattle.journal.specs.Images.{writtenNumber, writtenLength}
 use Rattle.journal.specs.Images.{LengthAnswered, WriteAnswered, ReadAnswered}
+use Rattle.journal.specs.Unheard.{unheardNumber, unheardSet, UnheardAnswered}
 
 pub stepped-once : {d : Call} {xs ls ys ms zs ns : List ℕ} {r q : ℕ}
     → Stepped d xs ls ys ms r → Stepped d xs ls zs ns q
@@ -35,6 +37,14 @@ alone-once {s} {o} p q = (
   p .set ∙ sym (q .set),
   alike s o o refl (p .owned) (q .owned),
 )
+
+pub unheard-once : {u : Unheard} {set t v r q : ℕ} → UnheardAnswered u set t r
+    → UnheardAnswered u set v q → (r ≡ q) × (t ≡ v)
+unheard-once {set = set} p q =
+    let e = p .is ∙ sym (q .is) in (
+      p .number ∙ ap unheardNumber e ∙ sym (q .number),
+      p .set ∙ ap (λ u. unheardSet u set) e ∙ sym (q .set),
+    )
 
 -- the number and the length of one answer
 same-written : {a b : Written} (len : ℕ) {t u r q : ℕ} → a ≡ b → r ≡ writtenNumber a

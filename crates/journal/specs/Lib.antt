@@ -1,3 +1,4 @@
 -- What the exported functions promise.
 pub mod Numbered
 pub mod Images
+pub mod Unheard

@@ -1,4 +1,4 @@
-// The site: a fresh one, each of the fifteen calls, a holds line.
+// The site: a fresh one, each of the sixteen calls, a holds line.
 ghost use mathlib.Core.Path.{_≡_};
 ghost use Rattle.rules.specs.Numbers.{answerNumber};
 ghost use Rattle.rules.specs.declared.model.Call.{Call};
@@ -123,6 +123,16 @@ pub extern "C" fn journal_finish(site: &mut [u64], links: &mut [u64], c: u32) ->
         (now (site .exit)) (now (links .exit)) r ⌝ }
 {
     stepped(site, links, Call::Finish(c))
+}
+
+// All present have answered the lease of leader c.
+#[no_mangle]
+pub extern "C" fn journal_heard(site: &mut [u64], links: &mut [u64], c: u32) -> u32
+    ensures { λ r.
+        ⌜ Stepped (Call.Heard c) (now (site .entry)) (now (links .entry))
+        (now (site .exit)) (now (links .exit)) r ⌝ }
+{
+    stepped(site, links, Call::Heard(c))
 }
 
 // Box c drops its agreed loads below k.

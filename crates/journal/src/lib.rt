@@ -5,3 +5,4 @@ mod calls;
 mod images;
 mod own_box;
 mod sizes;
+mod unheard;

@@ -262,6 +262,36 @@ pub extern "C" fn journal_own_finish(
 }
 
 #[no_mangle]
+pub extern "C" fn journal_own_heard(
+    row: &mut [u64],
+    out: &mut [u64],
+    to: &mut u32,
+    n: u32,
+    j: u32,
+    l: u32,
+    epoch: u32,
+    present: u32,
+    me: u32,
+) -> u32
+    ensures { λ r.
+        ⌜ Alone (settingOf n j l epoch present me)
+        (actOn (settingOf n j l epoch present me) (now (row .entry)) Act.Heard
+        (now (out .entry)))
+        (now (row .entry)) (now (out .entry)) (now (row .exit)) (now (out .exit))
+        (now (to .entry)) (now (to .exit)) r ⌝ }
+{
+    let s = Setting {
+        n,
+        j,
+        l,
+        epoch,
+        present,
+        me,
+    };
+    acted(row, out, to, s, Act::Heard)
+}
+
+#[no_mangle]
 pub extern "C" fn journal_own_trim(
     row: &mut [u64],
     out: &mut [u64],

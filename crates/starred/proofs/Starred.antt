@@ -13,7 +13,7 @@ use Rattle.rules.specs.Parts.{others, isHeld, underOf, higher, roomNext, tookKe
 use Rattle.rules.specs.Parts.{cleared}
 use Rattle.rules.specs.Last.{
   noted,
-  heard,
+  told as hasTold,
   behind,
   lagging,
   improves,
@@ -34,6 +34,8 @@ use Rattle.rules.specs.Mails.{
   onAccept,
   onCommit,
   onLease,
+  leaseAckVerdict,
+  onLeaseAck,
   ofKind,
   onMail,
 }
@@ -82,16 +84,15 @@ use Rattle.starred.specs.Table.{stars, starBytes, told}
 pub starred : each told stars ≡ true
 unfolding stars starBytes ones onesIn pick all each every tally sizesForm proper recordForm bit
     joined without digit has setForm fullSet inState inPhase newPn firstCause unless settled others
-    isHeld underOf higher roomNext tookKept tookBook cleared noted heard behind lagging improves
-    bettered raised
-    counted uncounted replied lastVerdict onLast unagreedOf onCollect beginVerdict onBegin
-    acceptVerdict onAccept onCommit onLease ofKind onMail elected canRecover recover canCollect
-    bestHeld collect started leased canReady hasPrevious ready canOffer offer canPropose propose
-    canAgree agree canFinish finish acted heldAt written enclosed freshHead fresh posted room
-    firstForm countForm peerForm formBox formKind formLetter formLink form ruled byAnswer delivered
-    elect
-    presented step agreedAs holds decimalOf spaced doneText refusedText starts wordOf grown finished
-    byteRead bytesRead lineOf readLine linesFrom texts traceSizes opened played judged upTo toldText
-    toldNext lineText lineNext replay le chain groupsBytes numbersFrom boxesOf bySender linksOf
-    generalBody boxBody letterBytes linkBytes mailBody bodies contents tableOf imageOf
+    isHeld underOf higher roomNext tookKept tookBook cleared noted hasTold behind lagging improves
+    bettered raised counted uncounted replied lastVerdict onLast unagreedOf onCollect beginVerdict
+    onBegin acceptVerdict onAccept onCommit onLease leaseAckVerdict onLeaseAck ofKind onMail elected
+    canRecover recover canCollect bestHeld collect started leased canReady hasPrevious ready
+    canOffer offer canPropose propose canAgree agree canFinish finish acted heldAt written enclosed
+    freshHead fresh posted room firstForm countForm peerForm formBox formKind formLetter formLink
+    form ruled byAnswer delivered elect presented step agreedAs holds decimalOf spaced doneText
+    refusedText starts wordOf grown finished byteRead bytesRead lineOf readLine linesFrom texts
+    traceSizes opened played judged upTo toldText toldNext lineText lineNext replay le chain
+    groupsBytes numbersFrom boxesOf bySender linksOf generalBody boxBody letterBytes linkBytes
+    mailBody bodies contents tableOf imageOf
 starred = refl
