@@ -1,0 +1,4 @@
+-- Boxes by themselves and their carrier, and what holds of them.
+pub mod Links
+pub mod Yard
+pub mod Alone

@@ -1,0 +1,1 @@
+// Boxes by themselves keep demand 3 (specs/, proofs/). No code.
