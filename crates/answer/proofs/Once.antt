@@ -1,6 +1,6 @@
 -- Nothing else could satisfy what `answer`, `call_on_image`, `fresh_image` and `unheard_on_image`
--- say: one answer, one buffer; and the text that `answer` writes is what the paper's rules say of the
--- line.
+-- say: one answer, one buffer; and the text that `answer` writes is what the paper's rules say of
+-- the line.
 use Prim.Native.Nat.{ℕ}
 use mathlib.Core.Path.{_≡_, refl, ap, sym, _∙_, subst}
 use mathlib.Core.List.{List}

@@ -15,8 +15,8 @@ use Rattle.print.specs.Decimal.{decimal}
 use Rattle.answer.specs.declared.unheard.Seen.{Seen}
 use Rattle.answer.specs.Calls.{Holds, HoldsNone}
 
--- it is asked of box c and the image im, with the words xs and ls: 1, then what the rules say; Short
--- where the words are too few
+-- it is asked of box c and the image im, with the words xs and ls: 1, then what the rules say;
+-- Short where the words are too few
 pub data UnheardIs (c : ℕ) (im xs ls : List ℕ) : Seen → Type 0 where
   none : HoldsNone im → UnheardIs c im xs ls (Seen.Said (Unheard.Refused Refusal.Form))
   few-words : (s : Site) → form s ≡ true → imageOf s ≡ im → enoughFor s xs ls ≡ false

@@ -9,10 +9,12 @@ use Rattle.rules.specs.Every.{each}
 use Rattle.laws.proofs.Logic.{true≠false}
 use Rattle.answer.specs.declared.call.Came.{Came}
 use Rattle.answer.specs.declared.tell.Told.{Told}
+use Rattle.answer.specs.declared.unheard.Seen.{Seen}
 use Rattle.answer.specs.Calls.{CallIs, FreshIs}
 use Rattle.answer.specs.Says.{AnswerIs}
+use Rattle.answer.specs.Unheard.{UnheardIs}
 use Rattle.answer.specs.Ample.{Ample, TooLong}
-use Rattle.answer.proofs.Enough.{short-only, call-ample, fresh-ample}
+use Rattle.answer.proofs.Enough.{short-only, call-ample, fresh-ample, unheard-ample}
 use Rattle.lines.specs.declared.Line.{Line}
 use Rattle.lines.specs.Read.{readLine}
 use Rattle.lines.specs.Printed.{inRange}
@@ -110,6 +112,11 @@ pub fresh-fits : {n J L k : ℕ} {xs ls o p : List ℕ} {c : Came} → FreshIs n
     → c ≡ Came.Short → Ample (length o) (length xs) (length ls) → k ≡ length o
 fresh-fits {n} {J} {L} {xs = xs} {ls} {o} {p} w s a =
     absurd (fresh-ample a (subst (λ (d : Came). FreshIs n J L xs ls o d p) s w))
+
+pub unheard-fits : {c k m : ℕ} {im xs ls : List ℕ} {s : Seen} → UnheardIs c im xs ls s
+    → s ≡ Seen.Short → Ample m (length xs) (length ls) → k ≡ m
+unheard-fits {c} {im = im} {xs} {ls} w e a =
+    absurd (unheard-ample a (subst (λ (d : Seen). UnheardIs c im xs ls d) e w))
 
 pub job-call : {j : Job} {l : Line} → JobFits j → j ≡ Job.Call l → inRange l ≡ true
 job-call h e = subst (λ (j : Job). JobFits j) e h

@@ -11,20 +11,26 @@ use lines::Line;
 // Images of 128 KiB, and the links of most sites.
 const IMAGE: usize = 131072;
 
-const LINE: usize = 262210;
+const LINE: usize = 2 * IMAGE + 66;
 
-const OUT: usize = 262182;
+const OUT: usize = 2 * IMAGE + 38;
 
 const LINKS: usize = 65536;
 
-// The longest image of any site and a byte more, which a longer one fills; and all its words.
-const LONGEST: usize = 10657920;
+// The boxes and the links of the longest image of any site.
+const FULL_BOXES: usize = 5 * (4 * row::BEST + 28 + 4 * 5 + 8 * 4096);
 
-const LONGER: usize = 10657921;
+const FULL_LINKS: usize = 5 * 4 * (4 + 16 * (24 + 8 * 4096));
 
-const LONGEST_LINE: usize = 21315906;
+// All of it, its table of 60 bytes in front; a byte more, which a longer one fills; and all its
+// words.
+const LONGEST: usize = 60 + image::GENERAL_BYTES + FULL_BOXES + FULL_LINKS;
 
-const LONGEST_OUT: usize = 21315878;
+const LONGER: usize = LONGEST + 1;
+
+const LONGEST_LINE: usize = 2 * LONGEST + 66;
+
+const LONGEST_OUT: usize = 2 * LONGEST + 38;
 
 const LINK: usize = 2 + 16 * (letter::HEAD + 4096);
 

@@ -1,5 +1,5 @@
-// One call on one image, both raw: the image in and out, the call as an argument. In place of a call
-// it may be asked which boxes have not answered a lease.
+// One call on one image, both raw: the image in and out, the call as an argument. In place of a
+// call it may be asked which boxes have not answered a lease.
 ghost use mathlib.Core.Path.{_≡_};
 ghost use mathlib.Core.Bool.{true};
 ghost use Prim.Native.Nat.{_≤_, _<_};

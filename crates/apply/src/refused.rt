@@ -93,7 +93,7 @@ pub(crate) fn say_too_long(place: Place, text: &[u8], code: u64) {
         place,
         text,
         code,
-        b"the image is longer than the longest of any site, 10657920 bytes",
+        b"the image is longer than the longest of any site, 10657940 bytes",
     );
 }
 

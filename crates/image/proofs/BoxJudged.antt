@@ -50,11 +50,12 @@ module _ (n J b : ℕ) (few : n ≤ mostBoxes) where
         best-number = f .best-number;
         answered = f .answered;
         accepts = f .accepts;
+        heard = f .heard;
         best = all-at 9 _ e;
-        waiting = all-at 12 _ e;
-        agreeing = all-at 13 _ e;
+        waiting = all-at 13 _ e;
+        agreeing = all-at 14 _ e;
         peers = ap (λ (h : BoxState). every mostBoxes (peerForm n b (h .peers))) same
-            ∙ all-at 15 _ e;
+            ∙ all-at 16 _ e;
         counted = all-at 2 _ e;
         count = f .held .room;
       }))
@@ -98,7 +99,7 @@ module _ (n J b : ℕ) (few : n ≤ mostBoxes) where
         ∙ sym (λ i. flag i ∷ state i ∷ phase i
         ∷ getD w 3 0 ∷ getD w 4 0 ∷ getD w 5 0 ∷ getD w 6 0
         ∷ getD w 7 0 ∷ getD w 8 0 ∷ getD w 9 0 ∷ getD w 10 0
-        ∷ getD w 11 0 ∷ getD w 12 0 ∷ getD w 13 0 ∷ getD w 14 0
+        ∷ getD w 11 0 ∷ getD w 12 0 ∷ getD w 13 0 ∷ getD w 14 0 ∷ getD w 15 0
         ∷ p1 i ∷ p2 i ∷ p3 i ∷ p4 i ∷ p5 i ∷ count i ∷ [])
 
     -- .. and that box is by form.
@@ -119,6 +120,7 @@ module _ (n J b : ℕ) (few : n ≤ mostBoxes) where
           h .best,
           h .answered,
           h .accepts,
+          h .heard,
           h .waiting,
           h .agreeing,
           h .peers,

@@ -16,7 +16,7 @@ use Rattle.laws.proofs.Logic.{left, right, In}
 use Rattle.laws.proofs.FormLaws.{FormedBox, Peer, box-says}
 use Rattle.values.proofs.SetLaws.{set-fits}
 use Rattle.rules.specs.Numbers.{flagNumber, stateNumber, phaseNumber}
-use Rattle.row.specs.Row.{headOf, bestAt, peersAt, countAt, headWords}
+use Rattle.row.specs.Row.{headOf, bestAt, peersAt, countAt, headWords, mostState, mostPhase}
 use Rattle.row.proofs.NumberLaws.{flag-back, state-back, phase-back, flag-in, state-in, phase-in}
 use Rattle.cells.specs.Cells.{cells, Each, All, Below}
 use Rattle.cells.specs.Groups.{groupsBytes, Outside}
@@ -81,6 +81,7 @@ module _ (n J b : ℕ) (boxes : n ≤ mostBoxes) (x : Box) (f : FormedBox n J b 
         best = x .head .best;
         answered = x .head .answered;
         accepts = x .head .accepts;
+        heard = x .head .heard;
         waiting = x .head .waiting;
         agreeing = x .head .agreeing;
         peers = peers-back i;
@@ -142,8 +143,10 @@ module _ (n J b : ℕ) (boxes : n ≤ mostBoxes) (x : Box) (f : FormedBox n J b 
     unfolding Each
     head-words =
         let flag : flagNumber (x .head .leads) ≤ 1 = leb-true _ _ (flag-in (x .head .leads)) in
-        let state : stateNumber (x .head .state) ≤ 4 = leb-true _ _ (state-in (x .head .state)) in
-        let phase : phaseNumber (x .head .phase) ≤ 5 = leb-true _ _ (phase-in (x .head .phase)) in
+        let state : stateNumber (x .head .state) ≤ mostState =
+        leb-true _ _ (state-in (x .head .state)) in
+        let phase : phaseNumber (x .head .phase) ≤ mostPhase =
+        leb-true _ _ (phase-in (x .head .phase)) in
         let pn = f .pn in
         let stored-pn = f .stored-pn in
         let stored-number = f .stored-number in
@@ -151,6 +154,7 @@ module _ (n J b : ℕ) (boxes : n ≤ mostBoxes) (x : Box) (f : FormedBox n J b 
         let best-number = f .best-number in
         let answered = set-fits n (x .head .answered) boxes (f .answered) in
         let accepts = set-fits n (x .head .accepts) boxes (f .accepts) in
+        let heard = set-fits n (x .head .heard) boxes (f .heard) in
         let last = f .last in
         let first = f .first .top in
         let room = f .held .room in
@@ -173,7 +177,10 @@ module _ (n J b : ℕ) (boxes : n ≤ mostBoxes) (x : Box) (f : FormedBox n J b 
                           omega arith,
                           (
                             omega arith,
-                            (omega arith, (omega arith, (omega arith, (omega arith, tt)))),
+                            (
+                              omega arith,
+                              (omega arith, (omega arith, (omega arith, (omega arith, tt)))),
+                            ),
                           ),
                         ),
                       ),

@@ -29,6 +29,7 @@ first-few Kind.Begin = omega arith
 first-few Kind.Accept = omega arith
 first-few Kind.Commit = omega arith
 first-few Kind.Lease = omega arith
+first-few Kind.LeaseAck = omega arith
 
 pub letter-cut : (k : Kind) → Cut 0 place.headWords (letterGroups k)
 unfolding Cut

@@ -17,7 +17,7 @@ use Rattle.laws.proofs.Types.{Kind, Mail}
 use Rattle.laws.proofs.Logic.{and-yes}
 use Rattle.laws.proofs.FormLaws.{FormedFirst, FormedLetter, FormedKind, letter-says}
 use Rattle.letter.specs.Place.{mailAt, kindOf, wordsOfMail, kindAt, firstAt, unagreedAt, countAt}
-use Rattle.letter.specs.Place.{headWords}
+use Rattle.letter.specs.Place.{headWords, mostKind}
 use Rattle.letter.proofs.KindLaws.{kind-back, kind-in}
 use Rattle.cells.specs.Cells.{chain, cells, Each, All, Stands, Read}
 use Rattle.cells.specs.Groups.{Group, group, groupsBytes, Outside, GroupedWords}
@@ -72,6 +72,7 @@ letter-few {J} {y} f = go (y .head .kind) (f .kind)
     go Kind.Accept h = omega (arith, h .no-records)
     go Kind.Commit h = h .room
     go Kind.Lease h = omega (arith, h .bare .no-records)
+    go Kind.LeaseAck h = omega (arith, h .bare .no-records)
 
 -- ---- a letter's words in their groups
 
@@ -94,7 +95,7 @@ beside c i h o = go (leb firstAt i) refl (leb unagreedAt i) refl
 abbrev mailWords : ℕ → Mail → ℕ → List ℕ
 mailWords k m count = k ∷ m .pn ∷ m .last ∷ m .first ∷ m .unagreed ∷ count ∷ []
 
-module _ (k : ℕ) (m : Mail) (count : ℕ) (kind : k ≤ 6) (p : m .pn ≤ mostPn)
+module _ (k : ℕ) (m : Mail) (count : ℕ) (kind : k ≤ mostKind) (p : m .pn ≤ mostPn)
     (l : m .last ≤ mostNumber) (u : m .unagreed ≤ mostPn) (n : count ≤ mostLoads) where
   with-first : FormedFirst (m .first) (m .last)
       → GroupedWords (mailGroups 1) headWords 0 (mailWords k m count)
@@ -123,7 +124,7 @@ module _ (k : ℕ) (m : Mail) (count : ℕ) (kind : k ≤ 6) (p : m .pn ≤ most
     none = λ i h o. ap (λ (j : ℕ). getD (mailWords k m count) j 0) (beside 0 i h o) ∙ f;
   }
 
-pub kind-few : (k : Kind) → kindNumber k ≤ 6
+pub kind-few : (k : Kind) → kindNumber k ≤ mostKind
 kind-few k = leb-true _ _ (and-yes (leb 1 (kindNumber k)) _ (kind-in k) .1)
 
 module _ (J : ℕ) (few : J ≤ mostLoads) where
@@ -160,6 +161,7 @@ module _ (J : ℕ) (few : J ≤ mostLoads) where
       go Kind.Accept h = lacks Kind.Accept (h .no-first)
       go Kind.Commit h = carries Kind.Commit (h .first)
       go Kind.Lease h = lacks Kind.Lease (h .bare .no-first)
+      go Kind.LeaseAck h = lacks Kind.LeaseAck (h .bare .no-first)
 
   -- ---- the kind first
 

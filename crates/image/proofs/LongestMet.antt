@@ -100,7 +100,7 @@ module _ (n J L : ℕ) (e : sizesForm n J L ≡ true) where
         stored-pn = omega arith;
         stored-number = omega arith;
       })
-      none-form (set-zero n) (set-zero n) (left refl) (left refl) (unknown-form n b)
+      none-form (set-zero n) (set-zero n) (set-zero n) (left refl) (left refl) (unknown-form n b)
 
   letter : FormedLetter J (fullLetter J)
   letter = record {

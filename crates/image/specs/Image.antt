@@ -73,6 +73,7 @@ firstWords Kind.Begin = 1
 firstWords Kind.Accept = 0
 firstWords Kind.Commit = 1
 firstWords Kind.Lease = 0
+firstWords Kind.LeaseAck = 0
 
 -- "its mails: kind .., pn (0 in Lease), last, [first], unagreed pn, record count, records": as in a
 -- place

@@ -16,8 +16,8 @@ tableLong n = tableBytes (n + 2)
 abbrev pub generalLong : ℕ
 generalLong = 20
 
--- a box: numbers ("flag, state, .. accept set"), "three records" and the "count of records held",
--- 28 bytes; "n peers' lasts"; and r records
+-- a box: numbers ("flag, state, .. accept set" and, with Q-12, who heard), "three records" and the
+-- "count of records held", 28 bytes; "n peers' lasts"; and r records
 abbrev pub boxHeadLong : ℕ → ℕ
 boxHeadLong n = 4 * bestAt + 28 + 4 * n
 
@@ -46,8 +46,8 @@ longest n J L =
 
 -- no image is longer than this: n = 5, J = 4,096, L = 16
 abbrev pub longestOfAll : ℕ
-longestOfAll = 10657920
+longestOfAll = 10657940
 
 -- .. and of a trace's: n = 5, J = 32, L = 8
 abbrev pub longestOfTraces : ℕ
-longestOfTraces = 46720
+longestOfTraces = 46740

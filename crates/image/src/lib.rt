@@ -66,6 +66,7 @@ fn first_words(k: Kind) -> usize
         Kind::Accept => 0,
         Kind::Commit => 1,
         Kind::Lease => 0,
+        Kind::LeaseAck => 0,
     }
 }
 

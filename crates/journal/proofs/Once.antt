@@ -38,12 +38,12 @@ alone-once {s} {o} p q = (
   alike s o o refl (p .owned) (q .owned),
 )
 
-pub unheard-once : {u : Unheard} {set t v r q : ℕ} → UnheardAnswered u set t r
-    → UnheardAnswered u set v q → (r ≡ q) × (t ≡ v)
-unheard-once {set = set} p q =
+pub unheard-once : {u : Unheard} {w t v r q : ℕ} → UnheardAnswered u w t r
+    → UnheardAnswered u w v q → (r ≡ q) × (t ≡ v)
+unheard-once {w = w} p q =
     let e = p .is ∙ sym (q .is) in (
       p .number ∙ ap unheardNumber e ∙ sym (q .number),
-      p .set ∙ ap (λ u. unheardSet u set) e ∙ sym (q .set),
+      p .set ∙ ap (λ u. unheardSet u w) e ∙ sym (q .set),
     )
 
 -- the number and the length of one answer

@@ -14,9 +14,9 @@ abbrev pub unheardSet : Unheard → ℕ → ℕ
 unheardSet (Unheard.Boxes set) before = set
 unheardSet (Unheard.Refused why) before = before
 
--- the entry says u; set has become set', and r was answered
-pub record UnheardAnswered (u : Unheard) (set set' r : ℕ) : Type 0 where
+-- the entry says u; the set w has become w', and r was answered
+pub record UnheardAnswered (u : Unheard) (w w' r : ℕ) : Type 0 where
   pub answer : Unheard
   pub is : answer ≡ u
   pub number : r ≡ unheardNumber answer
-  pub set : set' ≡ unheardSet answer set
+  pub set : w' ≡ unheardSet answer w

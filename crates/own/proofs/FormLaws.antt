@@ -10,9 +10,9 @@ use borrow.Author.Tests.{leb-true, le-leb, lt-leb}
 use Rattle.rules.specs.Every.{all}
 use Rattle.rules.specs.Sizes.{mostBoxes, mostEpoch, within, sizesForm}
 use Rattle.rules.specs.Sets.{setForm}
-use Rattle.rules.specs.Box.{own, mail}
-use Rattle.rules.specs.Form.{formBox, formLetter}
-use Rattle.rules.specs.Own.{formOwn}
+use Rattle.rules.specs.Box.{Event, own, mail}
+use Rattle.rules.specs.Form.{formBox}
+use Rattle.rules.specs.Own.{formEvent, formOwn}
 use Rattle.laws.proofs.Types.{Act, Setting}
 use Rattle.laws.proofs.Logic.{and-yes, passed, _&_, none, made}
 use Rattle.laws.proofs.FormLaws.{FormedBox, FormedLetter, sizes-says, box-says, letter-says}
@@ -21,6 +21,7 @@ use Rattle.letter.specs.Lent.{PlaceSized}
 use Rattle.row.specs.Row.{rowFits, rowForm, countAt, headWords}
 use Rattle.row.specs.Lent.{RowSized, RowByForm, PlaceByForm}
 use Rattle.own.specs.Entry.{rowOf, placeOf, ownBox, ownLetter, rowReads, placeReads}
+use Rattle.own.specs.Lent.{rowTest, placeTest, formTest}
 
 -- ---- words of which the first w are read: what they hold fits, and has a form
 
@@ -43,18 +44,6 @@ module _ (w : ℕ) (ws : List ℕ) (fits form : Bool) where
       (leb-true w (length ws) (q .0), q .1, p .1)
 
 module _ (s : Setting) where
-  -- the epoch and the present set
-  abbrev pub settingForm : Bool
-  settingForm = within 1 mostEpoch (s .epoch) && setForm (s .n) (s .present)
-
-  -- the row can be read, and the box that it holds is by form
-  abbrev pub rowTest : List ℕ → Bool
-  rowTest r = rowReads (s .j) r && formBox (s .n) (s .j) (s .me) (ownBox s r)
-
-  -- the place can be read, and the letter that it holds is by form
-  abbrev pub placeTest : List ℕ → Bool
-  placeTest p = placeReads (s .j) p && formLetter (s .j) (ownLetter s p)
-
   pub row-sized : (r : List ℕ) → sizesForm (s .n) (s .j) (s .l) ≡ true → headWords + s .j ≤ length r
       → RowSized (s .n) (s .j) (rowOf (s .j) r)
   row-sized r sizes h = let z = sizes-says sizes in
@@ -72,41 +61,31 @@ module _ (s : Setting) where
 
 -- ---- the tests together
 
+-- what the code asks before the event e is what its form needs
+pub record Asks (s : Setting) (r p : List ℕ) (mailed : Bool) (e : Event) (reads : Bool) : Type 0
+  where
+    pub form : formTest s r p mailed ≡ (reads && formOwn s (ownBox s r) e)
+
 module _ (s : Setting) (r : List ℕ) where
-  -- what is by form before a step of its own ..
-  abbrev pub actForm : Act → Bool
-  actForm a = rowReads (s .j) r && formOwn s (ownBox s r) (own a)
-
-  -- .. and before a mail from a sender in the place p
-  abbrev pub mailForm : ℕ → List ℕ → Bool
-  mailForm sender p =
-      rowReads (s .j) r && placeReads (s .j) p
-      && formOwn s (ownBox s r) (mail sender (ownLetter s p))
-
-  pub act-tested : (a : Act) (t u : Bool) → t ≡ settingForm s → u ≡ rowTest s r
-      → (t && u) ≡ actForm a
+  asked : (e : Event) (b c : Bool)
+      → (within 1 mostEpoch (s .epoch) && setForm (s .n) (s .present)
+      && (b && formBox (s .n) (s .j) (s .me) (ownBox s r)) && (c && formEvent s e))
+      ≡ (b && c && formOwn s (ownBox s r) e)
   unfolding formOwn all
-  act-tested a t u et eu = rw (et, eu) (go (rowReads (s .j) r))
-    where
-      go : (b : Bool)
-          → (settingForm s && (b && formBox (s .n) (s .j) (s .me) (ownBox s r)))
-          ≡ (b && formOwn s (ownBox s r) (own a))
-      go true = simp (and-assoc, and-true)
-      go false = simp and-false
+  asked e true true = simp (and-assoc, and-true)
+  asked e true false = simp and-false
+  asked e false c = simp and-false
 
-  pub mail-tested : (sender : ℕ) (p : List ℕ) (t u v : Bool) → t ≡ settingForm s → u ≡ rowTest s r
-      → v ≡ placeTest s p → (t && u && v) ≡ mailForm sender p
-  unfolding formOwn all
-  mail-tested sender p t u v et eu ev =
-      rw (et, eu, ev) (go (rowReads (s .j) r) (placeReads (s .j) p))
-    where
-      go : (b c : Bool)
-          → (settingForm s && (b && formBox (s .n) (s .j) (s .me) (ownBox s r))
-          && (c && formLetter (s .j) (ownLetter s p)))
-          ≡ (b && c && formOwn s (ownBox s r) (mail sender (ownLetter s p)))
-      go true true = simp (and-assoc, and-true)
-      go true false = simp and-false
-      go false c = simp and-false
+  pub act-asks : (p : List ℕ) (a : Act) → Asks s r p false (own a) (rowReads (s .j) r)
+  act-asks p a =
+      record { form = asked (own a) (rowReads (s .j) r) true ∙ rw (and-true (rowReads (s .j) r)) }
+
+  pub mail-asks : (p : List ℕ) (sender : ℕ)
+      → Asks s r p true (mail sender (ownLetter s p)) (rowReads (s .j) r && placeReads (s .j) p)
+  mail-asks p sender =
+      record {
+        form = asked (mail sender (ownLetter s p)) (rowReads (s .j) r) (placeReads (s .j) p);
+      }
 
 -- ---- what they say
 

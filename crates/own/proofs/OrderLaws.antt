@@ -1,39 +1,103 @@
 -- What comes before the turn, in the order of the refusals: 13, 1 and 2.
-use mathlib.Core.Path.{_≡_, refl}
-use mathlib.Core.Bool.{Bool, true, false, _&&_}
+use mathlib.Core.Path.{_≡_, refl, sym, ap}
+use mathlib.Core.Bool.{Bool, true, false, not, _&&_, _||_, cond}
 use mathlib.Core.List.{List}
 use Prim.Native.Nat.{ℕ}
-use Rattle.rules.specs.Sizes.{sizesForm}
-use Rattle.rules.specs.Needs.{ruled}
-use Rattle.rules.specs.Box.{Box, Event, turnOf, brought}
+use Rattle.rules.specs.Sizes.{mostEpoch, within, sizesForm}
+use Rattle.rules.specs.Sets.{setForm}
+use Rattle.rules.specs.Needs.{Need, ruled}
+use Rattle.rules.specs.Box.{Box, Event, own, turnOf, brought}
+use Rattle.rules.specs.Site.{isBox}
 use Rattle.rules.specs.Own.{unmoved, ownTurn, formOwn, rightNumbers, ownStep}
-use Rattle.laws.proofs.Types.{Answer, Refusal, Setting}
-use Rattle.laws.proofs.Logic.{both-no}
-use Rattle.own.specs.Entry.{ownOn, buffered}
+use Rattle.rules.specs.Unheard.{unheardBy, ownUnheard}
+use Rattle.rules.specs.declared.model.Unheard.{Unheard}
+use Rattle.laws.proofs.Types.{Act, Answer, Refusal, Setting}
+use Rattle.laws.proofs.Logic.{Passed, true≠false, and4}
+use Rattle.laws.proofs.StepLaws.{mets, by-needs}
+use Rattle.own.specs.declared.Judged.{Judged}
+use Rattle.own.specs.Entry.{ownBox, rowReads, ownOn, unheardOn, buffered}
+use Rattle.own.specs.Lent.{rowTest, placeTest, inOrder, judged}
+use Rattle.own.proofs.FormLaws.{Asks, act-asks}
 
-module _ (s : Setting) (x : Box) (e : Event) (out : List ℕ) where
-  pub sizes-wrong : (reads : Bool) → sizesForm (s .n) (s .j) (s .l) ≡ false
-      → ownOn s x reads e out ≡ unmoved x (Answer.Refused Refusal.Sizes)
-  unfolding ownOn buffered ownStep ruled
-  sizes-wrong true h = rw h
-  sizes-wrong false h = rw h
+-- what comes of it: a refusal, or a
+abbrev pub by {ℓ} : {A : Type ℓ} → (Refusal → A) → A → Judged → A
+by refuse a Judged.Passed = a
+by refuse a (Judged.Refused why) = refuse why
 
-  module _ (sizes : sizesForm (s .n) (s .j) (s .l) ≡ true) where
-    pub form-wrong : (reads : Bool) → (reads && formOwn s x e) ≡ false
-        → ownOn s x reads e out ≡ unmoved x (Answer.Refused Refusal.Form)
-    unfolding ownOn buffered ownStep ruled
-    form-wrong true h = rw (sizes, h)
-    form-wrong false h = rw sizes
+-- Every need is met where none refuses.
+all-met : (ks : List Need) → ruled Judged.Refused ks Judged.Passed ≡ Judged.Passed
+    → Passed (mets ks)
+all-met ks =
+    by-needs (λ v. v ≡ Judged.Passed → Passed (mets ks)) Judged.Refused ks Judged.Passed
+    (λ why e. absurd (true≠false (sym (ap (by (λ w. false) true) e))))
+    (λ p e. p)
 
-    pub numbers-wrong : (reads : Bool) → (reads && formOwn s x e) ≡ true → rightNumbers s e ≡ false
-        → ownOn s x reads e out ≡ unmoved x (Answer.Refused Refusal.Box)
-    unfolding ownOn buffered ownStep ruled
-    numbers-wrong true f h = rw (sizes, f, h)
-    numbers-wrong false f h = absurd (both-no f refl)
+-- Words that cannot be read are not by form; sizes come first.
+module _ {ℓ κ} {A : Type ℓ} {B : Type κ} (f : A → B) (refuse : Refusal → A) (a : A) where
+  first-found : (sizes reads form numbers : Bool)
+      → cond (reads || not sizes) (f (ruled refuse (inOrder sizes form numbers) a))
+      (f (refuse Refusal.Form))
+      ≡ by (λ why. f (refuse why)) (f a)
+      (ruled Judged.Refused (inOrder sizes (reads && form) numbers) Judged.Passed)
+  unfolding ruled
+  first-found false true form numbers = refl
+  first-found false false form numbers = refl
+  first-found true false form numbers = refl
+  first-found true true false numbers = refl
+  first-found true true true false = refl
+  first-found true true true true = refl
 
-    pub turn-on : (reads : Bool) → (reads && formOwn s x e) ≡ true → rightNumbers s e ≡ true
-        → ownOn s x reads e out
-        ≡ buffered s x out (ownTurn (turnOf s x e .answer) x (turnOf s x e) (brought e))
-    unfolding ownOn ownStep ruled
-    turn-on true f h = rw (sizes, f, h)
-    turn-on false f h = absurd (both-no f refl)
+-- nothing is found before the event e: the turn is next
+pub record Clear (s : Setting) (r p : List ℕ) (mailed : Bool) (e : Event) (reads : Bool) : Type 0
+  where
+    pub sizes : sizesForm (s .n) (s .j) (s .l) ≡ true
+    pub present : setForm (s .n) (s .present) ≡ true
+    pub row : rowTest s r ≡ true
+    pub letter : (not mailed || placeTest s p) ≡ true
+    pub numbers : rightNumbers s e ≡ true
+    pub next : (out : List ℕ) → ownOn s (ownBox s r) reads e out
+        ≡ buffered s (ownBox s r) out (ownTurn (turnOf s (ownBox s r) e .answer) (ownBox s r)
+        (turnOf s (ownBox s r) e) (brought e))
+
+module _ {s : Setting} {r p : List ℕ} {mailed : Bool} {e : Event} {reads : Bool}
+    (asks : Asks s r p mailed e reads) where
+  abbrev x : Box
+  x = ownBox s r
+
+  abbrev pub found : Judged
+  found = judged s r p mailed (rightNumbers s e)
+
+  pub own-found : {v : Judged} → found ≡ v → (out : List ℕ) → ownOn s x reads e out
+      ≡ by (λ why. unmoved x (Answer.Refused why))
+      (buffered s x out (ownTurn (turnOf s x e .answer) x (turnOf s x e) (brought e)))
+      v
+  unfolding judged ownOn buffered ownStep
+  own-found h out =
+      rw (← h, asks .form)
+      (first-found (buffered s x out) (λ why. unmoved x (Answer.Refused why)) _
+      (sizesForm (s .n) (s .j) (s .l)) reads (formOwn s x e) (rightNumbers s e))
+
+  pub clear : found ≡ Judged.Passed → Clear s r p mailed e reads
+  unfolding judged
+  clear h =
+      let t = all-met _ h in
+      let f = and4 (within 1 mostEpoch (s .epoch)) _ (rowTest s r) _ (t .1 .0) in
+      record {
+        sizes = t .0;
+        present = f .1;
+        row = f .2;
+        letter = f .3;
+        numbers = t .1 .1 .0;
+        next = own-found h;
+      }
+
+-- Which present boxes have not answered its lease, after the same.
+pub unheard-found : (s : Setting) (r p : List ℕ) {v : Judged}
+    → found (act-asks s r p Act.Heard) ≡ v
+    → by Unheard.Refused (unheardBy (ownBox s r .head) s) v ≡ unheardOn s r
+unfolding judged unheardOn ownUnheard
+unheard-found s r p h =
+    rw (← h, act-asks s r p Act.Heard .form)
+    (sym (first-found (λ u. u) Unheard.Refused (unheardBy (ownBox s r .head) s)
+    (sizesForm (s .n) (s .j) (s .l)) (rowReads (s .j) r) (formOwn s (ownBox s r) (own Act.Heard))
+    (isBox (s .n) (s .me))))

@@ -14,8 +14,8 @@ use Rattle.letter.specs.Place as place
 use Rattle.letter.specs.Place.{kindOf, letterAt, placeFits, headWords as letterHead}
 use Rattle.row.specs.Row.{stateOf, phaseOf, flagOf, peerOf, boxOf, rowFits, headWords}
 use Rattle.row.specs.Row.{flagAt, stateAt, phaseAt, pnAt, lastAt, firstAt, storedPnAt}
-use Rattle.row.specs.Row.{storedNumberAt, bestPnAt, bestNumberAt, answeredAt, acceptsAt, bestAt}
-use Rattle.row.specs.Row.{waitingAt, agreeingAt, beforePeers, peersAt, countAt}
+use Rattle.row.specs.Row.{storedNumberAt, bestPnAt, bestNumberAt, answeredAt, acceptsAt, heardAt}
+use Rattle.row.specs.Row.{bestAt, waitingAt, agreeingAt, beforePeers, peersAt, countAt}
 use Rattle.row.specs.Lent.{recordsOf}
 use Rattle.own.specs.Entry.{rowOf, placeOf, ownBox, ownLetter, rowReads, placeReads}
 use Rattle.own.specs.Entry.{buffered, ownOn, actOn, mailOn}
@@ -107,6 +107,7 @@ module _ (n : ℕ) (r r' : List ℕ) (e : SameRow n r r') where
       };
       answered = field answeredAt refl i;
       accepts = field acceptsAt refl i;
+      heard = field heardAt refl i;
       waiting = field waitingAt refl i;
       agreeing = field agreeingAt refl i;
       peers = peer 1 i ∷ peer 2 i ∷ peer 3 i ∷ peer 4 i ∷ peer 5 i ∷ [];

@@ -70,6 +70,7 @@ module _ (J pn last first unagreed : ℕ) (rs : List ℕ) where
       let l : length (take agreed rs) ≡ agreed = omega (arith, f .all-records) in
       (omega (arith, length-take agreed rs), omega (arith, f .room), top)
   enclosed-held Kind.Lease f p = (omega arith, omega arith, omega (arith, f .bare .no-first))
+  enclosed-held Kind.LeaseAck f p = (omega arith, omega arith, omega (arith, f .bare .no-first))
 
 posts : (n J : ℕ) (o : Out) (rs : List ℕ) → OutFits n J rs o → (q : List ℕ)
     → length q ≡ letterHead + J

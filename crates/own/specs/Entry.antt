@@ -10,10 +10,12 @@ use Rattle.rules.specs.Sizes.{sizesForm}
 use Rattle.rules.specs.Answers.{isRefusal, isAccepted}
 use Rattle.rules.specs.Box.{Box, Letter, Event, own, mail}
 use Rattle.rules.specs.Own.{OwnOutcome, unmoved, ownStep}
+use Rattle.rules.specs.Unheard.{ownUnheard}
 use Rattle.rules.specs.declared.model.Act.{Act}
 use Rattle.rules.specs.declared.model.Answer.{Answer}
 use Rattle.rules.specs.declared.model.Refusal.{Refusal}
 use Rattle.rules.specs.declared.model.Setting.{Setting}
+use Rattle.rules.specs.declared.model.Unheard.{Unheard}
 use Rattle.letter.specs.Place.{letterAt, placeFits, headWords as letterHead}
 use Rattle.row.specs.Row.{boxOf, rowFits, headWords}
 
@@ -46,11 +48,12 @@ buffered s x out o =
     o
 
 -- words that cannot be read are not by form (1); sizes outside their ranges come first (13)
+abbrev pub ifRead {ℓ} : {A : Type ℓ} → Setting → Bool → A → A → A
+ifRead s reads read unread = cond (reads || not (sizesForm (s .n) (s .j) (s .l))) read unread
+
 unfoldable pub ownOn : Setting → Box → Bool → Event → List ℕ → OwnOutcome
 ownOn s x reads e out =
-    cond (reads || not (sizesForm (s .n) (s .j) (s .l)))
-    (buffered s x out (ownStep s x e))
-    (unmoved x (Answer.Refused Refusal.Form))
+    ifRead s reads (buffered s x out (ownStep s x e)) (unmoved x (Answer.Refused Refusal.Form))
 
 -- a step of its own
 abbrev pub actOn : Setting → List ℕ → Act → List ℕ → OwnOutcome
@@ -61,6 +64,11 @@ abbrev pub mailOn : Setting → List ℕ → ℕ → List ℕ → List ℕ → O
 mailOn s r sender p out =
     ownOn s (ownBox s r) (rowReads (s .j) r && placeReads (s .j) p)
     (mail sender (ownLetter s p)) out
+
+-- which present boxes have not answered its lease
+unfoldable pub unheardOn : Setting → List ℕ → Unheard
+unheardOn s r =
+    ifRead s (rowReads (s .j) r) (ownUnheard s (ownBox s r)) (Unheard.Refused Refusal.Form)
 
 -- the letters to each box of a set: one, in the lent place, or none where the set is empty
 abbrev pub lettersIn : Setting → ℕ → List ℕ → List Letter

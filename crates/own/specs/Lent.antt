@@ -1,20 +1,53 @@
 -- What the functions over a box's own row and the places of its letters ask for and give.
 use mathlib.Core.Path.{_≡_}
 use Prim.Native.Nat.{ℕ, _+_, _≤_}
-use mathlib.Core.Bool.{true, cond}
+use mathlib.Core.Bool.{Bool, true, not, _&&_, _||_, cond}
 use mathlib.Core.List.{List, [], _∷_}
 use lib.Dec.{eqb}
 use lib.ListN.{length}
+use Rattle.rules.specs.Sizes.{mostEpoch, within, sizesForm}
+use Rattle.rules.specs.Sets.{setForm}
+use Rattle.rules.specs.Needs.{Need, need, ruled}
+use Rattle.rules.specs.Form.{formBox, formLetter}
 use Rattle.rules.specs.Box.{turned}
 use Rattle.rules.specs.Own.{OwnOutcome, receivers, lettersOf, ownTurn}
 use Rattle.rules.specs.declared.model.Out.{Out}
+use Rattle.rules.specs.declared.model.Refusal.{Refusal}
 use Rattle.rules.specs.declared.model.Setting.{Setting}
 use Rattle.rules.specs.declared.model.Turn.{Turn}
 use Rattle.letter.specs.Place.{letterAt, placeFits, headWords as letterHead}
 use Rattle.letter.specs.Lent.{Encloses}
 use Rattle.row.specs.Row.{boxOf, headWords}
 use Rattle.row.specs.Lent.{Plays, Played}
-use Rattle.own.specs.Entry.{rowOf, ownBox, rowReads, placeReads, buffered}
+use Rattle.own.specs.declared.Judged.{Judged}
+use Rattle.own.specs.Entry.{rowOf, ownBox, ownLetter, rowReads, placeReads, buffered}
+
+-- the row can be read, and the box that it holds is by form
+abbrev pub rowTest : Setting → List ℕ → Bool
+rowTest s r = rowReads (s .j) r && formBox (s .n) (s .j) (s .me) (ownBox s r)
+
+-- the place can be read, and the letter that it holds is by form
+abbrev pub placeTest : Setting → List ℕ → Bool
+placeTest s p = placeReads (s .j) p && formLetter (s .j) (ownLetter s p)
+
+-- and so is all that concerns the box alone; a letter only where `mailed`
+abbrev pub formTest : Setting → List ℕ → List ℕ → Bool → Bool
+formTest s r p mailed =
+    within 1 mostEpoch (s .epoch) && setForm (s .n) (s .present) && rowTest s r
+    && (not mailed || placeTest s p)
+
+-- what a turn needs first, in the order of the refusals: 13, 1, 2
+abbrev pub inOrder : Bool → Bool → Bool → List Need
+inOrder sizes form numbers =
+    need Refusal.Sizes sizes ∷ need Refusal.Form form ∷ need Refusal.Box numbers ∷ []
+
+-- which of these refuses a step of its own, or where `mailed` a mail in the place p
+unfoldable pub judged : Setting → List ℕ → List ℕ → Bool → Bool → Judged
+judged s r p mailed numbers =
+    ruled Judged.Refused
+    (inOrder (sizesForm (s .n) (s .j) (s .l))
+    (formTest s r p mailed) numbers)
+    Judged.Passed
 
 -- rs has the records of what is sent, and the place p has room for them
 abbrev pub Posts : List ℕ → Out → List ℕ → Type 0

@@ -1,23 +1,18 @@
 // A box by itself: its own row, one event or mail in; the row, one letter and its receivers out.
 ghost use mathlib.Core.Path.{_≡_};
 ghost use mathlib.Core.Bool.{true, _&&_, cond};
-ghost use Prim.Native.Nat.{_+_};
+ghost use Prim.Native.Nat.{_+_, _≤_};
 ghost use lib.Dec.{ltb};
-ghost use Rattle.rules.specs.Sizes.{mostEpoch, within, sizesForm};
+ghost use lib.ListN.{length, take};
+ghost use Rattle.rules.specs.Sizes.{sizesForm};
 ghost use Rattle.rules.specs.Answers.{isAccepted};
-ghost use Rattle.rules.specs.Sets.{setForm};
-ghost use Rattle.rules.specs.Form.{formBox, formLetter};
 ghost use Rattle.letter.specs.Place.{headWords};
-ghost use Rattle.own.specs.Entry.{
-  ownBox,
-  ownLetter,
-  rowReads,
-  placeReads,
-  actOn,
-  mailOn,
-  Owned,
-};
+ghost use Rattle.own.specs.Entry.{actOn, mailOn, unheardOn, Owned};
 ghost use Rattle.own.specs.Lent.{
+  rowTest,
+  placeTest,
+  formTest,
+  judged,
   Posts,
   Posted,
   Carries,
@@ -34,12 +29,19 @@ use rules::model::Out;
 use rules::model::Refusal;
 use rules::model::Setting;
 use rules::model::Turn;
+use rules::model::Unheard;
 use rules::ranges;
 
 // The answer, and the set of boxes that the letter goes to; the set is empty where there is none.
 pub struct Sent {
     pub answer: Answer,
     pub to: u32,
+}
+
+// What comes before a turn: a refusal, or nothing.
+enum Judged {
+    Passed,
+    Refused(Refusal),
 }
 
 fn refused(why: Refusal) -> Sent
@@ -57,40 +59,62 @@ fn are_sizes(s: Setting) -> bool
     ranges::are_sizes(s.n as u64, s.j as u64, s.l as u64)
 }
 
-// The epoch and the present set.
-fn is_setting(s: Setting) -> bool
-    ensures { λ r. ⌜ r ≡ (within 1 mostEpoch (s .epoch) && setForm (s .n) (s .present)) ⌝ }
+// The words of a row or of a place; what follows them is unused room.
+fn used(words: &[u64], head: usize, j: u32) -> &[u64]
+    requires { ⌜ head + j ≤ length (now words) ⌝ }
+    ensures { λ r. ⌜ now r ≡ take (head + j) (now (words .entry)) ⌝ }
 {
-    let present = values::is_set(s.n, values::wide(s.present));
-    (1 <= s.epoch) & (s.epoch <= 1000000) & present
+    let end = head + j as usize;
+    &words[0..end]
 }
 
 // The row can be read, and its box is by form.
 fn is_row(row: &[u64], s: Setting) -> bool
     requires { ⌜ sizesForm (s .n) (s .j) (s .l) ≡ true ⌝ }
-    ensures { λ r.
-        ⌜ r ≡ (rowReads (s .j) (now (row .entry))
-        && formBox (s .n) (s .j) (s .me) (ownBox s (now (row .entry)))) ⌝ }
+    ensures { λ r. ⌜ r ≡ rowTest s (now (row .entry)) ⌝ }
 {
-    let end = row::HEAD + s.j as usize;
-    if row.len() < end {
+    if row.len() < row::HEAD + s.j as usize {
         return false;
     }
-    row::is_by_form(&row[0..end], s.n, s.j, s.me)
+    row::is_by_form(used(row, row::HEAD, s.j), s.n, s.j, s.me)
 }
 
 // The place can be read, and its letter is by form.
 fn is_letter(letter: &[u64], s: Setting) -> bool
     requires { ⌜ sizesForm (s .n) (s .j) (s .l) ≡ true ⌝ }
-    ensures { λ r.
-        ⌜ r ≡ (placeReads (s .j) (now (letter .entry))
-        && formLetter (s .j) (ownLetter s (now (letter .entry)))) ⌝ }
+    ensures { λ r. ⌜ r ≡ placeTest s (now (letter .entry)) ⌝ }
 {
-    let end = letter::HEAD + s.j as usize;
-    if letter.len() < end {
+    if letter.len() < letter::HEAD + s.j as usize {
         return false;
     }
-    letter::is_by_form(&letter[0..end], s.j)
+    letter::is_by_form(used(letter, letter::HEAD, s.j), s.j)
+}
+
+// By form, of what concerns the box alone; `mailed` says whether a letter came.
+fn is_formed(row: &[u64], letter: &[u64], s: Setting, mailed: bool) -> bool
+    requires { ⌜ sizesForm (s .n) (s .j) (s .l) ≡ true ⌝ }
+    ensures { λ r. ⌜ r ≡ formTest s (now (row .entry)) (now (letter .entry)) mailed ⌝ }
+{
+    let present = values::is_set(s.n, values::wide(s.present));
+    let own = is_row(row, s);
+    let read = is_letter(letter, s);
+    (1 <= s.epoch) & (s.epoch <= 1000000) & present & own & (!mailed | read)
+}
+
+// 13, 1 and 2, in this order.
+fn judge(row: &[u64], letter: &[u64], s: Setting, mailed: bool, numbers: bool) -> Judged
+    ensures { λ r. ⌜ r ≡ judged s (now (row .entry)) (now (letter .entry)) mailed numbers ⌝ }
+{
+    if !are_sizes(s) {
+        return Judged::Refused(Refusal::Sizes);
+    }
+    if !is_formed(row, letter, s, mailed) {
+        return Judged::Refused(Refusal::Form);
+    }
+    if numbers {
+        return Judged::Passed;
+    }
+    Judged::Refused(Refusal::Box)
 }
 
 // 12 where the turn goes on and the place for its letter has too few words.
@@ -175,21 +199,30 @@ pub fn act(row: &mut [u64], out: &mut [u64], s: Setting, a: Act) -> Sent
         (r .answer) (r .to) ⌝ }
     ensures { λ r. ⌜ StillReads s (now (row .entry)) (now (row .exit)) (now (out .exit)) (r .to) ⌝ }
 {
-    if !are_sizes(s) {
-        return refused(Refusal::Sizes);
-    }
-    let setting = is_setting(s);
-    let own = is_row(row, s);
-    if !(setting & own) {
-        return refused(Refusal::Form);
-    }
-    if !ranges::is_box(s.n, s.me) {
-        return refused(Refusal::Box);
-    }
-    let end = row::HEAD + s.j as usize;
-    let t = row::act_turn(&row[0..end], s, a);
     let nothing = [0; letter::HEAD];
-    conclude(row, &nothing, out, s, t)
+    let came = judge(row, &nothing, s, false, ranges::is_box(s.n, s.me));
+    match came {
+        Judged::Refused(why) => refused(why),
+        Judged::Passed => {
+            let t = row::act_turn(used(row, row::HEAD, s.j), s, a);
+            conclude(row, &nothing, out, s, t)
+        }
+    }
+}
+
+// Which present boxes have not answered its lease.
+pub fn unheard(row: &[u64], s: Setting) -> Unheard
+    ensures { λ r. ⌜ r ≡ unheardOn s (now (row .entry)) ⌝ }
+{
+    let nothing = [0; letter::HEAD];
+    let came = judge(row, &nothing, s, false, ranges::is_box(s.n, s.me));
+    match came {
+        Judged::Refused(why) => Unheard::Refused(why),
+        Judged::Passed => {
+            let head = row::load(used(row, row::HEAD, s.j), s.n);
+            head.unheard(s)
+        }
+    }
 }
 
 // A mail from a sender, in a place of its own, and a place for the letter that answers it.
@@ -200,20 +233,13 @@ pub fn mail(row: &mut [u64], letter: &[u64], out: &mut [u64], s: Setting, sender
         (r .answer) (r .to) ⌝ }
     ensures { λ r. ⌜ StillReads s (now (row .entry)) (now (row .exit)) (now (out .exit)) (r .to) ⌝ }
 {
-    if !are_sizes(s) {
-        return refused(Refusal::Sizes);
+    let came = judge(row, letter, s, true, ranges::is_link(s.n, sender, s.me));
+    match came {
+        Judged::Refused(why) => refused(why),
+        Judged::Passed => {
+            let read = used(letter, letter::HEAD, s.j);
+            let t = row::mail_turn(used(row, row::HEAD, s.j), read, s, sender);
+            conclude(row, read, out, s, t)
+        }
     }
-    let setting = is_setting(s);
-    let own = is_row(row, s);
-    let read = is_letter(letter, s);
-    if !(setting & own & read) {
-        return refused(Refusal::Form);
-    }
-    if !ranges::is_link(s.n, sender, s.me) {
-        return refused(Refusal::Box);
-    }
-    let row_end = row::HEAD + s.j as usize;
-    let letter_end = letter::HEAD + s.j as usize;
-    let t = row::mail_turn(&row[0..row_end], &letter[0..letter_end], s, sender);
-    conclude(row, &letter[0..letter_end], out, s, t)
 }

@@ -3,8 +3,8 @@ use writer::Written;
 
 const IMAGE: i32 = 4;
 
-// The longest image of a replay, n 5, J 32, L 8, has 46,720 bytes, and out has room for it: so only
-// words that hold no site are refused. Gives the status.
+// The longest image of a replay, n 5, J 32, L 8 (`longestOfTraces`), has room in out: so only words
+// that hold no site are refused. Gives the status.
 pub(crate) fn send_image(site: &[u64], links: &[u64], out: &mut [u8]) -> u8 {
     match writer::write(site, links, out) {
         Written::Length(n) => {

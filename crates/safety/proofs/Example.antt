@@ -2,6 +2,7 @@
 -- compares numbers by counting.
 use Prim.Native.Nat.{ℕ}
 use mathlib.Core.Path.{_≡_, refl}
+use mathlib.Core.Bool.{true}
 use mathlib.Core.List.{List, [], _∷_, _++_, reverse}
 use lib.Count.{ones, onesIn}
 use lib.ListN.{getD}
@@ -28,7 +29,7 @@ use Rattle.rules.specs.Form.{firstForm, countForm, peerForm, formBox, formKind,
 use Rattle.rules.specs.Form.{formLink, form}
 use Rattle.rules.specs.Needs.{ruled}
 use Rattle.rules.specs.Step.{byAnswer, delivered, elect, presented, step, run, agreedAs, holds}
-use Rattle.laws.proofs.Types.{Call}
+use Rattle.laws.proofs.Types.{Answer, Call}
 
 -- the calls in their order in time, run from a fresh site
 abbrev pub ran : ℕ → ℕ → ℕ → List Call → Site
@@ -77,6 +78,10 @@ recovered =
     ∷ Call.Deliver 2 1
     ∷ Call.Ready 1
     ∷ []
+
+-- .. and box 2 has answered its Lease
+pub lease-answered : List Call
+lease-answered = recovered ++ Call.Deliver 1 2 ∷ Call.Deliver 2 1 ∷ []
 
 -- one load of the frames f and f, agreed at both, once the lease before it is heard (Q-12)
 pub load : ℕ → List Call
@@ -205,6 +210,9 @@ pub record Computed : Type 0 where
   pub replay : answerNumber (step (ran 2 16 8 replayed) (Call.Agree 1) .answer) ≡ 3
   pub further : ranges (ran 2 16 8 replayed-further) ≡ 1 ∷ 1 ∷ 1 ∷ 1 ∷ []
   pub further-holds : answerNumber (holds (ran 2 16 8 replayed-further) 2 1 71 72) ≡ 0
+  -- a lease that the other box has answered is heard (Q-12)
+  pub heard : (step (ran 2 16 8 lease-answered) (Call.Heard 1) .answer ≡ Answer.Done)
+      × (has (ran 2 16 8 lease-answered .present) 2 ≡ true)
   -- a third load is refused (7), ..
   pub full : answerNumber (step (ran 2 2 8 (two-loads ++ Call.Offer 1 3 3 ∷ [])) (Call.Propose 1)
       .answer) ≡ 7
@@ -232,11 +240,12 @@ unfolding replayed replayed-further recovered load two-loads third-load epoch2 e
     canPropose propose canAgree agree canFinish finish canHeard leaseHeard canTrim trim acted
     heldAt written enclosed freshHead fresh posted room countForm peerForm formBox formKind
     formLetter formLink form ruled byAnswer delivered elect presented step run agreedAs holds
-    ones onesIn firstForm higher roomNext
+    ones onesIn firstForm higher roomNext lease-answered
 computed = record {
   replay = refl;
   further = refl;
   further-holds = refl;
+  heard = (refl, refl);
   full = refl;
   again = refl;
   choice = refl;

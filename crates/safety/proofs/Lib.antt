@@ -37,3 +37,8 @@ pub mod Example
 pub mod Demand
 pub mod Room
 pub mod Rooms
+pub mod HeardWay
+pub mod HeardAnswers
+pub mod HeardTurn
+pub mod HeardSite
+pub mod HeardRun

@@ -18,7 +18,7 @@ use Rattle.safety.proofs.After.{After, after}
 
 -- presence changes: the epoch is odd afterwards, and nothing is asked of the mail
 
-odd-risen : (e : ℕ) → even (risen e) ≡ false
+pub odd-risen : (e : ℕ) → even (risen e) ≡ false
 odd-risen e =
     cond-elim (λ (t : ℕ). even t ≡ false) (even e)
     (λ t. let h : e % 2 ≡ 0 = eqb-yes (e % 2) 0 t in ne-eqb ((e + 1) % 2) 0 (λ g. omega (arith, g)))

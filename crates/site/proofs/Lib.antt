@@ -11,6 +11,7 @@ pub mod MailKnown
 pub mod HandOver
 pub mod ElectLaws
 pub mod HoldsLaws
+pub mod UnheardLaws
 pub mod Once
 pub mod Unformed
 pub mod AgreedLaws

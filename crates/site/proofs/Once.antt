@@ -6,15 +6,17 @@ use mathlib.Core.List.{List}
 use Rattle.rules.specs.Site.{Outcome}
 use Rattle.rules.specs.Form.{form}
 use Rattle.rules.specs.Step.{refused, step, holds}
+use Rattle.rules.specs.Unheard.{unheard}
 use Rattle.rules.specs.declared.model.Answer.{Answer}
 use Rattle.rules.specs.declared.model.Call.{Call}
 use Rattle.rules.specs.declared.model.Refusal.{Refusal}
+use Rattle.rules.specs.declared.model.Unheard.{Unheard}
 use Rattle.laws.specs.Frames.{CallFits}
 use Rattle.laws.proofs.FormKept.{step-keeps-form}
 use Rattle.memory.specs.Memory.{siteOf, readable, memoryForm}
 use Rattle.memory.proofs.LentLaws.{form-readable, form-site, form-both}
 use Rattle.rules.specs.Answers.{isRefusal}
-use Rattle.site.specs.Entries.{After, FormedStep, stepOn, holdsOn}
+use Rattle.site.specs.Entries.{After, FormedStep, stepOn, holdsOn, unheardOn}
 
 -- two results of one call have the same answer and the same site, and where it was refused the same
 -- words
@@ -48,6 +50,12 @@ unfolding holdsOn
 room-unheld xs ls ys ms c k left right r e =
     λ t. cond (r t) (holds (e t) c k left right) (Answer.Refused Refusal.Form)
 
+pub room-unasked : (xs ls ys ms : List ℕ) (c : ℕ) → readable xs ls ≡ readable ys ms
+    → siteOf xs ls ≡ siteOf ys ms → unheardOn xs ls c ≡ unheardOn ys ms c
+unfolding unheardOn
+room-unasked xs ls ys ms c r e =
+    λ t. cond (r t) (unheard (e t) c) (Unheard.Refused Refusal.Form)
+
 -- a call on words by form leaves words by form
 pub form-kept : {xs ls ys ms : List ℕ} {a : Answer} (d : Call) → CallFits d
     → memoryForm xs ls ≡ true
@@ -71,3 +79,8 @@ pub held-formed : (xs ls : List ℕ) (c k left right : ℕ) → memoryForm xs ls
     → holdsOn xs ls c k left right ≡ holds (siteOf xs ls) c k left right
 unfolding holdsOn
 held-formed xs ls c k left right f = rw (form-readable xs ls f) refl
+
+pub asked-formed : (xs ls : List ℕ) (c : ℕ) → memoryForm xs ls ≡ true
+    → unheardOn xs ls c ≡ unheard (siteOf xs ls) c
+unfolding unheardOn
+asked-formed xs ls c f = rw (form-readable xs ls f) refl

@@ -1,4 +1,4 @@
--- Words that are not by form: every call refuses them with 1, before anything else.
+-- Words that are not by form: every call and question refuses them with 1, before anything else.
 use Prim.Native.Nat.{ℕ}
 use mathlib.Core.Path.{_≡_, refl}
 use mathlib.Core.Bool.{true, false, cond}
@@ -6,13 +6,15 @@ use mathlib.Core.List.{List}
 use Rattle.rules.specs.Site.{Site}
 use Rattle.rules.specs.Form.{form}
 use Rattle.rules.specs.Step.{refused, step, holds}
+use Rattle.rules.specs.Unheard.{unheard}
 use Rattle.rules.specs.declared.model.Answer.{Answer}
 use Rattle.rules.specs.declared.model.Call.{Call}
 use Rattle.rules.specs.declared.model.Refusal.{Refusal}
+use Rattle.rules.specs.declared.model.Unheard.{Unheard}
 use Rattle.laws.proofs.Logic.{Or, left, right, decide, both-no}
 use Rattle.memory.specs.Memory.{siteOf, readable, memoryForm}
 use Rattle.memory.proofs.LentLaws.{form-both}
-use Rattle.site.specs.Entries.{After, stepOn, holdsOn}
+use Rattle.site.specs.Entries.{After, stepOn, holdsOn, unheardOn}
 use Rattle.site.proofs.AfterLaws.{need-not, refused-after}
 
 module _ (s : Site) (f : form s ≡ false) where
@@ -26,6 +28,7 @@ module _ (s : Site) (f : form s ≡ false) where
   unformed-step (Call.Propose c) = need-not _ _ _ _ _ f
   unformed-step (Call.Agree c) = need-not _ _ _ _ _ f
   unformed-step (Call.Finish c) = need-not _ _ _ _ _ f
+  unformed-step (Call.Heard c) = need-not _ _ _ _ _ f
   unformed-step (Call.Trim c k) = need-not _ _ _ _ _ f
   unformed-step (Call.Stop c) = need-not _ _ _ _ _ f
   unformed-step (Call.Return c) = need-not _ _ _ _ _ f
@@ -37,6 +40,10 @@ module _ (s : Site) (f : form s ≡ false) where
   unformed-holds : (c k l r : ℕ) → holds s c k l r ≡ Answer.Refused Refusal.Form
   unfolding holds
   unformed-holds c k l r = need-not _ _ _ _ _ f
+
+  unformed-unheard : (c : ℕ) → unheard s c ≡ Unheard.Refused Refusal.Form
+  unfolding unheard
+  unformed-unheard c = need-not _ _ _ _ _ f
 
 module _ (xs ls : List ℕ) (f : memoryForm xs ls ≡ false) where
   -- the words cannot be read, or the site that they hold is not by form
@@ -50,22 +57,26 @@ module _ (xs ls : List ℕ) (f : memoryForm xs ls ≡ false) where
       go (left r) (right s) = right (r, s)
       go (right r) s = left r
 
-  pub unformed-after : (d : Call) → After (stepOn xs ls d) xs ls xs ls (Answer.Refused Refusal.Form)
-  unfolding stepOn
-  unformed-after d = refused-after xs ls Refusal.Form _ (go why)
+  -- so what the words are asked is refused, where a site that is not by form refuses it
+  unformed {ℓ} : {A : Type ℓ} (asked other : A) → (form (siteOf xs ls) ≡ false → asked ≡ other)
+      → cond (readable xs ls) asked other ≡ other
+  unformed asked other refuses = go why
     where
       go : Or (readable xs ls ≡ false) ((readable xs ls ≡ true) × (form (siteOf xs ls) ≡ false))
-          → cond (readable xs ls) (step (siteOf xs ls) d) (refused (siteOf xs ls) Refusal.Form)
-          ≡ refused (siteOf xs ls) Refusal.Form
+          → cond (readable xs ls) asked other ≡ other
       go (left r) = rw r refl
-      go (right r) = rw (r .0) (unformed-step (siteOf xs ls) (r .1) d)
+      go (right r) = rw (r .0) (refuses (r .1))
+
+  pub unformed-after : (d : Call) → After (stepOn xs ls d) xs ls xs ls (Answer.Refused Refusal.Form)
+  unfolding stepOn
+  unformed-after d =
+      refused-after xs ls Refusal.Form _
+      (unformed _ _ (λ g. unformed-step (siteOf xs ls) g d))
 
   pub unformed-held : (c k l r : ℕ) → holdsOn xs ls c k l r ≡ Answer.Refused Refusal.Form
   unfolding holdsOn
-  unformed-held c k l r = go why
-    where
-      go : Or (readable xs ls ≡ false) ((readable xs ls ≡ true) × (form (siteOf xs ls) ≡ false))
-          → cond (readable xs ls) (holds (siteOf xs ls) c k l r) (Answer.Refused Refusal.Form)
-          ≡ Answer.Refused Refusal.Form
-      go (left e) = rw e refl
-      go (right e) = rw (e .0) (unformed-holds (siteOf xs ls) (e .1) c k l r)
+  unformed-held c k l r = unformed _ _ (λ g. unformed-holds (siteOf xs ls) g c k l r)
+
+  pub unformed-asked : (c : ℕ) → unheardOn xs ls c ≡ Unheard.Refused Refusal.Form
+  unfolding unheardOn
+  unformed-asked c = unformed _ _ (λ g. unformed-unheard (siteOf xs ls) g c)

@@ -9,9 +9,11 @@ use Rattle.rules.specs.Answers.{isRefusal}
 use Rattle.rules.specs.Site.{Outcome, fresh}
 use Rattle.rules.specs.Needs.{need, ruled}
 use Rattle.rules.specs.Step.{refused, did, step, holds}
+use Rattle.rules.specs.Unheard.{unheard}
 use Rattle.rules.specs.declared.model.Answer.{Answer}
 use Rattle.rules.specs.declared.model.Call.{Call}
 use Rattle.rules.specs.declared.model.Refusal.{Refusal}
+use Rattle.rules.specs.declared.model.Unheard.{Unheard}
 use Rattle.memory.specs.Memory.{enough, pastSite, pastLinks, siteOf, readable, memoryForm}
 
 -- the outcome o of a call on the words xs and ls: they have become xs' and ls', and a was answered
@@ -45,6 +47,11 @@ freshOn xs ls n J L =
 unfoldable pub holdsOn : List ℕ → List ℕ → ℕ → ℕ → ℕ → ℕ → Answer
 holdsOn xs ls c k left right =
     cond (readable xs ls) (holds (siteOf xs ls) c k left right) (Answer.Refused Refusal.Form)
+
+-- who has not answered the lease of box c (Q-12)
+unfoldable pub unheardOn : List ℕ → List ℕ → ℕ → Unheard
+unheardOn xs ls c =
+    cond (readable xs ls) (unheard (siteOf xs ls) c) (Unheard.Refused Refusal.Form)
 
 -- a call on words by form, which stay by form
 pub record FormedStep (d : Call) (xs ls xs' ls' : List ℕ) (a : Answer) : Type 0 where

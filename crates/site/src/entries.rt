@@ -1,10 +1,11 @@
-// What a caller calls: `step` and `holds` take any words. The formed ones require form, for loops
-// that have looked once.
+// What a caller calls: `step`, `holds` and `unheard` take any words. The formed ones require form,
+// for loops that have looked once.
 ghost use mathlib.Core.Path.{_≡_};
 ghost use mathlib.Core.Bool.{true};
 ghost use Rattle.rules.specs.Step.{holds};
+ghost use Rattle.rules.specs.Unheard.{unheard};
 ghost use Rattle.memory.specs.Memory.{siteOf, memoryForm};
-ghost use Rattle.site.specs.Entries.{After, FormedStep, stepOn, holdsOn};
+ghost use Rattle.site.specs.Entries.{After, FormedStep, stepOn, holdsOn, unheardOn};
 use crate::elections;
 use crate::mail;
 use crate::mail::OnLink;
@@ -16,6 +17,7 @@ use rules::model::Act;
 use rules::model::Answer;
 use rules::model::Call;
 use rules::model::Refusal;
+use rules::model::Unheard;
 use rules::ranges;
 
 // Any call on words by form; they stay by form. For loops that have seen to it once.
@@ -34,6 +36,7 @@ pub fn step_formed(site: &mut [u64], links: &mut [u64], call: Call) -> Answer
         Call::Propose(c) => turns::acting(site, links, c, Act::Propose),
         Call::Agree(c) => turns::acting(site, links, c, Act::Agree),
         Call::Finish(c) => turns::acting(site, links, c, Act::Finish),
+        Call::Heard(c) => turns::acting(site, links, c, Act::Heard),
         Call::Trim(c, k) => turns::acting(site, links, c, Act::Trim(k)),
         Call::Stop(c) => presence::change(site, links, c, Presence::Stop),
         Call::Return(c) => presence::change(site, links, c, Presence::Return),
@@ -61,6 +64,19 @@ pub fn holds_formed(site: &[u64], links: &[u64], c: u32, k: u32, left: u32, righ
     Answer::Refused(Refusal::Untrue)
 }
 
+// Which present boxes have not answered the lease of box c, by words by form.
+pub fn unheard_formed(site: &[u64], links: &[u64], c: u32) -> Unheard
+    requires { ⌜ memoryForm (now site) (now links) ≡ true ⌝ }
+    ensures { λ r. ⌜ r ≡ unheard (siteOf (now (site .entry)) (now (links .entry))) c ⌝ }
+{
+    let s = memory::setting_of(site, c);
+    if !ranges::is_box(s.n, c) {
+        return Unheard::Refused(Refusal::Box);
+    }
+    let b = row::load(memory::row_of(site, s, c), s.n);
+    b.unheard(s)
+}
+
 // Any call on any words.
 pub fn step(site: &mut [u64], links: &mut [u64], call: Call) -> Answer
     ensures { λ r.
@@ -81,4 +97,14 @@ pub fn holds(site: &[u64], links: &[u64], c: u32, k: u32, left: u32, right: u32)
         return holds_formed(site, links, c, k, left, right);
     }
     Answer::Refused(Refusal::Form)
+}
+
+// Which present boxes have not answered the lease of box c, by any words.
+pub fn unheard(site: &[u64], links: &[u64], c: u32) -> Unheard
+    ensures { λ r. ⌜ r ≡ unheardOn (now (site .entry)) (now (links .entry)) c ⌝ }
+{
+    if memory::is_by_form(site, links) {
+        return unheard_formed(site, links, c);
+    }
+    Unheard::Refused(Refusal::Form)
 }

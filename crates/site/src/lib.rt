@@ -1,4 +1,5 @@
-// The engine: a fresh site, any call, a holds line, on two slices of words that the caller lends.
+// The engine: a fresh site, any call, a holds line, who has not answered a lease, on two slices of
+// words that the caller lends.
 mod elections;
 mod entries;
 mod mail;
@@ -12,4 +13,6 @@ pub use entries::holds;
 pub use entries::holds_formed;
 pub use entries::step;
 pub use entries::step_formed;
+pub use entries::unheard;
+pub use entries::unheard_formed;
 pub use start::fresh;

@@ -71,9 +71,9 @@ stars =
     ∷ star (pnAfter 0 1) 1
     ∷ star (pnAfter 999999901 2) 999999902
     ∷ star (answerNumber (recovered 999999901 1 .answer)) 6
-    -- "Fresh image: n=3, .. bytes; n=1, .."; Q-4: "starred: 352 and 128 bytes"
-    ∷ star (length (imageOf (fresh 3 16 8))) 352
-    ∷ star (length (imageOf (fresh 1 16 8))) 128
+    -- "Fresh image: n=3, .. bytes; n=1, .."; Q-12: "starred: 364 and 132 bytes"
+    ∷ star (length (imageOf (fresh 3 16 8))) 364
+    ∷ star (length (imageOf (fresh 1 16 8))) 132
     -- "Majority of 4 is 3."
     ∷ star (majorityOf 4) 3
     -- "Elect, n=5, two present: 4."

@@ -12,7 +12,7 @@ const L: usize = 2;
 const GENERAL: usize = 5;
 
 // What stands before the records of a box and of a mail, and before the mails of a link.
-const ROW_HEAD: usize = 21;
+const ROW_HEAD: usize = 22;
 
 const PLACE_HEAD: usize = 6;
 

@@ -119,6 +119,7 @@ fn event_of(call: Call) -> Event {
         Call::Propose(c) => Event::Own(c, Act::Propose),
         Call::Agree(c) => Event::Own(c, Act::Agree),
         Call::Finish(c) => Event::Own(c, Act::Finish),
+        Call::Heard(c) => Event::Own(c, Act::Heard),
         Call::Trim(c, k) => Event::Own(c, Act::Trim(k)),
         Call::Stop(_) => Event::Nothing,
         Call::Return(_) => Event::Nothing,

@@ -18,9 +18,9 @@ pub(crate) const GENERAL: usize = 5;
 // A box's row: its last agreed number, its count of records, and its words before these.
 pub(crate) const LAST: usize = 4;
 
-pub(crate) const ROW_COUNT: usize = 20;
+pub(crate) const ROW_COUNT: usize = 21;
 
-pub(crate) const ROW_HEAD: usize = 21;
+pub(crate) const ROW_HEAD: usize = 22;
 
 // A place of a mail: its count of records, and its words before these.
 pub(crate) const PLACE_COUNT: usize = 5;

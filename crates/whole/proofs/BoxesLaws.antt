@@ -12,6 +12,7 @@ use Rattle.le.specs.Le.{le, Number}
 use Rattle.rules.specs.Sizes.{mostBoxes, mostLoads}
 use Rattle.rules.specs.Numbers.{flagNumber}
 use Rattle.rules.specs.Box.{Box}
+use Rattle.row.specs.Row.{bestAt}
 use Rattle.cells.specs.declared.Walk.{Walk}
 use Rattle.cells.specs.Cells.{chain, cells, Found, NoneAt, WalkIs}
 use Rattle.cells.proofs.ChainLaws.{chain-map}
@@ -68,7 +69,7 @@ flag-first n x = (
   _,
   box-split n x
       ∙ ap (λ (l : List ℕ). l ++ cells 8 (x .records))
-      (first-word 4 11 (drop 1 (boxGroups n)) (boxWords x) (omega arith))
+      (first-word 4 (bestAt - 1) (drop 1 (boxGroups n)) (boxWords x) (omega arith))
       ∙ append-assoc (le 4 (flagNumber (x .head .leads))) _ (cells 8 (x .records)),
 )
 

@@ -13,7 +13,8 @@ use Rattle.rules.specs.Box.{Box}
 use Rattle.rules.specs.Site.{isBox, freshBox}
 use Rattle.rules.specs.declared.model.Setting.{Setting}
 use Rattle.laws.proofs.FormLaws.{box-is}
-use Rattle.row.specs.Row.{headOf, boxOf, rowFits, headWords, bestAt, beforePeers, countAt, peersAt}
+use Rattle.row.specs.Row.{headOf, boxOf, rowFits, headWords, pnAt, bestAt, beforePeers}
+use Rattle.row.specs.Row.{peersAt, countAt}
 use Rattle.row.specs.Lent.{RowSized}
 use Rattle.row.proofs.NumberLaws.{flag-number-back, state-number-back, phase-number-back}
 use Rattle.row.proofs.FormLaws.{fits-says}
@@ -124,7 +125,8 @@ module _ {s : Setting} {xs : List ℕ} {i : ℕ} {r : List ℕ} (f : RowOf s xs 
       let flag = flag-number-back (getD r 0 0) (t .0) in
       let state = state-number-back (getD r 1 0) (t .1) in
       let phase = phase-number-back (getD r 2 0) (t .2) in (
-        (λ i. flag i ∷ state i ∷ phase i ∷ gets 0 r 3 9) ∙ gets-part 0 r 0 bestAt (omega arith),
+        (λ i. flag i ∷ state i ∷ phase i ∷ gets 0 r pnAt (bestAt - pnAt))
+            ∙ gets-part 0 r 0 bestAt (omega arith),
         (
           gets-part 0 r bestAt 3 (omega arith),
           (

@@ -1,6 +1,5 @@
 use Prim.Native.Nat.{_+_}
 use borrow.Author.Needs.{needs}
-use native.Mathlib.Nat.{sub-zero}
 use Rattle.row.specs.Row.{rowForm, headWords}
 use Rattle.own.specs.Entry.{rowReads}
 use Rattle.own.proofs.FormLaws.{row-sized, long-tested, short-tested}
@@ -16,7 +15,7 @@ returns c =
 is-by-form-requires : tie.Need-is-by-form-requires
 is-by-form-requires c κs =
     let start = c .before .before .before .before in
-    rw sub-zero
+    rw (c .used .ensures)
     (row-sized (start .args .s) (start .args .row .now) (start .pre) (c .before .if1 .left))
 
 returns-2 : tie.Need-returns-2
@@ -25,11 +24,11 @@ returns-2 c =
     let long = c .before .before in
     let a = long .before .before .before .args in
     long-tested (headWords + a .s .j) (a .row .now) _ _ (long .if1 .left)
-    (rw sub-zero at (c .is-by-form .ensures))
+    (rw (c .before .used .ensures) at (c .is-by-form .ensures))
 
 pub is-row-spec : {M : Type 1} → statement M
 is-row-spec =
     tie.close
     (tie.spec
-    (λ c. search needs) (λ c. search needs) returns (λ c. search needs) (λ c. search needs)
-    (λ c. search needs) is-by-form-requires returns-2)
+    (λ c. search needs) (λ c. search needs) returns (λ c κs. search needs) is-by-form-requires
+    returns-2)

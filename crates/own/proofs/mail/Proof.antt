@@ -1,86 +1,62 @@
--- 13, 1 and 2 are found in turn, or the turn is concluded.
-use mathlib.Core.Path.{_≡_}
-use mathlib.Core.Bool.{true, _&&_}
-use native.Mathlib.Nat.{sub-zero}
+-- 13, 1 or 2 is found, or the turn is concluded.
+use mathlib.Core.Path.{_≡_, refl, sym, _∙_}
 use borrow.Author.Needs.{needs}
-use borrow.Author.Tests.{not-false}
-use Rattle.words.proofs.TestLaws.{fails, passes}
-use Rattle.rules.specs.Sizes.{sizesForm}
-use Rattle.own.proofs.FormLaws.{mailForm, mail-tested}
-use Rattle.own.proofs.EntryLaws.{refused-13, refused-1, refused-2, MailPassed, mail-passed}
-use Rattle.own.proofs.EntryLaws.{row-long, row-by-form, place-long, place-by-form}
-use Rattle.own.proofs.EntryLaws.{mail-concludes, mail-owned}
+use Rattle.rules.specs.Box.{mail, turnOf}
+use Rattle.own.specs.Entry.{placeOf, ownBox, ownLetter}
+use Rattle.own.proofs.FormLaws.{mail-asks}
+use Rattle.own.proofs.OrderLaws.{found, clear}
+use Rattle.own.proofs.EntryLaws.{refused, row-long, row-by-form, place-long, place-by-form}
+use Rattle.own.proofs.EntryLaws.{MailClear, mail-fits, turn-concludes, turn-owned}
 use Rattle.own.proofs.mail.Statement.{statement}
 use Rattle.own.proofs.mail.Tie as tie
 
+abbrev start : tie.After-judge → tie.Start
+start c = c .before .before .before .before .before .before
+
+came : (c : tie.After-judge) → let a = start c .args in
+    c .judge .result ≡ found (mail-asks (a .s) (a .row .now) (a .letter .now) (a .sender))
+came c = rw (c .before .is-link .ensures) at (c .judge .ensures)
+
 returns : tie.Need-returns
 returns c =
-    let tested = c .before .before in
-    refused-13 _ _ (fails (tested .are-sizes .ensures) (c .before .if1 .taken))
+    let judged = c .before .before .before .before in
+    refused (mail-asks _ _ _ _) (sym (came judged) ∙ c .before .before .came .given .1)
     (c .refused .ensures)
 
-sized : (c : tie.Else1) → let s = c .before .before .before .before .before .args .s in
-    sizesForm (s .n) (s .j) (s .l) ≡ true
-sized c = passes (c .before .are-sizes .ensures) (c .if1 .left)
-
-abbrev setting : tie.After-is-letter → tie.After-is-setting
-setting c = c .before .before .before
-
-abbrev start : tie.After-is-letter → tie.Start
-start c = setting c .before .before .before .before .before .before
-
-formed : (c : tie.After-is-letter) → let a = start c .args in
-    (setting c .is-setting .result && c .before .is-row .result && c .is-letter .result)
-    ≡ mailForm (a .s) (a .row .now) (a .sender) (a .letter .now)
-formed c =
-    mail-tested _ _ _ _ _ _ _
-    (setting c .is-setting .ensures) (c .before .is-row .ensures) (c .is-letter .ensures)
-
-returns-2 : tie.Need-returns-2
-returns-2 c =
-    let letter = c .before .before in
-    refused-1 _ _ (sized (setting letter .before))
-    (fails (formed letter) (c .before .if2 .taken))
-    (c .refused2 .ensures)
-
-returns-3 : tie.Need-returns-3
-returns-3 c =
-    let link = c .before .before in
-    let on = link .before in
-    let letter = on .before in
-    refused-2 _ _ (sized (setting letter .before))
-    (passes (formed letter) (on .if2 .left))
-    (fails (link .is-link .ensures) (c .before .if3 .taken))
-    (c .refused3 .ensures)
-
-passed : (c : tie.Else3) → let a = start (c .before .before .before) .args in
-    MailPassed (a .s) (a .row .now) (a .letter .now) (a .sender)
-passed c =
-    let link = c .before in
-    let on = link .before in
-    let letter = on .before in
-    mail-passed _ _ _ _ _ _ _ (sized (setting letter .before)) (setting letter .is-setting .ensures)
-    (letter .before .is-row .ensures) (letter .is-letter .ensures) (not-false _ (on .if2 .left))
-    (passes (link .is-link .ensures) (c .if3 .left))
+passed : (c : tie.After-enum-told) → let a = start (c .before .before) .args in
+    MailClear (a .s) (a .row .now) (a .letter .now) (a .sender)
+passed c = clear (mail-asks _ _ _ _) (sym (came (c .before .before)) ∙ c .enum-told .given .1)
 
 mail-turn-requires : tie.Need-mail-turn-requires
 mail-turn-requires c κs =
-    let ok = passed (c .before .before .before .before .before) in
-    (row-by-form _ _ (ok .own) _ (sub-zero _), place-by-form _ _ _ _ ok _ (sub-zero _))
+    let ok = passed (c .before .before .before) in
+    rw (c .used2 .ensures, c .before .before .used .ensures) (row-by-form ok, place-by-form ok)
+
+-- Its turn.
+turn : (c : tie.After-mail-turn) →
+    let a = start (c .before .before .before .before .before .before) .args in
+    c .mail-turn .result
+    ≡ turnOf (a .s) (ownBox (a .s) (a .row .now))
+    (mail (a .sender) (ownLetter (a .s) (a .letter .now)))
+turn c =
+    rw (c .before .used2 .ensures, c .before .before .before .used .ensures)
+    at (c .mail-turn .ensures)
 
 conclude-requires : tie.Need-conclude-requires
 conclude-requires c κs =
-    let turn = c .before .before .before in
-    let on = turn .before .before .before .before .before .before in
-    mail-concludes _ _ _ _ (passed on) _ _ _ (sub-zero _) (sub-zero _) (turn .mail-turn .ensures)
+    let turned = c .before .before in
+    let on = turned .before .before .before .before in
+    rw (turned .before .before .before .used .ensures)
+    (turn-concludes (passed on) _ refl (turn turned) (mail-fits (passed on)))
 
-returns-4 : tie.Need-returns-4
-returns-4 c =
+returns-2 : tie.Need-returns-2
+returns-2 c =
     let concluded = c .before .before .before .before in
-    let turn = concluded .before .before .before .before in
-    let on = turn .before .before .before .before .before .before in (
-      mail-owned _ _ _ _ (passed on) _ _ _ (sub-zero _) (sub-zero _) (turn .mail-turn .ensures)
-          _ _ _ _ _ (concluded .conclude .ensures .0),
+    let turned = concluded .before .before .before in
+    let read = turned .before .before .before in
+    let a = start (read .before .before .before) .args in (
+      turn-owned (passed (read .before)) (placeOf (a .s .j) (a .letter .now)) refl (turn turned)
+          (rw (read .used .ensures) at (concluded .conclude .ensures .0)),
       concluded .conclude .ensures .1,
     )
 
@@ -88,13 +64,7 @@ pub mail-spec : {M : Type 1} → statement M
 mail-spec =
     tie.close
     (tie.spec
-    (λ c κs. search needs) (λ c κs. search needs) returns (λ c κs. search needs)
-    (λ c κs. sized (c .before .before)) (λ c κs. sized (c .before .before .before))
-    (λ c κs. search needs) (λ c. search needs) returns-2 (λ c κs. search needs)
-    (λ c κs. search needs) (λ c. search needs) returns-3 (λ c. search needs) (λ c. search needs)
-    (λ c. search needs) (λ c. search needs) (λ c. search needs) (λ c. search needs)
-    (λ c. row-long _ _ (passed (c .before .before .before) .own)) (λ c. search needs)
-    (λ c. search needs) (λ c. place-long _ _ _ _ (passed (c .before .before .before .before)))
-    mail-turn-requires (λ c. search needs) (λ c. search needs)
-    (λ c. place-long _ _ _ _ (passed (c .before .before .before .before .before .before .before)))
-    conclude-requires (λ c. search needs) (λ c. search needs) returns-4)
+    (λ c κs. search needs) (λ c κs. search needs) (λ c. search needs) (λ c κs. search needs)
+    (λ c. search needs) (λ c κs. place-long (passed c))
+    (λ c κs. row-long (passed (c .before .before))) mail-turn-requires conclude-requires
+    (λ c. search needs) returns (λ c. search needs) (λ c. search needs) returns-2)

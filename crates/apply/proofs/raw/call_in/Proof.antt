@@ -1,4 +1,4 @@
-use Rattle.apply.proofs.RoomLaws.{on-larger, on-status, fresh-fits}
+use Rattle.apply.proofs.RoomLaws.{on-larger, fresh-fits}
 use borrow.Author.Needs.{needs}
 use Rattle.apply.proofs.raw.call_in.Statement.{statement}
 use Rattle.apply.proofs.raw.call_in.Tie as tie
@@ -16,4 +16,4 @@ call-in-spec = tie.close (tie.spec
     (λ c κs. search needs) (λ c. search needs) (λ c. search needs) (λ c. search needs) returns
     (λ c. search needs) (λ c. search needs) (λ c. search needs) (λ c. search needs)
     (λ c. search needs) (λ c. search needs) (λ c. search needs) (λ c. search needs)
-    (λ c. on-status _ (c .refuse-unreadable .ensures)))
+    (λ c. search needs) (λ c. search needs) (λ c. search needs) (λ c. search needs))

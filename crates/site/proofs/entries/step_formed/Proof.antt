@@ -27,6 +27,7 @@ frames κs (Call.Offer c l r) g = (omega arith, omega arith)
 frames κs (Call.Propose c) g = tt
 frames κs (Call.Agree c) g = tt
 frames κs (Call.Finish c) g = tt
+frames κs (Call.Heard c) g = tt
 frames κs (Call.Trim c k) g = tt
 frames κs (Call.Stop c) g = tt
 frames κs (Call.Return c) g = tt
@@ -113,40 +114,47 @@ returns-9 c =
     (at .before .before .before .before .call9 .given .1) (at .acting8 .ensures)
 
 returns-10 : tie.Need-returns-10
+unfolding step
 returns-10 c =
-    let at = c .before .before in
+    let at = c .before .before .before .before in
     made (at .before .before .before .before .before .before .before .before)
-    (at .before .before .before .before .call10 .given .1) (at .change .ensures)
+    (at .before .before .before .before .call10 .given .1) (at .acting9 .ensures)
 
 returns-11 : tie.Need-returns-11
 returns-11 c =
     let at = c .before .before in
     made (at .before .before .before .before .before .before .before .before)
-    (at .before .before .before .before .call11 .given .1) (at .change2 .ensures)
+    (at .before .before .before .before .call11 .given .1) (at .change .ensures)
 
 returns-12 : tie.Need-returns-12
 returns-12 c =
     let at = c .before .before in
     made (at .before .before .before .before .before .before .before .before)
-    (at .before .before .before .before .call12 .given .1) (at .change3 .ensures)
+    (at .before .before .before .before .call12 .given .1) (at .change2 .ensures)
 
 returns-13 : tie.Need-returns-13
 returns-13 c =
-    let at = c .before .before .before .before in
+    let at = c .before .before in
     made (at .before .before .before .before .before .before .before .before)
-    (at .before .before .before .before .call13 .given .1) (at .on-link .ensures)
+    (at .before .before .before .before .call13 .given .1) (at .change3 .ensures)
 
 returns-14 : tie.Need-returns-14
 returns-14 c =
     let at = c .before .before .before .before in
     made (at .before .before .before .before .before .before .before .before)
-    (at .before .before .before .before .call14 .given .1) (at .on-link2 .ensures)
+    (at .before .before .before .before .call14 .given .1) (at .on-link .ensures)
 
 returns-15 : tie.Need-returns-15
 returns-15 c =
     let at = c .before .before .before .before in
     made (at .before .before .before .before .before .before .before .before)
-    (at .before .before .before .before .call15 .given .1) (at .on-link3 .ensures)
+    (at .before .before .before .before .call15 .given .1) (at .on-link2 .ensures)
+
+returns-16 : tie.Need-returns-16
+returns-16 c =
+    let at = c .before .before .before .before in
+    made (at .before .before .before .before .before .before .before .before)
+    (at .before .before .before .before .call16 .given .1) (at .on-link3 .ensures)
 
 pub step-formed-spec : {M : Type 1} → statement M
 step-formed-spec =
@@ -166,6 +174,8 @@ step-formed-spec =
     (λ c κs. (c .before .before .before .before .before .before .before .pre, tt))
     (λ c. search needs)
     (λ c κs. (c .before .before .before .before .before .before .before .pre, tt))
+    (λ c. search needs)
+    (λ c κs. (c .before .before .before .before .before .before .before .pre, tt))
     (λ c. search needs) (λ c κs. search needs) (λ c. search needs) (λ c κs. search needs)
     (λ c. search needs) (λ c κs. search needs) (λ c. search needs) (λ c κs. search needs)
     (λ c. search needs) (λ c κs. search needs) (λ c. search needs) (λ c κs. search needs)
@@ -177,4 +187,5 @@ step-formed-spec =
     (λ c. search needs) returns-9 (λ c. search needs) (λ c. search needs) returns-10
     (λ c. search needs) (λ c. search needs) returns-11 (λ c. search needs) (λ c. search needs)
     returns-12 (λ c. search needs) (λ c. search needs) returns-13 (λ c. search needs)
-    (λ c. search needs) returns-14 (λ c. search needs) (λ c. search needs) returns-15)
+    (λ c. search needs) returns-14 (λ c. search needs) (λ c. search needs) returns-15
+    (λ c. search needs) (λ c. search needs) returns-16)
