@@ -1,36 +1,37 @@
 -- Boxes by themselves mirror a site: what they and their carrier do is a run of its calls.
 use Prim.Native.Nat.{ℕ, _+_, _%_, _≤_}
-use mathlib.Core.Path.{_≡_, refl, sym, ap, _∙_, fun-ext, subst}
+use mathlib.Core.Path.{_≡_, refl, sym, ap, _∙_, subst}
 use mathlib.Core.Bool.{Bool, true, false, not, cond}
 use mathlib.Core.List.{List, [], _∷_, tail}
 use native.Mathlib.Omega.{arith}
 use lib.Dec.{eqb, ltb}
 use lib.ListN.{length}
 use borrow.Author.Tests.{ne-eqb, le-leb, lt-ltb}
-use Rattle.rules.specs.Sizes.{mostEpoch, even, sizesForm}
-use Rattle.rules.specs.Sets.{joined, without}
+use Rattle.rules.specs.Sizes.{mostEpoch, even, within, sizesForm}
+use Rattle.rules.specs.Sets.{joined, without, setForm}
 use Rattle.rules.specs.Fields.{withLeads, withState, withPhase, withWaiting, withAgreeing}
 use Rattle.rules.specs.Steps.{elected}
-use Rattle.rules.specs.Form.{form}
+use Rattle.rules.specs.Form.{formBox, form}
 use Rattle.rules.specs.Box.{Box, Letter, Event, own, mail}
 use Rattle.rules.specs.Own.{OwnOutcome, ownStep}
 use Rattle.rules.specs.Site.{Site, Outcome, fresh, freshBox, setting, upd, relinked, popped, twice}
 use Rattle.rules.specs.Site.{doubled}
 use Rattle.rules.specs.Step.{did, elect, risen, presented, step, run}
 use Rattle.laws.specs.Frames.{ActFits, CallFits}
-use Rattle.laws.proofs.Types.{Act, Answer, BoxState, Call, Phase, Setting, State}
-use Rattle.laws.proofs.Logic.{In, both-no, eqb-yes, cond-elim}
-use Rattle.laws.proofs.FormLaws.{box-is, is-link}
-use Rattle.laws.proofs.FrameLaws.{upd-all}
+use Rattle.laws.proofs.Types.{Act, Answer, Call, Phase, Setting, State}
+use Rattle.laws.proofs.Logic.{In, both-no, eqb-yes, cond-elim, passed, every-at}
+use Rattle.laws.proofs.FormLaws.{box-is, form-says}
+use Rattle.laws.proofs.FrameLaws.{upd-same, upd-all}
+use Rattle.laws.proofs.StepLaws.{sizes-run}
 use Rattle.laws.proofs.FormKept.{step-keeps-form, fresh-form}
 use Rattle.alone.specs.Links.{Links, sent, after, joinedBy, linked, callOf}
-use Rattle.alone.specs.Yard.{Alone, Yard, begun, knows, now, toldOf, ran, withLinks}
-use Rattle.alone.specs.Yard.{withAlone, withRow, withEpoch, stored, answered, carried}
-use Rattle.alone.specs.Yard.{relinkedBy, without-head, Told, Head, Elects, Counted, Happens}
+use Rattle.alone.specs.Yard.{Alone, Yard, begun, now, ran, withLinks}
+use Rattle.alone.specs.Yard.{withEpoch, stored, answered, carried}
+use Rattle.alone.specs.Yard.{relinkedBy, Told, Head, Counted, Happens}
 use Rattle.alone.specs.Yard.{acts, hands, loses, repeats, stops, returns, times-out, elects}
-use Rattle.alone.specs.Yard.{Silent, tells, clears, Lived, began, did as then, unseen}
+use Rattle.alone.specs.Yard.{withAlone, toldOf, Tells, Lived, began, did as then, told}
 use Rattle.alone.proofs.OwnStep as OwnStep
-use Rattle.alone.proofs.OwnStep.{ruled-met}
+use Rattle.alone.proofs.OwnStep.{ruled-met, epoch-form, told-done}
 
 -- a box without what an election overwrites
 abbrev rest : Box → Box
@@ -43,15 +44,27 @@ rest x = record {
   records = x .records;
 }
 
+-- what an election of c makes of a box
+abbrev electedBox : Setting → ℕ → Box → Box
+electedBox s c x = record { head = elected (x .head) s c; records = x .records }
+
 -- the box x by itself and the site's box z; s is what there is to know, c was elected last
 pub record Follows (s : Setting) (c : ℕ) (x : Alone) (z : Box) : Type 0 where
+  -- by form, of what concerns it alone
+  pub right : (within 1 mostEpoch (x .epoch) ≡ true) × (setForm (s .n) (x .present) ≡ true)
+      × (formBox (s .n) (s .j) (s .me) (x .row) ≡ true)
   pub old : x .epoch ≤ s .epoch
   pub rests : rest (x .row) ≡ rest z
   pub told : even (s .epoch) ≡ true → x .epoch ≡ s .epoch
       → (x .present ≡ s .present) × (x .row ≡ z)
-  pub due : even (s .epoch) ≡ true → (x .epoch ≡ s .epoch → ⊥) → toldOf s c x .row ≡ z
+  pub due : even (s .epoch) ≡ true → (x .epoch ≡ s .epoch → ⊥) → electedBox s c (x .row) ≡ z
 
-abbrev siteAs : Yard → (ℕ → Box) → Links → Site
+box-form : (s : Site) → form s ≡ true → (b : ℕ) → In b (s .n)
+    → formBox (s .n) (s .J) b (s .box b) ≡ true
+unfolding form
+box-form s f b h = every-at (s .n) _ (passed _ f .1 .1 .1 .0) b h
+
+abbrev pub siteAs : Yard → (ℕ → Box) → Links → Site
 siteAs y box link = record {
   n = y .n;
   J = y .J;
@@ -65,7 +78,7 @@ siteAs y box link = record {
 pub record Mirror (y : Yard) (box : ℕ → Box) (link : Links) : Type 0 where
   pub form : form (siteAs y box link) ≡ true
   pub boxes : (b : ℕ) → In b (y .n) → Follows (now y b) (y .leader) (y .box b) (box b)
-  pub links : even (y .epoch) ≡ true → y .link ≡ link
+  pub links : y .link ≡ link
 
 pub record Mirrored (y : Yard) (s : Site) : Type 0 where
   pub box : ℕ → Box
@@ -82,7 +95,7 @@ upd-both P f g c {v} {w} new old b = go (eqb b c) (eqb-yes b c)
     go true e = subst (λ (k : ℕ). P k v w) (sym (e refl)) new
     go false e = old b
 
-odd-risen : (e : ℕ) → even (risen e) ≡ false
+pub odd-risen : (e : ℕ) → even (risen e) ≡ false
 odd-risen e =
     cond-elim (λ (t : ℕ). even t ≡ false) (even e)
     (λ t. let h : e % 2 ≡ 0 = eqb-yes (e % 2) 0 t in ne-eqb ((e + 1) % 2) 0 (λ g. omega (arith, g)))
@@ -136,13 +149,19 @@ module _ (y : Yard) (box : ℕ → Box) (link : Links) (m : Mirror y box link) w
         boxes =
             upd-both (λ b x z. In b (y .n) → Follows (now y b) (y .leader) x z) (y .box) box c
             (λ h. record {
+              right = let k = m .boxes c h .right in (
+                k .0,
+                k .1,
+                subst (λ (x : Box). formBox (y .n) (y .J) c x ≡ true) (upd-same box c (o .next))
+                    (box-form (joinedBy base c o) f c h),
+              );
               old = m .boxes c h .old;
               rests = refl;
               told = λ ev e. (m .boxes c h .told ev e .0, refl);
               due = λ ev ne. absurd (ne (t .told));
             })
             (m .boxes);
-        links = λ h. refl;
+        links = refl;
       };
     }
 
@@ -155,7 +174,7 @@ module _ (y : Yard) (box : ℕ → Box) (link : Links) (m : Mirror y box link) w
       box = box;
       link = g link;
       same = refl;
-      mirror = record { form = f; boxes = m .boxes; links = λ h. refl };
+      mirror = record { form = f; boxes = m .boxes; links = refl };
     }
     by-answer Answer.Done f = accepted f
     by-answer Answer.Taken f = accepted f
@@ -165,13 +184,14 @@ module _ (y : Yard) (box : ℕ → Box) (link : Links) (m : Mirror y box link) w
         (carried y (less (y .link)) c (ran y c e))
     box-goes d fits is =
         subst (λ (l : Links). Goes d (answered (less l) c (ran y c e))
-        (carried y (less l) c (ran y c e))) (sym (m .links (t .even)))
+        (carried y (less l) c (ran y c e))) (sym (m .links))
         (subst (λ (r : OwnOutcome). Goes d (answered (less link) c r) (carried y (less link) c r))
-        (sym ran-is)
-        (ap (λ (r : Outcome). r .answer) is,
-        subst (λ (r : Outcome). Mirrored (carried y (less link) c o) (r .next)) (sym is)
-        (by-answer (answered (less link) c o)
-        (subst (λ (r : Outcome). form (r .next) ≡ true) is (kept-form d fits)))))
+        (sym ran-is) (
+          ap (λ (r : Outcome). r .answer) is,
+          subst (λ (r : Outcome). Mirrored (carried y (less link) c o) (r .next)) (sym is)
+              (by-answer (answered (less link) c o)
+              (subst (λ (r : Outcome). form (r .next) ≡ true) is (kept-form d fits))),
+        ))
 
   -- ---- the carrier does something
 
@@ -181,21 +201,20 @@ module _ (y : Yard) (box : ℕ → Box) (link : Links) (m : Mirror y box link) w
   done d z is {w} made fits = (
     ap (λ (r : Outcome). r .answer) is,
     subst (λ (r : Outcome). Mirrored w (r .next)) (sym is)
-    (made (subst (λ (r : Outcome). form (r .next) ≡ true) is (kept-form d fits))),
+        (made (subst (λ (r : Outcome). form (r .next) ≡ true) is (kept-form d fits))),
   )
 
   -- one link is changed by g
-  relinked-goes : (g : List Letter → List Letter) (a b : ℕ) → even (y .epoch) ≡ true
-      → form (relinked g s a b) ≡ true
+  relinked-goes : (g : List Letter → List Letter) (a b : ℕ) → form (relinked g s a b) ≡ true
       → Mirrored (withLinks y (relinkedBy g (y .link) a b)) (relinked g s a b)
-  relinked-goes g a b ev f = record {
+  relinked-goes g a b f = record {
     box = box;
     link = relinkedBy g link a b;
     same = refl;
     mirror = record {
       form = f;
       boxes = m .boxes;
-      links = λ h. ap (λ (l : Links). relinkedBy g l a b) (m .links ev);
+      links = ap (λ (l : Links). relinkedBy g l a b) (m .links);
     };
   }
 
@@ -209,42 +228,40 @@ module _ (y : Yard) (box : ℕ → Box) (link : Links) (m : Mirror y box link) w
     mirror = record {
       form = f;
       boxes = λ b h. record {
+        right = m .boxes b h .right;
         old = omega (arith, m .boxes b h .old, risen-le (y .epoch));
         rests = m .boxes b h .rests;
         told = λ ev. absurd (both-no ev (odd-risen (y .epoch)));
         due = λ ev. absurd (both-no ev (odd-risen (y .epoch)));
       };
-      links = λ ev. absurd (both-no ev (odd-risen (y .epoch)));
+      links = m .links;
     };
   }
 
-  elected-goes : (c : ℕ) → ((a b : ℕ) → y .link a b ≡ []) → form (elect s c) ≡ true
-      → Mirrored (withEpoch y (y .epoch + 1) (y .present) c) (elect s c)
+  elected-goes : (c : ℕ) → form (elect s c) ≡ true
+      → Mirrored (withLinks (withEpoch y (y .epoch + 1) (y .present) c) (λ a b. [])) (elect s c)
   unfolding elect elected
-  elected-goes c empty f = record {
+  elected-goes c f = record {
     box = elect s c .box;
     link = λ a b. [];
     same = refl;
     mirror = record {
       form = f;
       boxes = λ b h. record {
+        right = m .boxes b h .right;
         old = omega (arith, m .boxes b h .old);
         rests = rw (box-is h) (m .boxes b h .rests);
         told = λ ev e. absurd (omega (arith, m .boxes b h .old, e));
         due = λ ev ne. rw (box-is h)
-            (ap (λ (x : Box). record {
-              head = elected (x .head) (now y b) c;
-              records = x .records;
-            })
-            (m .boxes b h .rests));
+            (ap (electedBox (now y b) c) (m .boxes b h .rests));
       };
-      links = λ ev. fun-ext (λ a. fun-ext (λ b. empty a b));
+      links = refl;
     };
   }
 
   -- the head of a link, as the site has it
   stands : {a b : ℕ} {x : Letter} (h : Head y a b x) → link a b ≡ x ∷ h .behind
-  stands {a} {b} h = ap (λ (l : Links). l a b) (sym (m .links (h .even))) ∙ h .stands
+  stands {a} {b} h = ap (λ (l : Links). l a b) (sym (m .links)) ∙ h .stands
 
   some : {a b : ℕ} {x : Letter} → Head y a b x → not (eqb (length (link a b)) 0) ≡ true
   some {x = x} h =
@@ -276,14 +293,24 @@ module _ (y : Yard) (box : ℕ → Box) (link : Links) (m : Mirror y box link) w
       (OwnStep.delivers s (m .form) a b x (h .behind) (h .link) (stands h))
   goes (loses a b x h) =
       done (Call.Lose a b) (popped s a b)
-      (ruled-met _ _ _ (m .form, (h .link, (some h, tt)))) (relinked-goes tail a b (h .even)) tt
+      (ruled-met _ _ _ (m .form, (h .link, (some h, tt)))) (relinked-goes tail a b) tt
   goes (repeats a b x h room) =
       done (Call.Repeat a b) (doubled s a b)
-      (ruled-met _ _ _
-      (m .form, (h .link, (some h,
-      (subst (λ (l : Links). ltb (length (l a b)) (y .L) ≡ true) (m .links (h .even))
-      (lt-ltb _ _ room), tt)))))
-      (relinked-goes twice a b (h .even)) tt
+      (ruled-met _ _ _ (
+        m .form,
+        (
+          h .link,
+          (
+            some h,
+            (
+              subst (λ (l : Links). ltb (length (l a b)) (y .L) ≡ true) (m .links)
+                  (lt-ltb _ _ room),
+              tt,
+            ),
+          ),
+        ),
+      ))
+      (relinked-goes twice a b) tt
   goes (stops c h here) =
       done (Call.Stop c) (presented s (without (y .present) c))
       (ruled-met _ _ _ (m .form, (box-is (h .box), (here, (counted h, tt)))))
@@ -300,32 +327,36 @@ module _ (y : Yard) (box : ℕ → Box) (link : Links) (m : Mirror y box link) w
       done (Call.Elect c) (elect s c)
       (ruled-met _ _ _
       (m .form, (box-is (h .box), (rw (h .due) refl, (h .here, (le-leb _ _ (h .majority), tt))))))
-      (elected-goes c (h .empty)) tt
+      (elected-goes c) tt
 
-  -- the same site stands for the yard z
-  still : (z : Yard) → s ≡ siteAs z box link → Mirror z box link → Mirrored z s
-  still z same h = record { box = box; link = link; same = same; mirror = h }
-
-  pub unseen-goes : {z : Yard} → Silent y z → Mirrored z s
+  pub told-goes : (b : ℕ) → Tells y b → Mirrored (withAlone y b (toldOf y b)) s
   unfolding elected
-  unseen-goes (tells b hb ev ne) = still _ refl (record {
-    form = m .form;
-    boxes =
-        upd-all (λ i x. In i (y .n) → Follows (now y i) (y .leader) x (box i)) (y .box) b
-        (λ h. record {
-          old = omega arith;
-          rests = m .boxes b h .rests;
-          told = λ e f. (refl, m .boxes b h .due ev ne);
-          due = λ e f. absurd (f refl);
-        })
-        (m .boxes);
-    links = m .links;
-  })
-  unseen-goes (clears l odd) = still _ refl (record {
-    form = m .form;
-    boxes = m .boxes;
-    links = λ ev. absurd (both-no ev odd);
-  })
+  told-goes b t =
+      let h = told-done (now y b) (y .box b .row) (y .leader) (t .heard) in
+      record {
+        box = box;
+        link = link;
+        same = refl;
+        mirror = record {
+          form = m .form;
+          boxes =
+              upd-all (λ i x. In i (y .n) → Follows (now y i) (y .leader) x (box i)) (y .box) b
+              (λ i. let same = h .1 ∙ m .boxes b i .due (h .0) (t .once) in record {
+                right = (
+                  epoch-form s (m .form),
+                  form-says (m .form) .present,
+                  subst (λ (x : Box). formBox (y .n) (y .J) b x ≡ true) (sym same)
+                      (box-form s (m .form) b i),
+                );
+                old = omega arith;
+                rests = ap rest (h .1) ∙ m .boxes b i .rests;
+                told = λ e f. (refl, same);
+                due = λ e f. absurd (f refl);
+              })
+              (m .boxes);
+          links = m .links;
+        };
+      }
 
 -- ---- from the beginning
 
@@ -340,24 +371,32 @@ module _ (n J L : ℕ) (sizes : sizesForm n J L ≡ true) where
     mirror = record {
       form = fresh-form n J L sizes;
       boxes = λ b h. record {
+        right = let f = fresh-form n J L sizes in
+            (refl, form-says f .present, box-form (fresh n J L) f b h);
         old = omega arith;
         rests = refl;
         told = λ ev. absurd (both-no ev refl);
         due = λ ev. absurd (both-no ev refl);
       };
-      links = λ ev. refl;
+      links = refl;
     };
   }
   lived (then {y = y} {z = z} {d = d} l h) =
       let r = lived l in
       subst (λ (s : Site). Mirrored z (step s d .next)) (sym (r .same))
       (goes y (r .box) (r .link) (r .mirror) h .1)
-  lived (unseen {y = y} {z = z} l q) =
+  lived (told {y = y} b l t) =
       let r = lived l in
-      subst (Mirrored z) (sym (r .same)) (unseen-goes y (r .box) (r .link) (r .mirror) q)
+      subst (Mirrored (withAlone y b (toldOf y b))) (sym (r .same))
+      (told-goes y (r .box) (r .link) (r .mirror) b t)
 
   pub same-answer : {calls : List Call} {y z : Yard} {d : Call} {a : Answer} → Lived n J L calls y
       → Happens y d a z → step (run (fresh n J L) calls) d .answer ≡ a
   same-answer {y = y} {d = d} l h =
       let r = lived l in
       ap (λ (s : Site). step s d .answer) (r .same) ∙ goes y (r .box) (r .link) (r .mirror) h .0
+
+  pub same-n : {calls : List Call} {y : Yard} → Lived n J L calls y → y .n ≡ n
+  unfolding fresh
+  same-n {calls} l =
+      ap (λ (s : Site). s .n) (sym (lived l .same)) ∙ sizes-run (fresh n J L) calls .n

@@ -10,9 +10,8 @@ use lib.Dec.{eqb}
 use lib.ListN.{length}
 use Rattle.rules.specs.Sizes.{majorityOf, mostEpoch, even}
 use Rattle.rules.specs.Sets.{has, joined, without, fullSet}
-use Rattle.rules.specs.Steps.{elected}
 use Rattle.rules.specs.Box.{Box, Letter, Event, own, mail}
-use Rattle.rules.specs.Own.{OwnOutcome, ownStep}
+use Rattle.rules.specs.Own.{OwnOutcome, ownStep, ownElected, ownHolds}
 use Rattle.rules.specs.Site.{freshBox, isLink, upd, twice}
 use Rattle.rules.specs.Step.{risen}
 use Rattle.rules.specs.declared.model.Act.{Act}
@@ -56,38 +55,38 @@ begun n J L = record {
 
 -- ---- what changes
 
--- what box c knows: the sizes, and what it was told
-abbrev pub knows : Yard → ℕ → Setting
-knows y c = record {
+-- what box c knows where it was told an epoch and a present set; all have the same sizes
+abbrev pub knowing : Yard → ℕ → ℕ → ℕ → Setting
+knowing y epoch present c = record {
   n = y .n;
   j = y .J;
   l = y .L;
-  epoch = y .box c .epoch;
-  present = y .box c .present;
+  epoch = epoch;
+  present = present;
   me = c;
 }
 
--- what there is to know for box c
+-- .. and what there is to know
 abbrev pub now : Yard → ℕ → Setting
-now y c = record {
-  n = y .n;
-  j = y .J;
-  l = y .L;
-  epoch = y .epoch;
-  present = y .present;
-  me = c;
-}
+now y c = knowing y (y .epoch) (y .present) c
 
--- a box that is told what there is to know, and of the election of c
-abbrev pub toldOf : Setting → ℕ → Alone → Alone
-toldOf s c x = record {
-  row = record { head = elected (x .row .head) s c; records = x .row .records };
-  epoch = s .epoch;
-  present = s .present;
-}
+-- box b is told of the election, with what there is to know
+abbrev pub hears : Yard → ℕ → OwnOutcome
+hears y b = ownElected (now y b) (y .box b .row) (y .leader)
+
+abbrev pub toldOf : Yard → ℕ → Alone
+toldOf y b = record { row = hears y b .next; epoch = y .epoch; present = y .present }
+
+-- what box c was told, the event e that it runs by itself, and what it answers where it is asked
+-- whether number k has these frames
+abbrev pub known : Yard → ℕ → Setting
+known y c = knowing y (y .box c .epoch) (y .box c .present) c
 
 abbrev pub ran : Yard → ℕ → Event → OwnOutcome
-ran y c e = ownStep (knows y c) (y .box c .row) e
+ran y c e = ownStep (known y c) (y .box c .row) e
+
+abbrev pub asked : Yard → ℕ → ℕ → ℕ → ℕ → Answer
+asked y c k left right = ownHolds (known y c) (y .box c .row) k left right
 
 abbrev pub withLinks : Yard → Links → Yard
 withLinks y link = record {
@@ -129,7 +128,8 @@ withEpoch y e w c = record {
   link = y .link;
 }
 
--- "a row stored before its letter leaves": where a letter of o is under way, the row is stored
+-- "a row stored before its letter leaves": a letter of o is under way, in the box or on the link,
+-- only where the row is stored
 abbrev pub stored : Yard → ℕ → OwnOutcome → Yard
 stored y c o = withLinks (withAlone y c (withRow (y .box c) (o .next))) (sent (y .link) c o)
 
@@ -151,27 +151,34 @@ without-head y a b = withLinks y (relinkedBy tail (y .link) a b)
 -- ---- the carrier's duties
 
 -- "one epoch and one present set for all": a box does something only in an even epoch, and when it
--- was told of it. (In an odd one it refuses everything: 3.)
+-- was told of it. ("All but Elect, Stop, Return and Lose need an even epoch.")
 pub record Told (y : Yard) (c : ℕ) : Type 0 where
   pub box : In c (y .n)
   pub even : even (y .epoch) ≡ true
   pub told : y .box c .epoch ≡ y .epoch
 
 -- "mail of a link in order", "not lost letters turned into others": what is handed over, lost or
--- repeated is the letter m at the head of the link from a to b
+-- repeated is the letter m at the head of the link from a to b. A letter that is lost behind others
+-- counts as under way until they are gone.
 pub record Head (y : Yard) (a b : ℕ) (m : Letter) : Type 0 where
   pub link : isLink (y .n) a b ≡ true
-  pub even : even (y .epoch) ≡ true
   pub behind : List Letter
   pub stands : y .link a b ≡ m ∷ behind
 
--- "an election only by a majority of the present and with empty links"
+-- "an election only by a majority of the present and with empty links": the letters that are under
+-- way are thrown away
 pub record Elects (y : Yard) (c : ℕ) : Type 0 where
   pub box : In c (y .n)
   pub due : even (y .epoch) ≡ false
   pub here : has (y .present) c ≡ true
   pub majority : majorityOf (y .n) ≤ ones (y .present)
-  pub empty : (a b : ℕ) → y .link a b ≡ []
+
+-- box b is told of the election once, before it does anything in the new epoch; a box that is
+-- switched off need not be told
+pub record Tells (y : Yard) (b : ℕ) : Type 0 where
+  pub box : In b (y .n)
+  pub once : y .box b .epoch ≡ y .epoch → ⊥
+  pub heard : hears y b .answer ≡ Answer.Done
 
 -- the epoch is counted: no stop, return or timeout comes after its last
 pub record Counted (y : Yard) (c : ℕ) : Type 0 where
@@ -204,21 +211,14 @@ pub data Happens (y : Yard) : Call → Answer → Yard → Type 0 where
       → Happens y (Call.Timeout c) Answer.Done
       (withEpoch y (risen (y .epoch)) (y .present) (y .leader))
   elects : (c : ℕ) → Elects y c
-      → Happens y (Call.Elect c) Answer.Done (withEpoch y (y .epoch + 1) (y .present) c)
+      → Happens y (Call.Elect c) Answer.Done
+      (withLinks (withEpoch y (y .epoch + 1) (y .present) c) (λ a b. []))
 
--- something happens that the site does not see
-pub data Silent (y : Yard) : Yard → Type 0 where
-  -- a box is told of the election, once, and at any time before it does something in that epoch; a
-  -- box that is switched off need not be told
-  tells : (b : ℕ) → In b (y .n) → even (y .epoch) ≡ true → (y .box b .epoch ≡ y .epoch → ⊥)
-      → Silent y (withAlone y b (toldOf (now y b) (y .leader) (y .box b)))
-  -- in an odd epoch the carrier may do with its letters as it likes
-  clears : (link : Links) → even (y .epoch) ≡ false → Silent y (withLinks y link)
-
--- all that happened to boxes that began by themselves, as the calls of a site, the latest first
+-- all that happened to boxes that began by themselves, as the calls of a site, the latest first;
+-- that a box is told of an election the site does not see
 pub data Lived (n J L : ℕ) : List Call → Yard → Type 0 where
   began : Lived n J L [] (begun n J L)
   did : {calls : List Call} {y z : Yard} {d : Call} {a : Answer}
       → Lived n J L calls y → Happens y d a z → Lived n J L (d ∷ calls) z
-  unseen : {calls : List Call} {y z : Yard} → Lived n J L calls y → Silent y z
-      → Lived n J L calls z
+  told : {calls : List Call} {y : Yard} (b : ℕ) → Lived n J L calls y → Tells y b
+      → Lived n J L calls (withAlone y b (toldOf y b))

@@ -2,18 +2,21 @@
 -- its fields and at most one mail to each peer out". The site's step plays the same turn (Box) and
 -- adds the links, 4, 5 and 8.
 use Prim.Native.Nat.{ℕ}
-use mathlib.Core.Bool.{Bool, true}
+use mathlib.Core.Bool.{Bool, true, _&&_}
 use mathlib.Core.List.{List, [], _∷_}
-use lib.Dec.{eqb}
+use lib.Count.{ones}
+use lib.Dec.{eqb, leb}
 use Rattle.rules.specs.Pick.{pick}
 use Rattle.rules.specs.Every.{all}
-use Rattle.rules.specs.Sizes.{mostEpoch, within, sizesForm}
-use Rattle.rules.specs.Sets.{setForm}
+use Rattle.rules.specs.Sizes.{mostEpoch, majorityOf, even, within, sizesForm}
+use Rattle.rules.specs.Sets.{has, setForm}
+use Rattle.rules.specs.Steps.{elected}
 use Rattle.rules.specs.Box.{Box, Letter, Event, own, mail, letterOf, turnOf, turned, brought}
-use Rattle.rules.specs.Site.{isBox, isLink}
+use Rattle.rules.specs.Site.{freshBox, isBox, isLink}
 use Rattle.rules.specs.Form.{formBox, formLetter}
-use Rattle.rules.specs.Needs.{need, ruled}
-use Rattle.rules.specs.Types.{Answer, Out, Refusal, Setting, Turn}
+use Rattle.rules.specs.Needs.{Need, need, ruled}
+use Rattle.rules.specs.Step.{agreedAs}
+use Rattle.rules.specs.Types.{Act, Answer, Out, Refusal, Setting, Turn}
 
 -- the answer, the box after it, and the letters to each box of a set: one, or none where the set is
 -- empty
@@ -80,3 +83,40 @@ ownStep s x e =
     ∷ need Refusal.Box (rightNumbers s e)
     ∷ [])
     (ownTurn (turnOf s x e .answer) x (turnOf s x e) (brought e))
+
+-- ---- a box alone is started, told of an election, and asked
+
+-- a fresh box: 13, as of a fresh site
+unfoldable pub ownFresh : ℕ → ℕ → ℕ → Box → OwnOutcome
+ownFresh n J L x =
+    ruled (λ why. unmoved x (Answer.Refused why)) (need Refusal.Sizes (sizesForm n J L) ∷ [])
+    (unmoved freshBox Answer.Done)
+
+-- 13, 1 and 2, where no letter comes: every act asks the same
+abbrev pub ownNeeds : Setting → Box → Bool → List Need → List Need
+ownNeeds s x numbers more =
+    need Refusal.Sizes (sizesForm (s .n) (s .j) (s .l))
+    ∷ need Refusal.Form (formOwn s x (own Act.Recover))
+    ∷ need Refusal.Box numbers
+    ∷ more
+
+-- what an election of c makes of the box: s is what there is to know after it, so its epoch is
+-- even; "Elect c: .. c present" (3), and 4 of the present set that it is told
+unfoldable pub ownElected : Setting → Box → ℕ → OwnOutcome
+ownElected s x c =
+    ruled (λ why. unmoved x (Answer.Refused why))
+    (ownNeeds s x (isBox (s .n) (s .me) && isBox (s .n) c)
+    (need Refusal.Condition (even (s .epoch))
+    ∷ need Refusal.Condition (has (s .present) c)
+    ∷ need Refusal.Majority (leb (majorityOf (s .n)) (ones (s .present)))
+    ∷ []))
+    (unmoved (record { head = elected (x .head) s c; records = x .records }) Answer.Done)
+
+-- a holds line: 14 where it is untrue
+unfoldable pub ownHolds : Setting → Box → ℕ → ℕ → ℕ → Answer
+ownHolds s x k left right =
+    ruled Answer.Refused
+    (ownNeeds s x (isBox (s .n) (s .me))
+    (need Refusal.Untrue (agreedAs x k left right)
+    ∷ []))
+    Answer.Done

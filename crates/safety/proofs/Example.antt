@@ -38,7 +38,7 @@ ran n J L calls = run (fresh n J L) (reverse calls)
 -- ---- the paper's replay
 
 -- lines 2 to 12: the LeaseAck is handed over, and the Accept waits behind it (Q-12)
-pub replayed : List Call
+unfoldable pub replayed : List Call
 replayed =
     Call.Elect 1
     ∷ Call.Recover 1
@@ -54,7 +54,7 @@ replayed =
     ∷ []
 
 -- .. and with it the load is agreed at both
-pub replayed-further : List Call
+unfoldable pub replayed-further : List Call
 replayed-further = replayed ++ Call.Deliver 2 1 ∷ Call.Agree 1 ∷ Call.Deliver 1 2 ∷ []
 
 -- the lasts and the firsts of both boxes
