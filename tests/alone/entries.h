@@ -1,13 +1,13 @@
-/* A box by itself is started, told of an election, and asked, by the words of its row: for a library
-   that has no such functions. Where it has, these are weak, and its own are called. */
+/* A box by itself is started, told of an election and asked, by the words of its row. They are weak:
+   a library that has these functions gives its own. */
 #include "journal.h"
 
 uint32_t journal_own_fresh(uint64_t *row, size_t row_words, uint32_t n, uint32_t j, uint32_t l);
 uint32_t journal_own_elected(uint64_t *row, size_t row_words, uint32_t n, uint32_t j, uint32_t l,
                              uint32_t epoch, uint32_t present, uint32_t me, uint32_t c);
-uint32_t journal_own_holds(const uint64_t *row, size_t row_words, uint32_t n, uint32_t j, uint32_t l,
-                           uint32_t epoch, uint32_t present, uint32_t me, uint32_t k, uint32_t left,
-                           uint32_t right);
+uint32_t journal_own_holds(const uint64_t *row, size_t row_words, uint32_t n, uint32_t j,
+                           uint32_t l, uint32_t epoch, uint32_t present, uint32_t me, uint32_t k,
+                           uint32_t left, uint32_t right);
 
 /* Words of a row. */
 enum {
@@ -36,9 +36,9 @@ static void be_elected(uint64_t *row, uint32_t present, uint32_t me, uint32_t c)
 /* 13, 1 and 2; else 3, and nothing is done: no load is below the first kept one. */
 static uint32_t needs(const uint64_t *row, size_t row_words, uint32_t n, uint32_t j, uint32_t l,
                       uint32_t epoch, uint32_t present, uint32_t me) {
-    uint64_t out = 0;
+    uint64_t o = 0;
     uint32_t to = 0;
-    return journal_own_trim((uint64_t *)row, row_words, &out, 1, &to, n, j, l, epoch, present, me, 0);
+    return journal_own_trim((uint64_t *)row, row_words, &o, 1, &to, n, j, l, epoch, present, me, 0);
 }
 
 __attribute__((weak)) uint32_t journal_own_fresh(uint64_t *row, size_t row_words, uint32_t n,

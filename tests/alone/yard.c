@@ -1,12 +1,12 @@
 /* Five boxes by themselves (box.c) and their carrier, at random: mail is handed over, lost and
-   repeated; boxes stop, also between a row that is stored and its letter, and return; epochs end, and
-   leaders are elected; links are short, books are trimmed. Demand 3 is looked at after each event, by
-   what the boxes answer, and so is who has heard a lease. With a lapse one duty of
+   repeated; boxes stop, also between a row that is stored and its letter, and return; epochs end,
+   and leaders are elected; links are short, books are trimmed. Demand 3 is looked at after each
+   event, by what the boxes answer, and so is who has heard a lease. With a lapse one duty of
    docs/RUNNING-A-BOX.md is not kept, and only agreement and the lease are looked at.
 
-   yard [lapse=NAME] [seed=1] [runs=200] [events=2000] [show=1]: runs with the seeds from `seed` on.
-   It ends with 0 where all of them are sound, and with 1 at the first that is not; show=1 gives the
-   fewest events of it that are enough. */
+   yard [lapse=NAME] [lease=1] [seed=1] [runs=200] [events=2000] [show=0]: runs with the seeds from
+   `seed` on. It ends with 0 where all of them are sound, and with 1 at the first that is not; then
+   show=1 gives the fewest events that are enough. With lease=0 leases are not looked at. */
 #include "entries.h"
 #include "box.c"
 #include <stdio.h>
@@ -18,42 +18,56 @@ typedef uint64_t u64;
 enum { MAJORITY = N / 2 + 1, EVERYONE = (1 << N) - 1, MOST_EPOCH = 1000000, MOST_EVENTS = 1000000 };
 enum { ACTIVE = 1, BEGIN = 4, COMMIT = 5, LEASE = 6 }; /* a state, two phases, a kind of mail */
 
+/* The names that crates/alone/must-fail has are the same lapse there. */
 enum lapse {
     NONE,
-    MINORITY,    /* an election by fewer than a majority */
-    ROLLED_BACK, /* a box comes back with the row before the one that it stored last */
-    ANEW,        /* a box that was here comes back with a fresh row */
-    LEFT_OUT,    /* a box that stops is left out of the present set, and the epoch goes on */
-    MISTAKEN,    /* a copy of a letter is handed over as another box's */
-    ALTERED,     /* a letter has another frame than was sent */
-    SWAPPED,     /* two letters of a link change places */
-    LATE,        /* letters from before an election are handed over after it */
-    UNTOLD,      /* a box goes on as if there had been no election */
-    OVERFLOWN,   /* a letter that has no room is lost, and its row is stored */
+    WITHOUT_MAJORITY, /* an election by fewer than a majority */
+    LEFT_OUT,         /* a box that stops is left out of the present set, and the epoch goes on */
+    ROLLED_BACK,      /* a box comes back with the row before the one that it stored last */
+    STARTED_ANEW,     /* a box that was here comes back with a fresh row */
+    CHANGED,          /* the rest is done to letters and boxes at any time */
+    ANOTHER_SENDER = CHANGED, /* a copy of a letter is handed over as another box's */
+    ANOTHER_LETTER,           /* a letter has another frame than was sent */
+    SWAPPED,                  /* the first two letters of a link change places */
+    OUTLIVED,                 /* letters from before an election are handed over after it */
+    NOT_TOLD,                 /* a box goes on as if there had been no election */
+    TOLD_AGAIN,               /* a box is told of an election a second time */
+    OVERRUN,                  /* a letter that has no room is lost, and its row is stored */
     LAPSES
 };
-static const char *const LAPSE[LAPSES] = {"none",     "minority", "rolled-back", "anew",
-                                          "left-out", "mistaken", "altered",     "swapped",
-                                          "late",     "untold",   "overflown"};
+static const char *const LAPSE[LAPSES] = {"none",
+                                          "election_without_majority",
+                                          "left_out",
+                                          "row_rolled_back",
+                                          "started_anew",
+                                          "another_sender",
+                                          "another_letter",
+                                          "letters_swapped",
+                                          "letters_outlive_an_election",
+                                          "not_told",
+                                          "told_again",
+                                          "full_link_overrun"};
 static enum lapse lapse;
 
 enum kind { STEP, OFFER, TRIM, MAIL, LOSE, REPEAT, STOP, RETURN, TIMEOUT, ELECT, CHANGE };
 static const char *const EVENT[] = {"step", "offer",  "trim",    "mail",  "lose",  "repeat",
                                     "stop", "return", "timeout", "elect", "change"};
 
-/* k is an offer's left frame, a trim's load, the sender that a letter is mistaken for; of a step and
-   a mail whether power fails, of a stop and a return whether the row is lost. */
+/* k is an offer's left frame, a trim's load, the sender that a letter is mistaken for; of a step
+   and a mail whether power fails, of a stop and a return whether the row is lost. */
 struct event {
     enum kind kind;
     u32 a, b, k;
 };
 
 static struct {
-    u64 events, elections, loads, lost, repeated, full, stops, cuts, trims, whole, heard;
+    u64 events, lapses, elections, loads, lost, repeated, full, stops, cuts, trims, whole, heard;
 } told;
 static u32 is_shown;
 
 static u32 only(u32 c) { return 1u << (c - 1); }
+
+static u32 lapsed(void) { return told.lapses++, 1; }
 
 /* ---- the boards: what each box has stored, and what before that */
 
@@ -82,7 +96,7 @@ static struct link {
 
 int board_room(u32 me, u32 to) {
     for (u32 k = 1; k <= N; k++)
-        if (has(to, k) && links[me][k].count == L && lapse != OVERFLOWN) return told.full++, 0;
+        if (has(to, k) && links[me][k].count == L) return told.full++, lapse == OVERRUN && lapsed();
     return 1;
 }
 
@@ -115,7 +129,7 @@ static void swap_heads(struct link *link) {
 
 static void end_epoch(void) {
     epoch += epoch % 2 == 0;
-    for (u32 c = 1; c <= N && lapse != UNTOLD; c++)
+    for (u32 c = 1; c <= N && lapse != NOT_TOLD; c++)
         if (has(present, c)) box_over(&boxes[c], epoch);
 }
 
@@ -131,28 +145,30 @@ static u32 is_due(u32 c) {
     struct box *b = &boxes[c];
     if (epoch % 2 == 1 || !has(present, c)) return 0;
     if (b->epoch == epoch) return 1;
-    if (lapse == UNTOLD && b->epoch % 2 == 0 && (epoch / 2 + c) % 3 == 0) return 1;
-    if (lapse == MINORITY) return elect_anyhow(b), 1;
+    if (lapse == NOT_TOLD && b->epoch % 2 == 0 && (epoch / 2 + c) % 3 == 0) return lapsed();
+    if (lapse == WITHOUT_MAJORITY) return elect_anyhow(b), 1;
     return box_elected(b, epoch, present, leader) == JOURNAL_DONE;
 }
 
 static void stop(u32 c, u32 is_lost) {
     present &= ~only(c), told.stops++;
     memset(&boxes[c], 0, sizeof boxes[c]);
-    if (is_lost) memcpy(stored[c], before[c], sizeof stored[c]), looked &= ~only(c);
-    if (lapse != LEFT_OUT) return end_epoch();
+    if (is_lost) memcpy(stored[c], before[c], sizeof stored[c]), looked &= ~only(c), lapsed();
+    if (lapse != LEFT_OUT || epoch % 2 == 1) return end_epoch();
+    lapsed();
     for (u32 k = 1; k <= N; k++)
         if (boxes[k].epoch == epoch) boxes[k].present = present;
 }
 
 static void come_back(u32 c, u32 is_lost) {
-    if (is_lost) ever &= ~only(c);
+    if (is_lost) ever &= ~only(c), lapsed();
     box_start(&boxes[c], c);
     present |= only(c), end_epoch();
 }
 
 static void elect(u32 c) {
-    if (lapse != LATE) memset(links, 0, sizeof links);
+    if (lapse != OUTLIVED || !lapsed()) memset(links, 0, sizeof links);
+    if (members(present) < MAJORITY) lapsed();
     epoch++, leader = c, told.elections++;
 }
 
@@ -167,14 +183,17 @@ static void deliver(u32 a, u32 b, u32 sender) {
     if (is_shown) printf(" (%u)", answer);
 }
 
-/* A letter is changed as no carrier may. */
+/* What no carrier may do to a letter or a box. */
 static u32 change(u32 a, u32 b, u32 sender) {
     struct link *link = &links[a][b];
     u64 *head = link->letter[0];
-    if (lapse == SWAPPED && link->count > 1) return swap_heads(link), 1;
-    if (lapse == MISTAKEN && link->count > 0 && sender != b && is_due(b))
-        return deliver(a, b, sender), 1;
-    if (lapse == ALTERED && link->count > 0 && head[5] > 0) return head[5 + head[5]] ^= 64, 1;
+    if (lapse == SWAPPED && link->count > 1) return swap_heads(link), lapsed();
+    if (lapse == ANOTHER_SENDER && link->count > 0 && sender != b && is_due(b))
+        return deliver(a, b, sender), lapsed();
+    if (lapse == TOLD_AGAIN && is_due(b))
+        return journal_own_elected(boxes[b].row, ROW, SITE(boxes[b]), leader), lapsed();
+    if (lapse == ANOTHER_LETTER && link->count > 0 && head[5] > 0)
+        return head[5 + head[5]] ^= 64, lapsed();
     return 0;
 }
 
@@ -201,7 +220,7 @@ static u32 happens(struct event e) {
     case RETURN: return !has(present, a) && counts && (come_back(a, e.k), 1);
     case TIMEOUT: return !is_odd && counts && (end_epoch(), 1);
     case ELECT:
-        if (members(present) < MAJORITY && lapse != MINORITY) return 0;
+        if (members(present) < MAJORITY && lapse != WITHOUT_MAJORITY) return 0;
         return is_odd && has(present, a) && (elect(a), 1);
     default: return change(a, e.b, e.k);
     }
@@ -218,26 +237,28 @@ static u32 did(struct event e) {
 
 /* ---- demand 3, and who has heard a lease */
 
-static u64 agreed[MOST_EVENTS + 1];   /* what was ever filed as a load */
-static u32 filled[MOST_EVENTS + 1];   /* the load that an offer fills */
+static u64 agreed[MOST_EVENTS + 1]; /* what was ever filed as a load */
+static u32 filled[MOST_EVENTS + 1]; /* the load that an offer fills */
 static u32 known, firsts[N + 1], lasts[N + 1];
+static u64 is_lease_seen = 1;
 static char wrong[200];
 
 #define WRONG(...) (snprintf(wrong, sizeof wrong, __VA_ARGS__), 0)
 
 static u32 look_at_new(u32 c, u32 k, u32 left, u32 right) {
-    if (k != known + 1) return WRONG("box %u files load %u, and none has filed %u", c, k, known + 1);
+    if (k != known + 1)
+        return WRONG("box %u files load %u, and none has filed %u", c, k, known + 1);
     if (left > MOST_EVENTS || offers[left] != right)
         return WRONG("box %u files %u %u as load %u, and it was not offered", c, left, right, k);
     if (filled[left]) return WRONG("the offer %u %u fills %u and %u", left, right, filled[left], k);
-    filled[left] = k, told.loads++;
+    filled[left] = k;
     return 1;
 }
 
 static u32 look_at_load(const struct box *b, u32 k, u64 record) {
     u32 left = (u32)(record >> 32), right = (u32)record;
     if (k > known && lapse == NONE && !look_at_new(b->me, k, left, right)) return 0;
-    if (k > known) agreed[known = k] = record;
+    if (k > known) agreed[known = k] = record, told.loads++;
     if (agreed[k] != record)
         return WRONG("box %u files %u %u as load %u, which was filed as %u %u", b->me, left, right,
                      k, (u32)(agreed[k] >> 32), (u32)agreed[k]);
@@ -280,7 +301,7 @@ static u32 look_at_lease(void) {
 static u32 look(void) {
     for (u32 c = 1; c <= N; c++)
         if (!has(looked, c) && !look_at(c)) return 0;
-    return look_at_lease();
+    return !is_lease_seen || look_at_lease();
 }
 
 /* ---- random events, mostly such as can happen */
@@ -320,13 +341,13 @@ static u32 is_lapse(enum lapse which) { return lapse == which && percent(style.l
 
 static struct event presence(u32 c) {
     if (has(present, c)) return (struct event){STOP, c, 0, is_lapse(ROLLED_BACK)};
-    return (struct event){RETURN, c, 0, is_lapse(ANEW)};
+    return (struct event){RETURN, c, 0, is_lapse(STARTED_ANEW)};
 }
 
 /* Often no more than a majority: then two that follow each other may meet in one box. */
 static void pick_goal(void) {
     u32 size = percent(style.few) ? MAJORITY : MAJORITY + below(N - MAJORITY + 1);
-    if (is_lapse(MINORITY)) size = 1 + below(MAJORITY - 1);
+    if (is_lapse(WITHOUT_MAJORITY)) size = 1 + below(MAJORITY - 1);
     while (members(goal) < size) goal |= 1u << below(N);
 }
 
@@ -353,7 +374,7 @@ static u32 power_fails(void) { return below(4000) < style.disturb; }
 static struct event leads(const u64 *row, u32 frame) {
     if (row[STATE] == ACTIVE && !row[WAITING] && percent(60))
         return (struct event){OFFER, leader, 0, frame};
-    return (struct event){STEP, is_lapse(UNTOLD) ? some_of(present) : leader, 0, power_fails()};
+    return (struct event){STEP, is_lapse(NOT_TOLD) ? some_of(present) : leader, 0, power_fails()};
 }
 
 static struct event likely(u32 frame) {
@@ -368,7 +389,7 @@ static struct event likely(u32 frame) {
     u32 first = (u32)boxes[c].row[FIRST], last = (u32)boxes[c].row[LAST];
     if (first < last && percent(is_full ? 40 : style.trim))
         return (struct event){TRIM, c, 0, first + 1 + below(last - first)};
-    struct event mail = some_mail(lapse >= MISTAKEN && is_lapse(lapse) ? CHANGE : MAIL);
+    struct event mail = some_mail(lapse >= CHANGED && is_lapse(lapse) ? CHANGE : MAIL);
     if (percent(mail.a ? 40 : 97)) return leads(row, frame);
     if (!mail.a) return (struct event){TIMEOUT, 0, 0, 0};
     if (mail.kind == CHANGE) mail.k = some_of(present & ~only(mail.a) & ~only(mail.b));
@@ -379,9 +400,11 @@ static struct event likely(u32 frame) {
 
 /* ---- runs */
 
+static u64 events = 2000; /* of a run */
+
 static void begin(void) {
-    memset(links, 0, sizeof links), memset(offers, 0, sizeof offers);
-    memset(filled, 0, sizeof filled), memset(firsts, 0, sizeof firsts);
+    for (u64 k = 0; k <= events; k++) offers[k] = filled[k] = 0;
+    memset(links, 0, sizeof links), memset(firsts, 0, sizeof firsts);
     memset(lasts, 0, sizeof lasts);
     epoch = 1, present = EVERYONE, leader = 1, ever = looked = took_lease = known = 0;
     for (u32 c = 1; c <= N; c++) box_start(&boxes[c], c);
@@ -390,7 +413,7 @@ static void begin(void) {
 static struct event made[MOST_EVENTS], tried[MOST_EVENTS];
 
 /* A run of its own seed: how many events it has where something is wrong, else 0. */
-static u32 walk(u64 seed, u32 events) {
+static u32 walk(u64 seed) {
     state = seed * 0x2545f4914f6cdd1d;
     pick_style(), begin();
     for (u32 k = 0; k < events; k++) {
@@ -407,7 +430,7 @@ static void show(struct event e) {
     if (e.kind == OFFER || e.kind == TRIM) printf(" %u", e.k);
     if (e.k && (e.kind == STEP || e.kind == MAIL)) printf(", and power fails");
     if (e.k && (e.kind == STOP || e.kind == RETURN)) printf(", and the last row is lost");
-    if (e.kind == CHANGE && lapse == MISTAKEN) printf(" as from %u", e.k);
+    if (e.kind == CHANGE && lapse == ANOTHER_SENDER) printf(" as from %u", e.k);
 }
 
 /* The events from the beginning: is something wrong? */
@@ -447,16 +470,19 @@ static int found(u64 seed, u32 at, u64 is_wanted) {
 
 /* All runs are sound; they must have done something. */
 static int sound(u64 seed, u64 runs) {
-    printf("%s: sound, %lu runs from seed %lu, %lu events\n", LAPSE[lapse], runs, seed, told.events);
-    printf("  %lu loads filed, %lu elections, %lu stops, %lu of them between a row and its letter,\n",
+    printf("%s: sound, %lu runs from seed %lu, %lu events\n", LAPSE[lapse], runs, seed,
+           told.events);
+    if (lapse != NONE) printf("  the duty was not kept %lu times\n", told.lapses);
+    printf("  %lu loads filed, %lu elections, %lu stops, %lu between a row and its letter,\n",
            told.loads, told.elections, told.stops, told.cuts);
-    printf("  %lu letters lost, %lu repeated, %lu turns held back by a full link,\n", told.lost,
+    printf("  %lu letters lost, %lu repeated, %lu turns for which a link was full,\n", told.lost,
            told.repeated, told.full);
     printf("  %lu trims, %lu books taken whole, %lu times some box had heard a lease\n", told.trims,
            told.whole, told.heard);
-    u32 much = told.loads > runs && told.elections > runs && told.cuts > runs && told.full > runs;
-    if (lapse != NONE || (much && told.trims > runs && told.whole > runs && told.heard > runs)) return 0;
-    return puts("too little has happened"), 1;
+    u32 mail = told.lost > runs && told.repeated > runs && told.full > runs && told.cuts > runs;
+    u32 much = mail && told.loads > runs && told.trims > runs && told.whole > runs;
+    if (much && told.lapses + told.heard > runs) return 0;
+    return puts("too little has happened"), 3;
 }
 
 /* ---- the program */
@@ -484,16 +510,17 @@ static int named(const char *name) {
 }
 
 int main(int count, char **words) {
-    u64 seed = 1, runs = 200, events = 2000, is_wanted = 0;
+    u64 seed = 1, runs = 200, is_wanted = 0;
     for (int k = 1; k < count; k++) {
         const char *word = words[k];
         if (numbered(word, "seed=", &seed) || numbered(word, "runs=", &runs)) continue;
+        if (numbered(word, "lease=", &is_lease_seen)) continue;
         if (numbered(word, "events=", &events) && events <= MOST_EVENTS) continue;
         if (numbered(word, "show=", &is_wanted) || named(after(word, "lapse="))) continue;
         return printf("yard: what is %s?\n", word), 2;
     }
     for (u64 k = 0; k < runs; k++) {
-        u32 at = walk(seed + k, (u32)events);
+        u32 at = walk(seed + k);
         if (at) return found(seed + k, at, is_wanted);
     }
     return sound(seed, runs);
