@@ -142,12 +142,14 @@ uint32_t journal_unheard(const uint64_t *site, size_t site_words, const uint64_t
 
 /* A BOX BY ITSELF, for a program that runs one box and carries its mails by other means. These may
  * lose mail and hand it over more than once, but none after the next election; they neither alter
- * it nor change its order. Agreement rests on that. `row` is the box (JOURNAL_ROW_WORDS(j) words),
- * `letter` a mail that came in, `out` a place for the mail that goes out (JOURNAL_PLACE_WORDS(j)
- * words each). n, j, l, epoch and present (box k as the value 2^(k-1)) are the site's, me is the
- * box's own number. Where the call is done or the mail is taken, *to is the set of boxes that the
- * letter in `out` is for, or 0, and then `out` is as it was; where the mail is discarded *to is 0;
- * where the call is refused *to stays too.
+ * it nor change its order. docs/RUNNING-A-BOX.md has these duties, with what goes wrong without
+ * each.
+ *
+ * `row` is the box (JOURNAL_ROW_WORDS(j) words), `letter` a mail that came in, `out` a place for the
+ * mail that goes out (JOURNAL_PLACE_WORDS(j) words each). n, j, l, epoch and present (box k as the
+ * value 2^(k-1)) are the site's, me is the box's own number. Where the call is done or the mail is
+ * taken, *to is the set of boxes that the letter in `out` is for, or 0, and then `out` is as it was;
+ * where the mail is discarded *to is 0; where the call is refused *to stays too.
  *
  * A box begins with journal_own_fresh. Who is present, the links and the elections are the caller's
  * part: when box c is elected, each box is told of it by journal_own_elected.

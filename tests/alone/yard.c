@@ -7,7 +7,7 @@
    yard [lapse=NAME] [lease=1] [seed=1] [runs=200] [events=2000] [show=0]: runs with the seeds from
    `seed` on. It ends with 0 where all of them are sound, and with 1 at the first that is not; then
    show=1 gives the fewest events that are enough. With lease=0 leases are not looked at. */
-#include "entries.h"
+#include "words.h"
 #include "box.c"
 #include <stdio.h>
 #include <string.h>
