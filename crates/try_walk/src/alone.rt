@@ -210,7 +210,7 @@ fn ask(z: Lent, site: &[u64], c: u32, k: u32, left: u32, right: u32) {
 }
 
 // `start C N J L`, `tell C LEADER` and `ask C K LEFT RIGHT`, of box C by itself.
-pub(crate) fn words(z: Lent, site: &mut [u64], before: &mut [u64], w: Words, n: Numbers) {
+pub(crate) fn say(z: Lent, site: &mut [u64], before: &mut [u64], w: Words, n: Numbers) {
     lent::copy(site, before);
     let a = short(n.a);
     let b = short(n.b);

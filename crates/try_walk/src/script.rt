@@ -197,7 +197,7 @@ fn line(
         }
         Kind::Alone(w) => {
             let m = lent::least(z.site, site.len());
-            alone::words(z, &mut site[0..m], site_before, w, n);
+            alone::say(z, &mut site[0..m], site_before, w, n);
             z
         }
         Kind::Trace => trace_line(s, z, site, links, site_before, links_before),
