@@ -1,22 +1,28 @@
--- Laws of the loop that feeds a whole piece.
+-- Laws of the loop that feeds a whole piece, and of one read.
 use Prim.Native.Nat.{ℕ, _+_, _-_, _<_, _≤_}
 use mathlib.Core.Path.{_≡_, refl, ap, sym, _∙_, subst}
-use mathlib.Core.Bool.{true, false}
+use mathlib.Core.Bool.{Bool, true, false, not, _&&_}
 use mathlib.Core.List.{List}
 use native.Mathlib.Omega.{arith}
 use lib.ListN.{length, take, drop, length-drop}
 use lib.Seq.{take-all, take-add, length-sets}
-use Rattle.laws.proofs.Logic.{both-no}
+use borrow.Author.Tests.{not-true, not-false}
+use Rattle.laws.proofs.Logic.{and-yes, both-no}
 use Rattle.memory.specs.Memory.{siteWords, linksWords}
 use Rattle.trace.specs.Feeding.{Feeding, feedNext, feedText}
 use Rattle.trace.proofs.Pieces.{next-append}
-use Rattle.feed.specs.State.{Course, courseNext, courseText, feedingOf, Begins, formed, Lent}
+use Rattle.feed.specs.State.{Course, courseNext, courseText, feedingOf, Begins, isEnded, formed}
+use Rattle.feed.specs.State.{Lent}
 use Rattle.feed.specs.Says.{Feeds, taken, answerMost}
 use Rattle.feed.specs.declared.state.Fed.{Fed}
 use Rattle.feed.specs.declared.state.Feed.{Feed}
 use Rattle.feed.specs.declared.state.Stage.{Stage}
 use Rattle.feed.proofs.WholeLaws.{taken-part, taken-some}
-use Rattle.replay.specs.Fed.{FedAll}
+use Rattle.streams.specs.Got.{GotFrom}
+use Rattle.streams.specs.declared.Got.{Got}
+use Rattle.replay.specs.Fed.{FedAll, Goes, Over, ReadOn}
+use Rattle.replay.specs.declared.run.Going.{Going}
+use Rattle.replay.specs.declared.run.Sent.{Sent}
 
 -- the first i bytes of a piece have been fed
 pub record Kept (s : Feeding Course) (piece xs₀ ls₀ xs ls before after : List ℕ) (i : ℕ) (g : Feed)
@@ -113,3 +119,51 @@ lent-first f xs ls b hs hl = record {
 
 pub lent-of : {xs ls : List ℕ} {f g : Feed} → g ≡ f → Lent (f .stage) xs ls → Lent (g .stage) xs ls
 lent-of {xs} {ls} e h = subst (λ (d : Feed). Lent (d .stage) xs ls) (sym e) h
+
+-- ---- one read
+
+pub goes-not : (s : Sent) {g : Going} → not (s .whole) ≡ true → Over (s .feed) g → Goes s g
+goes-not s e o = record {
+  feed = o .feed;
+  more =
+      o .more
+      ∙ sym (ap (λ (b : Bool). b && not (isEnded (s .feed .stage))) (not-true (s .whole) e));
+}
+
+pub goes-by : (s : Sent) (ends : Bool) (status : ℕ) → not (s .whole) ≡ false
+    → ends ≡ isEnded (s .feed .stage)
+    → Goes s (record { feed = s .feed; more = not ends; status = status })
+goes-by s ends status e is = record {
+  feed = refl;
+  more =
+      ap not is
+      ∙ sym (ap (λ (b : Bool). b && not (isEnded (s .feed .stage))) (not-false (s .whole) e));
+}
+
+-- bytes came, and were fed
+pub read-on : {f : Feed} {xs ls xs' ls' input : List ℕ} {got : Got} {n : ℕ} {s : Sent} {g : Going}
+    → got ≡ Got.Bytes n → GotFrom got input → n ≤ length input
+    → FedAll f (take n input) xs ls xs' ls' s → Goes s g → ReadOn f xs ls xs' ls' input g
+read-on {xs' = xs'} {ls' = ls'} {input = input} {n = n} {s = s} e came within fed goes = record {
+  more = λ more.
+      let w = and-yes (s .whole) (not (isEnded (s .feed .stage))) (sym (goes .more) ∙ more) in (
+        n,
+        record {
+          some = subst (λ (got : Got). GotFrom got input) e came .0;
+          within = within;
+          next = ap (λ (d : Feed). feedingOf d xs' ls') (goes .feed) ∙ fed .next (w .0);
+          goes =
+              ap (λ (d : Feed). isEnded (d .stage)) (goes .feed)
+              ∙ not-true (isEnded (s .feed .stage)) (w .1);
+        },
+      );
+  lent = lent-of (goes .feed) (fed .lent);
+}
+
+-- none came
+pub read-no : {f : Feed} {xs ls input : List ℕ} {g : Going} → Over f g → Lent (f .stage) xs ls
+    → ReadOn f xs ls xs ls input g
+read-no over lent = record {
+  more = λ more. absurd (both-no more (over .more));
+  lent = lent-of (over .feed) lent;
+}

@@ -1,11 +1,10 @@
 // The loop over the input: what is read is fed, and what is said of it is written.
-ghost use mathlib.Core.Path.{_≡_};
 ghost use Prim.Native.Nat.{_≤_};
 ghost use lib.ListN.{length};
 ghost use Rattle.memory.specs.Memory.{siteWords, linksWords};
 ghost use Rattle.feed.specs.State.{Lent};
 ghost use Rattle.feed.specs.Says.{answerMost};
-ghost use Rattle.replay.specs.Fed.{FedAll};
+ghost use Rattle.replay.specs.Fed.{FedAll, Goes, Over, ReadOn};
 use crate::tell::tell_refused;
 use crate::tell::tell_unended;
 use feed::state::Feed;
@@ -80,7 +79,7 @@ fn write_end(f: Feed, out: &mut [u8]) -> u8 {
 }
 
 fn over(f: Feed, status: u8) -> Going
-    ensures { λ g. ⌜ g .feed ≡ f ⌝ }
+    ensures { λ g. ⌜ Over f g ⌝ }
 {
     Going {
         feed: f,
@@ -91,7 +90,7 @@ fn over(f: Feed, status: u8) -> Going
 
 // After a piece: a write that failed, a refused line, or more to read.
 fn after(s: Sent) -> Going
-    ensures { λ g. ⌜ g .feed ≡ s .feed ⌝ }
+    ensures { λ g. ⌜ Goes s g ⌝ }
 {
     let f = s.feed;
     if !s.whole {
@@ -113,7 +112,9 @@ fn read_some(
     out: &mut [u8],
 ) -> Going
     requires { ⌜ (answerMost ≤ length (now out)) × Lent (f .stage) (now site) (now links) ⌝ }
-    ensures { λ g. ⌜ Lent (g .feed .stage) (now (site .exit)) (now (links .exit)) ⌝ }
+    ensures { λ g.
+        ⌜ ReadOn f (now (site .entry)) (now (links .entry)) (now (site .exit)) (now (links .exit))
+        (now (input .exit)) g ⌝ }
 {
     match streams::receive(STDIN_FILENO, input) {
         Got::Bytes(n) => {

@@ -72,7 +72,7 @@ loop-again c =
     let at-read-some = at-site .before in
     let at-loop = at-read-some .before .before .before .before .before .before in (
       omega (arith, at-out .out .given, at-loop .loop .inv .0),
-      at-read-some .read-some .ensures,
+      at-read-some .read-some .ensures .lent,
       at-site .site .given ∙ at-loop .loop .inv .2,
       at-links .links .given ∙ at-loop .loop .inv .3,
       at-input .input .given ∙ at-loop .loop .inv .4,
