@@ -740,7 +740,17 @@ pub fn own_unheard(row: &[u64], s: Setting) -> Result<u32, Refusal> {
     let mut set = 0u32;
     // SAFETY: a slice with its own length, that is only read, and a number.
     done(unsafe {
-        c::journal_own_unheard(row.as_ptr(), row.len(), &mut set, n, j, l, epoch, present, me)
+        c::journal_own_unheard(
+            row.as_ptr(),
+            row.len(),
+            &mut set,
+            n,
+            j,
+            l,
+            epoch,
+            present,
+            me,
+        )
     })?;
     Ok(set)
 }
