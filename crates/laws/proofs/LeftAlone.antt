@@ -33,7 +33,7 @@ OtherBox (Call.Lose a c) b = Unit {0}
 OtherBox (Call.Repeat a c) b = Unit {0}
 OtherBox (Call.Deliver a c) b = b ≡ c → ⊥
 
-abbrev NotThe : ℕ → ℕ → ℕ → ℕ → Type 0
+abbrev pub NotThe : ℕ → ℕ → ℕ → ℕ → Type 0
 NotThe a b x y = x ≡ a → y ≡ b → ⊥
 
 -- the call takes nothing from the link from x to y, and sends nothing on it
@@ -54,6 +54,16 @@ OtherLink (Call.Timeout c) x y = Unit {0}
 OtherLink (Call.Lose a b) x y = NotThe a b x y
 OtherLink (Call.Repeat a b) x y = NotThe a b x y
 OtherLink (Call.Deliver a b) x y = (x ≡ b → ⊥) × NotThe a b x y
+
+-- box c sends on its own links alone
+pub posted-other : (link : ℕ → ℕ → List Letter) (c : ℕ) (out : Out) (rs : List ℕ) (x y : ℕ)
+    → (x ≡ c → ⊥) → posted link c out rs x y ≡ link x y
+unfolding posted
+posted-other link c Out.Nothing rs x y ne = refl
+posted-other link c (Out.To set m) rs x y ne =
+    cond-elim (λ (l : List Letter). l ≡ link x y) (eqb x c && has set y)
+    (λ e. absurd (ne (eqb-yes x c (and-yes (eqb x c) (has set y) e .0))))
+    (λ e. refl)
 
 module _ (s : Site) where
   -- ---- boxes
@@ -114,17 +124,7 @@ module _ (s : Site) where
     abbrev SameLink : Site → Type 0
     SameLink t = t .link x y ≡ s .link x y
 
-    -- box c sends on its own links alone
-    posted-other : (link : ℕ → ℕ → List Letter) (c : ℕ) (out : Out) (rs : List ℕ) → (x ≡ c → ⊥)
-        → posted link c out rs x y ≡ link x y
-    unfolding posted
-    posted-other link c Out.Nothing rs ne = refl
-    posted-other link c (Out.To set m) rs ne =
-        cond-elim (λ (l : List Letter). l ≡ link x y) (eqb x c && has set y)
-        (λ e. absurd (ne (eqb-yes x c (and-yes (eqb x c) (has set y) e .0))))
-        (λ e. refl)
-
-    relinked-other : (f : List Letter → List Letter) (a b : ℕ) → NotThe a b x y
+    pub relinked-other : (f : List Letter → List Letter) (a b : ℕ) → NotThe a b x y
         → relinked f s a b .link x y ≡ s .link x y
     relinked-other f a b ne =
         cond-elim (λ (l : List Letter). l ≡ s .link x y) (eqb x a && eqb y b)
@@ -135,7 +135,7 @@ module _ (s : Site) where
     acting-link : (c : ℕ) (a : Act) → (x ≡ c → ⊥) → SameLink (acting s c a .next)
     acting-link c a ne =
         by-ruled SameLink s _ _ refl
-        (λ p. by-turn SameLink s s c _ _ refl refl (λ r. posted-other (s .link) c _ _ ne))
+        (λ p. by-turn SameLink s s c _ _ refl refl (λ r. posted-other (s .link) c _ _ x y ne))
 
     delivered-link : (a b : ℕ) (ys : List Letter) → (x ≡ b → ⊥) → NotThe a b x y
         → SameLink (delivered s a b ys .next)
@@ -143,7 +143,7 @@ module _ (s : Site) where
     delivered-link a b [] ne no-head = refl
     delivered-link a b (z ∷ ys) ne no-head = let less = relinked-other tail a b no-head in
         by-turn SameLink s (popped s a b) b _ _ refl less
-        (λ r. posted-other (popped s a b .link) b _ _ ne ∙ less)
+        (λ r. posted-other (popped s a b .link) b _ _ x y ne ∙ less)
 
     pub other-link : (d : Call) → OtherLink d x y → step s d .next .link x y ≡ s .link x y
     unfolding step presented

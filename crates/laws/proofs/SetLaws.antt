@@ -1,9 +1,9 @@
 -- What set words mean: their members, form and count; and when a present set is a majority.
 use Prim.Native.Nat.{ℕ, zero, suc, _+_, _*_, _-_, _/_, _%_, _≤_, _<_, min, max}
 use mathlib.Core.Path.{_≡_, refl, sym, ap, _∙_, subst}
-use mathlib.Core.Bool.{Bool, true, false, not, _&&_, _||_}
+use mathlib.Core.Bool.{Bool, true, false, not, cond, _&&_, _||_}
 use native.Mathlib.Omega.{arith}
-use lib.Bits.{bitAnd, bitOr, and-step, or-step, and-zero-l, and-comm}
+use lib.Bits.{bitAnd, bitOr, bitXor, differ, and-step, or-step, xor-step, and-zero-l, and-comm}
 use lib.Count.{ones, onesIn, ones-step}
 use lib.Dec.{eqb, leb, eqb·suc-suc}
 use borrow.Author.Tests.{eq-eqb, ne-eqb, leb-true}
@@ -15,7 +15,7 @@ use Rattle.laws.proofs.Logic.{Or, left, right, In, both-no, eqb-same, e
 use Rattle.laws.proofs.Logic.{or-cases, every-at}
 use Rattle.laws.proofs.Counts.{one, tally-ext, Major, major-made}
 
--- ---- the digits of a union and of what two sets share
+-- ---- the digits of a union, of what two sets share, and of where they differ
 
 bits : (a b : ℕ) → b < 2 → ((a * 2 + b) / 2 ≡ a) × ((a * 2 + b) % 2 ≡ b)
 bits a b h = (omega arith, omega arith)
@@ -32,6 +32,21 @@ and-parts : (a b : ℕ)
 and-parts a b =
     let e = and-step a b in
     let p = bits (bitAnd (a / 2) (b / 2)) (min (a % 2) (b % 2)) (omega arith) in
+    (ap (λ (t : ℕ). t / 2) e ∙ p .0, ap (λ (t : ℕ). t % 2) e ∙ p .1)
+
+differ-small : (a b : ℕ) → a < 2 → b < 2 → differ a b < 2
+differ-small zero b p q = q
+differ-small (suc zero) zero p q = omega arith
+differ-small (suc zero) (suc zero) p q = omega arith
+differ-small (suc (suc a)) b p q = absurd (omega arith)
+differ-small (suc zero) (suc (suc b)) p q = absurd (omega arith)
+
+xor-parts : (a b : ℕ)
+    → (bitXor a b / 2 ≡ bitXor (a / 2) (b / 2)) × (bitXor a b % 2 ≡ differ (a % 2) (b % 2))
+xor-parts a b =
+    let e = xor-step a b in
+    let p = bits (bitXor (a / 2) (b / 2)) (differ (a % 2) (b % 2))
+    (differ-small (a % 2) (b % 2) (omega arith) (omega arith)) in
     (ap (λ (t : ℕ). t / 2) e ∙ p .0, ap (λ (t : ℕ). t % 2) e ∙ p .1)
 
 max-one : (a b : ℕ) → a < 2 → b < 2 → eqb (max a b) 1 ≡ (eqb a 1 || eqb b 1)
@@ -52,6 +67,16 @@ min-one (suc (suc a)) b p q = absurd (omega arith)
 min-one zero (suc (suc b)) p q = absurd (omega arith)
 min-one (suc zero) (suc (suc b)) p q = absurd (omega arith)
 
+differ-one : (a b : ℕ) → a < 2 → b < 2
+    → eqb (differ a b) 1 ≡ cond (eqb a 1) (not (eqb b 1)) (eqb b 1)
+differ-one zero zero p q = refl
+differ-one zero (suc zero) p q = refl
+differ-one (suc zero) zero p q = refl
+differ-one (suc zero) (suc zero) p q = refl
+differ-one (suc (suc a)) b p q = absurd (omega arith)
+differ-one zero (suc (suc b)) p q = absurd (omega arith)
+differ-one (suc zero) (suc (suc b)) p q = absurd (omega arith)
+
 digit-or : (a b k : ℕ) → digit (bitOr a b) k ≡ (digit a k || digit b k)
 unfolding digit
 digit-or a b zero =
@@ -64,6 +89,14 @@ digit-and a b zero =
     ap (λ (t : ℕ). eqb t 1) (and-parts a b .1) ∙ min-one (a % 2) (b % 2) (omega arith) (omega arith)
 digit-and a b (suc k) = ap (λ (t : ℕ). digit t k) (and-parts a b .0) ∙ digit-and (a / 2) (b / 2) k
 
+digit-xor : (a b k : ℕ)
+    → digit (bitXor a b) k ≡ cond (digit a k) (not (digit b k)) (digit b k)
+unfolding digit
+digit-xor a b zero =
+    ap (λ (t : ℕ). eqb t 1) (xor-parts a b .1)
+    ∙ differ-one (a % 2) (b % 2) (omega arith) (omega arith)
+digit-xor a b (suc k) = ap (λ (t : ℕ). digit t k) (xor-parts a b .0) ∙ digit-xor (a / 2) (b / 2) k
+
 pub has-or : (a b k : ℕ) → has (bitOr a b) k ≡ (has a k || has b k)
 unfolding has
 has-or a b zero = refl
@@ -73,6 +106,21 @@ pub has-and : (a b k : ℕ) → has (bitAnd a b) k ≡ (has a k && has b k)
 unfolding has
 has-and a b zero = refl
 has-and a b (suc k) = digit-and a b k
+
+pub has-xor : (a b k : ℕ) → has (bitXor a b) k ≡ cond (has a k) (not (has b k)) (has b k)
+unfolding has
+has-xor a b zero = refl
+has-xor a b (suc k) = digit-xor a b k
+
+-- a set without what another shares with it
+pub has-less : (w v k : ℕ) → has (bitXor w (bitAnd w v)) k ≡ (has w k && not (has v k))
+has-less w v k =
+    has-xor w (bitAnd w v) k
+    ∙ ap (λ (t : Bool). cond (has w k) (not t) t) (has-and w v k) ∙ go (has w k) (has v k)
+  where
+    go : (a b : Bool) → cond a (not (a && b)) (a && b) ≡ (a && not b)
+    go true b = refl
+    go false b = refl
 
 digit-zero : (k : ℕ) → digit 0 k ≡ false
 unfolding digit

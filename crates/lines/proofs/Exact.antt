@@ -1,23 +1,26 @@
 -- The reader takes exactly the printed forms of lines whose numbers are in range.
-use Prim.Native.Nat.{ℕ, _≤_}
-use mathlib.Core.Path.{_≡_, refl, ap, sym, _∙_}
+use Prim.Native.Nat.{ℕ, _≤_, _<_}
+use mathlib.Core.Path.{_≡_, refl, ap, sym, _∙_, subst}
 use mathlib.Core.Bool.{Bool, true, false, not, _||_}
-use mathlib.Core.List.{List, [], _∷_, _++_}
+use mathlib.Core.List.{List, [], _∷_, _++_, append-nil}
 use mathlib.Core.Logic.{_↔_}
 use native.Mathlib.Omega.{arith}
 use lib.Dec.{ltb, eqb}
 use lib.ListN.{length, drop, length-append}
 use lib.Seq.{drop-append-seam}
-use borrow.Author.Tests.{le-ltb, eqb-true, not-false}
+use borrow.Author.Tests.{lt-ltb, le-ltb, ltb-true, ltb-false, eqb-true, not-false}
 use Rattle.rules.specs.Pick.{pick, pick-true, pick-false}
 use Rattle.rules.specs.Every.{each}
 use Rattle.rules.specs.declared.model.Call.{Call}
-use Rattle.laws.proofs.Logic.{pick-elim, or-no, both-no}
+use Rattle.laws.proofs.Logic.{pick-elim, or-no, both-no, and-yes, eqb-same}
+use Rattle.print.specs.Decimal.{decimal, spaced}
 use Rattle.lines.specs.Table.{wordBytes, arityOf, starts, orWord, wordOf}
-use Rattle.lines.specs.Read.{noNumbers, numbersOf, lineWith, lineOf, readLine}
+use Rattle.lines.specs.Read.{noNumbers, numbersOf, lineWith, lineOf, readLine, oneOf}
+use Rattle.lines.specs.Read.{readOne}
 use Rattle.lines.specs.Printed.{lineWord, lineNumbers, parted, lineBytes, readable, inRange}
 use Rattle.lines.specs.declared.Line.{Line}
 use Rattle.lines.specs.declared.Numbers.{Numbers}
+use Rattle.lines.specs.declared.One.{One}
 use Rattle.lines.specs.declared.Word.{Word}
 use Rattle.lines.proofs.NumberLaws.{small, lastOf, read-parted, pushedAll, numbers-read}
 use Rattle.lines.proofs.NumberLaws.{parted-short}
@@ -237,3 +240,81 @@ unreadable s none = by (readLine s) refl
         let p = read-printed s (Line.Holds c k left right) refl e in
         absurd (none (Line.Holds c k left right) refl (p .1) (p .0))
     by Line.Unreadable e = e
+
+-- ---- one number after a word
+
+starts-again : (w t : List ℕ) → starts w (w ++ t) ≡ true
+unfolding starts
+starts-again [] t = refl
+starts-again (a ∷ w) t = pick-true _ _ _ (eqb-same a) ∙ starts-again w t
+
+is-number : One → Bool
+is-number (One.Number x) = true
+is-number One.Unreadable = false
+
+number-of : One → ℕ
+number-of (One.Number x) = x
+number-of One.Unreadable = 0
+
+picked-one : (t : Bool) (o : One) (x : ℕ) → pick t One.Unreadable o ≡ One.Number x
+    → (t ≡ false) × (o ≡ One.Number x)
+unfolding pick is-number
+picked-one true o x e = absurd (both-no refl (ap is-number (sym e)))
+picked-one false o x e = (refl, e)
+
+one-read : (w s : List ℕ) (x : ℕ) → readOne w s ≡ One.Number x
+    → (s ≡ w ++ decimal x) × (x < 4294967296) × (length s ≤ 64)
+unfolding readOne oneOf number-of spaced each
+one-read w s x e =
+    let rest = drop (length w) s in
+    let n = numbersOf rest in
+    let p = picked-one (ltb 64 (length s) || not (starts w s)) _ x e in
+    let f = or-no (ltb 64 (length s)) (not (starts w s)) (p .0) in
+    let q = picked-one (n .bad || not (eqb (n .count) 1)) (One.Number (n .d)) x (p .1) in
+    let g = or-no (n .bad) (not (eqb (n .count) 1)) (q .0) in
+    let count : n .count ≡ 1 = eqb-true (n .count) 1 (not-false _ (g .1)) in
+    let read = read-parted rest (g .0) in
+    let number : lastOf (n .count) n ≡ x ∷ [] =
+    ap (λ (k : ℕ). lastOf k n) count ∙ ap (λ (v : ℕ). v ∷ []) (ap number-of (q .1)) in (
+      starts-is w s (not-false _ (f .1))
+          ∙ ap (λ (t : List ℕ). w ++ t)
+          (read .bytes ∙ ap parted number ∙ append-nil (decimal x)),
+      ltb-true x 4294967296
+          (and-yes (small x) true (sym (ap (each small) number) ∙ read .range) .0),
+      ltb-false 64 (length s) (f .0),
+    )
+
+one-again : (w : List ℕ) (x : ℕ) → x < 4294967296 → length (w ++ decimal x) ≤ 64
+    → readOne w (w ++ decimal x) ≡ One.Number x
+unfolding readOne oneOf each pick spaced
+one-again w x r h =
+    pick-false _ _ _ one
+    ∙ ap (λ (u : List ℕ). oneOf (numbersOf u)) (drop-append-seam w (decimal x)
+    ∙ sym (append-nil (decimal x)))
+    ∙ ap oneOf (numbers-again (x ∷ []) (omega arith) (omega arith) in-range)
+  where
+    one : (ltb 64 (length (w ++ decimal x)) || not (starts w (w ++ decimal x))) ≡ false
+    one = rw (le-ltb 64 (length (w ++ decimal x)) h, starts-again w (decimal x)) refl
+
+    in-range : each small (x ∷ []) ≡ true
+    in-range = rw (lt-ltb x 4294967296 r) refl
+
+-- `read_one` takes exactly the word with a number in range behind it, in at most 64 bytes, ..
+pub exact-one : (w s : List ℕ) (x : ℕ)
+    → (readOne w s ≡ One.Number x)
+    ↔ ((s ≡ w ++ decimal x) × (x < 4294967296) × (length s ≤ 64))
+exact-one w s x = (
+  one-read w s x,
+  λ p. ap (readOne w) (p .0)
+      ∙ one-again w x (p .1) (subst (λ (t : List ℕ). length t ≤ 64) (p .0) (p .2)),
+)
+
+-- .. and every other text is unreadable
+pub unreadable-one : (w s : List ℕ)
+    → ((x : ℕ) → s ≡ w ++ decimal x → x < 4294967296 → length s ≤ 64 → ⊥)
+    → readOne w s ≡ One.Unreadable
+unreadable-one w s none = by (readOne w s) refl
+  where
+    by : (o : One) → readOne w s ≡ o → readOne w s ≡ One.Unreadable
+    by (One.Number x) e = let p = one-read w s x e in absurd (none x (p .0) (p .1) (p .2))
+    by One.Unreadable e = e

@@ -2,3 +2,4 @@
 pub mod ReadLaws
 pub mod NumberLaws
 pub mod Exact
+pub mod Ranges

@@ -7,4 +7,5 @@ pub mod OwnedLaws
 pub mod EntryLaws
 pub mod ToldLaws
 pub mod Firm
+pub mod Answered
 pub mod Room

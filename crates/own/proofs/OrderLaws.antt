@@ -8,7 +8,7 @@ use Rattle.rules.specs.Sets.{setForm}
 use Rattle.rules.specs.Needs.{Need, ruled}
 use Rattle.rules.specs.Box.{Box, Event, own, turnOf, brought}
 use Rattle.rules.specs.Site.{isBox}
-use Rattle.rules.specs.Own.{unmoved, ownTurn, formOwn, rightNumbers, ownStep, ownNeeds}
+use Rattle.rules.specs.Own.{unmoved, ownTurn, formOwn, rightNumbers, ownStep, quietNeeds}
 use Rattle.rules.specs.Unheard.{unheardBy, ownUnheard}
 use Rattle.rules.specs.declared.model.Unheard.{Unheard}
 use Rattle.laws.proofs.Types.{Act, Answer, Refusal, Setting}
@@ -106,17 +106,6 @@ module _ {s : Setting} {r p : List ℕ} {mailed : Bool} {e : Event} {reads : Boo
         next = own-found h;
       }
 
--- Which present boxes have not answered its lease, after the same.
-pub unheard-found : (s : Setting) (r p : List ℕ) {v : Judged}
-    → found (act-asks s r p Act.Heard) ≡ v
-    → by Unheard.Refused (unheardBy (ownBox s r .head) s) v ≡ unheardOn s r
-unfolding judged unheardOn ownUnheard
-unheard-found s r p h =
-    rw (← h, act-asks s r p Act.Heard .form)
-    (sym (first-found (λ u. u) Unheard.Refused (unheardBy (ownBox s r .head) s)
-    (sizesForm (s .n) (s .j) (s .l)) (rowReads (s .j) r) (formOwn s (ownBox s r) (own Act.Heard))
-    (isBox (s .n) (s .me))))
-
 -- None of these is found before what sends nothing.
 pub asked : (s : Setting) (r p : List ℕ) (numbers : Bool)
     → judged s r p false numbers ≡ Judged.Passed
@@ -131,7 +120,7 @@ module _ {ℓ} {A : Type ℓ} (refuse : Refusal → A) (s : Setting) (r p : List
     (more : List Need) (a : A) where
   pub told-found : {v : Judged} → judged s r p false numbers ≡ v
       → by refuse (ruled refuse more a) v
-      ≡ ifRead s (rowReads (s .j) r) (ruled refuse (ownNeeds s (ownBox s r) numbers more) a)
+      ≡ ifRead s (rowReads (s .j) r) (ruled refuse (quietNeeds s (ownBox s r) numbers more) a)
       (refuse Refusal.Form)
   unfolding judged ruled
   told-found h =
@@ -139,3 +128,11 @@ module _ {ℓ} {A : Type ℓ} (refuse : Refusal → A) (s : Setting) (r p : List
       (sym (first-found (λ u. u) refuse (ruled refuse more a)
       (sizesForm (s .n) (s .j) (s .l)) (rowReads (s .j) r)
       (formOwn s (ownBox s r) (own Act.Recover)) numbers))
+
+-- Which present boxes have not answered its lease.
+pub unheard-found : (s : Setting) (r p : List ℕ) {v : Judged}
+    → judged s r p false (isBox (s .n) (s .me)) ≡ v
+    → by Unheard.Refused (unheardBy (ownBox s r .head) s) v ≡ unheardOn s r
+unfolding unheardOn ownUnheard ruled
+unheard-found s r p h =
+    told-found Unheard.Refused s r p (isBox (s .n) (s .me)) [] (unheardBy (ownBox s r .head) s) h

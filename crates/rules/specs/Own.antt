@@ -74,14 +74,22 @@ formOwn s x e =
     ∷ formEvent s e
     ∷ [])
 
+-- what everything asked of a box alone needs first, and then more: 13, 1, and 2 of the numbers
+abbrev pub ownNeeds : Setting → Box → Event → Bool → List Need → List Need
+ownNeeds s x e numbers more =
+    need Refusal.Sizes (sizesForm (s .n) (s .j) (s .l))
+    ∷ need Refusal.Form (formOwn s x e)
+    ∷ need Refusal.Box numbers
+    ∷ more
+
+-- where no letter comes; every act asks the same form
+abbrev pub quietNeeds : Setting → Box → Bool → List Need → List Need
+quietNeeds s x numbers more = ownNeeds s x (own Act.Recover) numbers more
+
 -- 13, 1, 2, and then what the turn says
 unfoldable pub ownStep : Setting → Box → Event → OwnOutcome
 ownStep s x e =
-    ruled (λ why. unmoved x (Answer.Refused why))
-    (need Refusal.Sizes (sizesForm (s .n) (s .j) (s .l))
-    ∷ need Refusal.Form (formOwn s x e)
-    ∷ need Refusal.Box (rightNumbers s e)
-    ∷ [])
+    ruled (λ why. unmoved x (Answer.Refused why)) (ownNeeds s x e (rightNumbers s e) [])
     (ownTurn (turnOf s x e .answer) x (turnOf s x e) (brought e))
 
 -- ---- a box alone is started, told of an election, and asked
@@ -91,14 +99,6 @@ unfoldable pub ownFresh : ℕ → ℕ → ℕ → Box → OwnOutcome
 ownFresh n J L x =
     ruled (λ why. unmoved x (Answer.Refused why)) (need Refusal.Sizes (sizesForm n J L) ∷ [])
     (unmoved freshBox Answer.Done)
-
--- 13, 1 and 2, where no letter comes: every act asks the same
-abbrev pub ownNeeds : Setting → Box → Bool → List Need → List Need
-ownNeeds s x numbers more =
-    need Refusal.Sizes (sizesForm (s .n) (s .j) (s .l))
-    ∷ need Refusal.Form (formOwn s x (own Act.Recover))
-    ∷ need Refusal.Box numbers
-    ∷ more
 
 -- the box x of s when c is elected
 abbrev pub electedBox : Setting → ℕ → Box → Box
@@ -117,14 +117,14 @@ toldNeeds s c =
 unfoldable pub ownElected : Setting → Box → ℕ → OwnOutcome
 ownElected s x c =
     ruled (λ why. unmoved x (Answer.Refused why))
-    (ownNeeds s x (isBox (s .n) (s .me) && isBox (s .n) c) (toldNeeds s c))
+    (quietNeeds s x (isBox (s .n) (s .me) && isBox (s .n) c) (toldNeeds s c))
     (unmoved (electedBox s c x) Answer.Done)
 
 -- a holds line: 14 where it is untrue
 unfoldable pub ownHolds : Setting → Box → ℕ → ℕ → ℕ → Answer
 ownHolds s x k left right =
     ruled Answer.Refused
-    (ownNeeds s x (isBox (s .n) (s .me))
+    (quietNeeds s x (isBox (s .n) (s .me))
     (need Refusal.Untrue (agreedAs x k left right)
     ∷ []))
     Answer.Done

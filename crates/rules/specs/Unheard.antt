@@ -2,17 +2,17 @@
 -- boxes that have not answered the lease of a leader.
 use Prim.Native.Nat.{ℕ}
 use mathlib.Core.Bool.{Bool, _&&_, _||_}
-use mathlib.Core.List.{[], _∷_}
+use mathlib.Core.List.{[]}
 use lib.Bits.{bitAnd, bitXor}
 use Rattle.rules.specs.Pick.{pick}
-use Rattle.rules.specs.Sizes.{even, sizesForm}
+use Rattle.rules.specs.Sizes.{even}
 use Rattle.rules.specs.Numbers.{inPhase}
-use Rattle.rules.specs.Box.{Box, own}
-use Rattle.rules.specs.Site.{Site, setting}
-use Rattle.rules.specs.Needs.{need, ruled}
+use Rattle.rules.specs.Box.{Box}
+use Rattle.rules.specs.Site.{Site, setting, isBox}
+use Rattle.rules.specs.Needs.{ruled}
 use Rattle.rules.specs.Step.{atBox}
-use Rattle.rules.specs.Own.{formOwn, rightNumbers}
-use Rattle.rules.specs.Types.{Act, BoxState, Phase, Refusal, Setting, Unheard}
+use Rattle.rules.specs.Own.{quietNeeds}
+use Rattle.rules.specs.Types.{BoxState, Phase, Refusal, Setting, Unheard}
 
 -- the box leads, and its lease is out: phase Lease, or LeaseDone
 unfoldable pub leaseIsOut : BoxState → Setting → Bool
@@ -37,8 +37,5 @@ unheard s c = ruled Unheard.Refused (atBox s c []) (unheardBy (s .box c .head) (
 unfoldable pub ownUnheard : Setting → Box → Unheard
 ownUnheard s x =
     ruled Unheard.Refused
-    (need Refusal.Sizes (sizesForm (s .n) (s .j) (s .l))
-    ∷ need Refusal.Form (formOwn s x (own Act.Heard))
-    ∷ need Refusal.Box (rightNumbers s (own Act.Heard))
-    ∷ [])
+    (quietNeeds s x (isBox (s .n) (s .me)) [])
     (unheardBy (x .head) s)

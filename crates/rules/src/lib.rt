@@ -9,5 +9,5 @@ pub mod parts;
 pub mod ranges;
 pub mod sets;
 mod steps;
-mod turns;
+pub mod turns;
 pub mod unheard;

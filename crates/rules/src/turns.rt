@@ -36,7 +36,7 @@ pub(crate) fn first_cause(role: bool, phase: bool, number: bool, place: bool, v:
     v
 }
 
-pub(crate) fn unless(t: bool, why: Refusal, v: Verdict) -> Verdict
+pub fn unless(t: bool, why: Refusal, v: Verdict) -> Verdict
     ensures { λ r. ⌜ r ≡ unless t why v ⌝ }
 {
     if t { v } else { Verdict::Refuse(why) }

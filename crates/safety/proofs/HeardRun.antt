@@ -70,13 +70,13 @@ module _ (s : Site) (c : ℕ) where
 
 -- ---- where `heard` is done
 
-record IsHeard (s : Site) (c : ℕ) : Type 0 where
+pub record IsHeard (s : Site) (c : ℕ) : Type 0 where
   pub form : Formed s
   pub box : In c (s .n)
   pub out : LeaseOut s c
   pub all : includes (s .box c .head .heard) (s .present) ≡ true
 
-is-heard : (s : Site) (c : ℕ) → step s (Call.Heard c) .answer ≡ Answer.Done → IsHeard s c
+pub is-heard : (s : Site) (c : ℕ) → step s (Call.Heard c) .answer ≡ Answer.Done → IsHeard s c
 unfolding step acted leaseHeard
 is-heard s c =
     answer-acting (λ (o : Outcome). o .answer ≡ Answer.Done → IsHeard s c) s c _ _ _

@@ -13,19 +13,20 @@ use Rattle.rules.specs.Site.{Site, setting, relinked, popped, twice, doubled, p
 use Rattle.rules.specs.Needs.{ruled}
 use Rattle.rules.specs.Step.{byAnswer, delivered, elect, presented, step}
 use Rattle.laws.proofs.Types.{Act, Answer, Call, Kind, Out, Turn}
-use Rattle.laws.proofs.Logic.{Or, left, right, In, both-no, eqb-same, eqb-yes, and-yes, same?}
+use Rattle.laws.proofs.Logic.{Or, left, right, In, both-no, eqb-same, same?}
 use Rattle.laws.proofs.Logic.{cond-elim, All, nil, cons, All-append, All-map}
 use Rattle.laws.proofs.FormLaws.{Formed, form-made, box-is}
 use Rattle.laws.proofs.FrameLaws.{upd-same, upd-other}
 use Rattle.laws.proofs.View.{Links, store, phaseOf, readAs}
 use Rattle.laws.proofs.StepLaws.{changed, Plays, recovers, collects, readies, offers, proposes}
+use Rattle.laws.proofs.LeftAlone.{posted-other, relinked-other}
 use Rattle.laws.proofs.StepLaws.{agrees, finishes, hears, trims, delivers, by-step}
 use Rattle.safety.specs.Heard.{TakesLease, Heard}
 use Rattle.safety.proofs.Inv.{MailOk, Inv}
 use Rattle.safety.proofs.Leader.{Led, led}
 use Rattle.safety.proofs.Quiet.{odd-risen}
 use Rattle.safety.proofs.HeardWay.{part, Other, Asks, Ordered, sends, ordered-sends}
-use Rattle.safety.proofs.HeardWay.{posted-own, posted-other}
+use Rattle.safety.proofs.HeardWay.{posted-own}
 use Rattle.safety.proofs.HeardAnswers.{Answers, follow-act, follow-mail}
 use Rattle.safety.proofs.HeardTurn.{Comes, Hears, hears-place, lead-act, lead-mail}
 
@@ -51,13 +52,6 @@ plays-elim (delivers {a = a} {y = y} {ys = ys} ha ax e) P f g = g a y ys ha ax e
 module _ (s : Site) (a x : ℕ) where
   popped-at : (p : ℕ) → p ≡ a → popped s a x .link p x ≡ tail (s .link p x)
   popped-at p e = rw (eq-eqb p a e, eqb-same x) refl
-
-  popped-else : (p q : ℕ) → (p ≡ a → q ≡ x → ⊥) → popped s a x .link p q ≡ s .link p q
-  popped-else p q out =
-      cond-elim (λ (l : List Letter). l ≡ s .link p q) (eqb p a && eqb q x)
-      (λ e. let i = and-yes (eqb p a) (eqb q x) e in
-      absurd (out (eqb-yes p a (i .0)) (eqb-yes q x (i .1))))
-      (λ e. refl)
 
 -- ---- a mail that is taken
 
@@ -196,7 +190,7 @@ module _ (c b : ℕ) (ne : b ≡ c → ⊥) (G : Type 0) where
         same : way sent ≡ way link ++ sends b (t .out) (x .records)
         same =
             rw (
-              posted-other c link c (t .out) (x .records) b ne,
+              posted-other link c (t .out) (x .records) b c ne,
               posted-own b link c (t .out) (x .records),
             )
             (sym (append-assoc (link b c) (link c b) _))
@@ -218,7 +212,7 @@ module _ (c b : ℕ) (ne : b ≡ c → ⊥) (G : Type 0) where
             → way (s .link) ≡ y ∷ way (popped s a c .link)
         stood a y ys ba here =
             let first : s .link b c ≡ y ∷ ys = ap (λ k. s .link k c) ba ∙ here in
-            rw (popped-at s a c b ba, popped-else s a c c b (λ p q. ne q), first) refl
+            rw (popped-at s a c b ba, relinked-other s c b tail a c (λ p q. ne q), first) refl
 
     -- ---- a turn of another box: what matters is the way
 
@@ -248,8 +242,8 @@ module _ (c b : ℕ) (ne : b ≡ c → ⊥) (G : Type 0) where
         aside : (link : Links) (out : Out) (rs : List ℕ) → way (posted link x out rs) ≡ way link
         aside link out rs =
             rw (
-              posted-other c link x out rs b (λ p. xb (sym p)),
-              posted-other b link x out rs c (λ p. xc (sym p)),
+              posted-other link x out rs b c (λ p. xb (sym p)),
+              posted-other link x out rs c b (λ p. xc (sym p)),
             ) refl
 
     follows : even (s .epoch) ≡ true → s .box c .head .leads ≡ true
@@ -260,7 +254,7 @@ module _ (c b : ℕ) (ne : b ≡ c → ⊥) (G : Type 0) where
     sent-way : (out : Out) (rs : List ℕ) (link : Links)
         → way (posted link b out rs) ≡ link b c ++ (sends c out rs ++ link c b)
     sent-way out rs link =
-        rw (posted-own c link b out rs, posted-other b link b out rs c (λ p. ne (sym p)))
+        rw (posted-own c link b out rs, posted-other link b out rs c b (λ p. ne (sym p)))
         (append-assoc (link b c) (sends c out rs) (link c b))
 
     silent-way : (out : Out) (rs : List ℕ) (link : Links) → All (λ z. ⊥) (sends c out rs)
@@ -314,7 +308,7 @@ module _ (c b : ℕ) (ne : b ≡ c → ⊥) (G : Type 0) where
             at-away b ne (turnAt b (mail c y)) (y .records) (popped s c b .link)
             (λ e l. rw (
               sent-way out _ (popped s c b .link),
-              popped-else s c b b c (λ p q. ne p),
+              relinked-other s b c tail c b (λ p q. ne p),
               popped-at s c b c refl,
               here,
             )

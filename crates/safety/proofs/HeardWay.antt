@@ -8,7 +8,7 @@ use Rattle.rules.specs.Sets.{has}
 use Rattle.rules.specs.Box.{Letter, letterOf}
 use Rattle.rules.specs.Site.{posted}
 use Rattle.laws.proofs.Types.{Kind, Mail, Out}
-use Rattle.laws.proofs.Logic.{eqb-same, eqb-yes, and-yes, cond-elim, All, nil, cons, All-append}
+use Rattle.laws.proofs.Logic.{eqb-same, cond-elim, All, nil, cons, All-append}
 use Rattle.laws.proofs.View.{Links}
 
 -- ---- what stands on it
@@ -106,12 +106,3 @@ module _ (b : ℕ) where
           ≡ link c b ++ cond t (letterOf m rs ∷ []) []
       go true = refl
       go false = sym (append-nil (link c b))
-
-  -- the links of others
-  pub posted-other : (link : Links) (c : ℕ) (out : Out) (rs : List ℕ) (a : ℕ) → (a ≡ c → ⊥)
-      → posted link c out rs a b ≡ link a b
-  unfolding posted
-  posted-other link c Out.Nothing rs a ne = refl
-  posted-other link c (Out.To set m) rs a ne =
-      cond-elim (λ (l : List Letter). l ≡ link a b) _
-      (λ e. absurd (ne (eqb-yes a c (and-yes _ (has set b) e .0)))) (λ e. refl)

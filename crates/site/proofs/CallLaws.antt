@@ -10,6 +10,8 @@ use Rattle.rules.specs.Box.{Letter, own, mail, turnOf}
 use Rattle.rules.specs.Site.{Site, Outcome, isBox, isLink, popped, doubled}
 use Rattle.rules.specs.Form.{form}
 use Rattle.rules.specs.Needs.{Need, need, ruled}
+use Rattle.rules.specs.Pick.{pick}
+use Rattle.rules.specs.Turns.{unless}
 use Rattle.rules.specs.Step.{refused, did, byTurn, atBox, atLink, acting, delivered, elect}
 use Rattle.rules.specs.Step.{presented, step, agreedAs, holds}
 use Rattle.rules.specs.declared.model.Act.{Act}
@@ -33,7 +35,8 @@ use Rattle.site.proofs.AfterLaws.{no-needs, need-met, need-not}
 module _ {ℓ} {A : Type ℓ} (refuse : Refusal → A) (a : A) where
   -- one need, and what the others come to
   one-go : (b : Bool) (v : Verdict) (why : Refusal) (r : A) → (v ≡ Verdict.Go → r ≡ a)
-      → cond b v (Verdict.Refuse why) ≡ Verdict.Go → cond b r (refuse why) ≡ a
+      → unless b why v ≡ Verdict.Go → cond b r (refuse why) ≡ a
+  unfolding unless pick
   one-go true v why r more e = more e
   one-go false v why r more e = let z : _≡_ {A = ℕ} 0 1 = cc in absurd (omega arith)
 
@@ -44,7 +47,8 @@ module _ {ℓ} {A : Type ℓ} (refuse : Refusal → A) (a : A) where
 
   one-refuse : (b : Bool) (v : Verdict) (first why : Refusal) (r : A)
       → (v ≡ Verdict.Refuse why → r ≡ refuse why)
-      → cond b v (Verdict.Refuse first) ≡ Verdict.Refuse why → cond b r (refuse first) ≡ refuse why
+      → unless b first v ≡ Verdict.Refuse why → cond b r (refuse first) ≡ refuse why
+  unfolding unless pick
   one-refuse true v first why r more e = more e
   one-refuse false v first why r more e = let d : first ≡ why = cc in ap refuse d
 
@@ -57,7 +61,8 @@ module _ {ℓ} {A : Type ℓ} (refuse : Refusal → A) (a : A) where
 
 one-discard : (b : Bool) (v : Verdict) (first : Refusal) (why : Cause)
     → (v ≡ Verdict.Discard why → ⊥)
-    → cond b v (Verdict.Refuse first) ≡ Verdict.Discard why → ⊥
+    → unless b first v ≡ Verdict.Discard why → ⊥
+unfolding unless pick
 one-discard true v first why more e = more e
 one-discard false v first why more e = let z : _≡_ {A = ℕ} 0 1 = cc in omega arith
 

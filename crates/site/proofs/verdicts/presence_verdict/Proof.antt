@@ -10,7 +10,7 @@ returns c =
     let at-need = c .before .before .before in
     let start = at-need .before .before in
     rw (c .before .enum-told .given .1)
-    (simp (c .need2 .ensures, at-need .need .ensures, start .pre))
+    (simp (c .unless2 .ensures, at-need .unless .ensures, start .pre))
 
 returns-2 : tie.Need-returns-2
 unfolding verdictOf
@@ -18,7 +18,7 @@ returns-2 c =
     let at-need = c .before .before .before in
     let start = at-need .before .before in
     rw (c .before .enum-told2 .given .1)
-    (simp (c .need3 .ensures, at-need .need .ensures, start .pre))
+    (simp (c .unless3 .ensures, at-need .unless .ensures, start .pre))
 
 returns-3 : tie.Need-returns-3
 unfolding verdictOf
@@ -26,10 +26,10 @@ returns-3 c =
     let even = c .before .before in
     rw (even .before .enum-told3 .given .1)
     (simp (
-      c .need5 .ensures,
-      c .before .need4 .ensures,
+      c .unless5 .ensures,
+      c .before .unless4 .ensures,
       even .is-even .ensures,
-      even .before .before .before .need .ensures,
+      even .before .before .before .unless .ensures,
       even .before .before .before .before .before .pre,
     ))
 
