@@ -24,8 +24,9 @@ use Rattle.safety.specs.Demand3.{In, Agreed, recordAt, start, Offered, AfterRun
 use Rattle.safety.specs.Demand3.{now as offered, before as earlier}
 use Rattle.safety.proofs.Demand.{demand-3}
 use Rattle.safety.proofs.Example.{replayed, replayed-further, ranges, computed}
-use Rattle.alone.specs.Yard.{Yard, asked, Happens, Lived, did, told}
-use Rattle.alone.specs.Alone.{Stands, Taken, now, before, before-told, AllFit, Demand3Alone}
+use Rattle.alone.specs.Yard.{Yard, asked, Happens, Lived, did, told, waits}
+use Rattle.alone.specs.Alone.{Stands, Taken, now, before, before-told, before-waits, AllFit}
+use Rattle.alone.specs.Alone.{Demand3Alone}
 use Rattle.alone.proofs.Lives.{lives}
 use Rattle.alone.proofs.OwnStep as OwnStep
 use Rattle.alone.proofs.OwnStep.{skip}
@@ -141,6 +142,7 @@ module _ (n J L : ℕ) (sizes : sizesForm n J L ≡ true) where
   offers : {calls : List Call} {y : Yard} (l : Lived n J L calls y) {j r : ℕ}
       → Offered (start n J L) calls j r → Taken calls y l j r
   offers (told b l h) o = before-told h (offers l o)
+  offers (waits b e w l i h) o = before-waits i h (offers l o)
   offers (did l h) (earlier d o) = before h (offers l o)
   offers (did {y = y} {z = z} l h) (offered calls c left right e) =
       subst (λ (a : Answer). (g : Happens y (Call.Offer c left right) a z)

@@ -26,10 +26,10 @@ use Rattle.laws.proofs.FormLaws.{is-box, box-is, is-link}
 use Rattle.laws.proofs.FrameLaws.{upd-same, upd-other, upd-all}
 use Rattle.laws.proofs.StepLaws.{mets, by-ruled}
 use Rattle.alone.specs.Links.{Links, after, callOf}
-use Rattle.alone.specs.Yard.{Alone, Yard, begun, toldOf, withLinks, withAlone}
-use Rattle.alone.specs.Yard.{withEpoch, stored, answered, carried, Told, Head, Counted}
-use Rattle.alone.specs.Yard.{Tells, acts, hands, loses, repeats, stops, returns}
-use Rattle.alone.specs.Yard.{ran, relinkedBy, times-out, elects, Lived, began, did, told}
+use Rattle.alone.specs.Apart.{withLinks, withAlone, withEpoch, relinkedBy, Told, Head}
+use Rattle.alone.specs.Apart.{Counted, loses, repeats, stops, returns, times-out, elects}
+use Rattle.alone.specs.Yard.{Alone, Yard, begun, toldOf, stored, answered, carried, ran}
+use Rattle.alone.specs.Yard.{Tells, acts, hands, brings, Lived, began, did, told}
 use Rattle.alone.specs.Alone.{AllFit, Lives}
 use Rattle.alone.proofs.OwnStep.{ruled-met, is-acting}
 use Rattle.alone.proofs.Mirror.{Mirror, Mirrored, siteAs, odd-risen, lived, same-n}
@@ -78,8 +78,7 @@ module _ (n J L : ℕ) (sizes : sizesForm n J L ≡ true) where
       let m = lived n J L sizes l .mirror in
       let p = passed _ (m .form) in
       record {
-        box = i;
-        once = once;
+        untold = record { box = i; once = once };
         heard = ap (λ (o : OwnOutcome). o .answer)
             (ruled-met _ _ _ (
               p .0,
@@ -274,12 +273,12 @@ module _ (n J L : ℕ) (sizes : sizesForm n J L ≡ true) where
     elected c i odd here major =
         let due : even (y .epoch) ≡ false = not-true _ odd in
         let t =
-        tell (did l (elects c (record {
+        tell (did l (brings (elects c (record {
           box = i;
           due = due;
           here = here;
           majority = leb-true _ _ major;
-        }))) (record {
+        })))) (record {
           even = eq-eqb ((y .epoch + 1) % 2) 0 (omega (arith, eqb-false (y .epoch % 2) 0 due));
           box = box-is i;
           here = here;
@@ -303,28 +302,29 @@ module _ (n J L : ℕ) (sizes : sizesForm n J L ≡ true) where
     next (Call.Trim c k) fits = act c (Act.Trim k) tt
     next (Call.Stop c) fits =
         change (Call.Stop c) _ _ refl
-        (λ p. grows (did l (stops c (counted (p .1 .0) (p .1 .1 .1 .0)) (p .1 .1 .0)))
+        (λ p. grows (did l (brings (stops c (counted (p .1 .0) (p .1 .1 .1 .0)) (p .1 .1 .0))))
         risen-told)
     next (Call.Return c) fits =
         change (Call.Return c) _ _ refl
         (λ p. grows
-        (did l (returns c (counted (p .1 .0) (p .1 .1 .1 .0)) (not-true _ (p .1 .1 .0))))
+        (did l (brings (returns c (counted (p .1 .0) (p .1 .1 .1 .0)) (not-true _ (p .1 .1 .0)))))
         risen-told)
     next (Call.Timeout c) fits =
         change (Call.Timeout c) _ _ refl
         (λ p. grows
-        (did l (times-out c (counted (p .1 .0) (p .1 .1 .1 .1 .0)) (p .1 .1 .0) (p .1 .1 .1 .0)))
+        (did l (brings
+        (times-out c (counted (p .1 .0) (p .1 .1 .1 .1 .0)) (p .1 .1 .0) (p .1 .1 .1 .0))))
         risen-told)
     next (Call.Lose a b) fits =
         change (Call.Lose a b) _ _ refl
         (λ p. let x = some-head a b (p .1 .0) (r .link a b) refl (p .1 .1 .0) in
-        grows (did l (loses a b (x .0) (x .1))) all)
+        grows (did l (brings (loses a b (x .0) (x .1)))) all)
     next (Call.Repeat a b) fits =
         change (Call.Repeat a b) _ _ refl
         (λ p. let x = some-head a b (p .1 .0) (r .link a b) refl (p .1 .1 .0) in
-        grows (did l (repeats a b (x .0) (x .1)
+        grows (did l (brings (repeats a b (x .0) (x .1)
         (subst (λ (k : Links). length (k a b) < y .L) (sym (m .links)) (ltb-true _ _
-        (p .1 .1 .1 .0))))) all)
+        (p .1 .1 .1 .0)))))) all)
     next (Call.Deliver a b) fits = deliver a b
 
   pub lives : (calls : List Call) → AllFit calls → Lives n J L (end calls)

@@ -19,17 +19,19 @@ use Rattle.rules.specs.Site.{doubled}
 use Rattle.rules.specs.Step.{did, elect, risen, presented, step, run}
 use Rattle.laws.specs.Frames.{ActFits, CallFits}
 use Rattle.laws.proofs.Types.{Act, Answer, Call, Phase, Setting, State}
-use Rattle.laws.proofs.Logic.{In, both-no, eqb-yes, cond-elim, passed, every-at}
+use Rattle.laws.proofs.Logic.{In, both-no, eqb-yes, and-both, cond-elim, passed, every-at}
+use Rattle.laws.proofs.SetLaws.{set-full}
 use Rattle.laws.proofs.FormLaws.{box-is, form-says}
 use Rattle.laws.proofs.FrameLaws.{upd-same, upd-all}
 use Rattle.laws.proofs.StepLaws.{sizes-run}
 use Rattle.laws.proofs.FormKept.{step-keeps-form, fresh-form}
 use Rattle.alone.specs.Links.{Links, sent, after, joinedBy, linked, callOf}
-use Rattle.alone.specs.Yard.{Alone, Yard, begun, now, ran, withLinks}
-use Rattle.alone.specs.Yard.{withEpoch, stored, answered, carried}
-use Rattle.alone.specs.Yard.{relinkedBy, Told, Head, Counted, Happens}
-use Rattle.alone.specs.Yard.{acts, hands, loses, repeats, stops, returns, times-out, elects}
-use Rattle.alone.specs.Yard.{withAlone, toldOf, Tells, Lived, began, did as then, told}
+use Rattle.alone.specs.Apart.{now, withLinks, withAlone, withEpoch, waiting, relinkedBy}
+use Rattle.alone.specs.Apart.{Told, Head, Counted, Waits, switched-on, over}
+use Rattle.alone.specs.Apart.{loses, repeats, stops, returns, times-out, elects}
+use Rattle.alone.specs.Yard.{Alone, Yard, begun, ran, stored, answered, carried, toldOf}
+use Rattle.alone.specs.Yard.{Tells, Happens, acts, hands, brings, Lived, began, did as then}
+use Rattle.alone.specs.Yard.{told, waits}
 use Rattle.alone.proofs.OwnStep as OwnStep
 use Rattle.alone.proofs.OwnStep.{ruled-met, epoch-form, told-done}
 
@@ -287,10 +289,10 @@ module _ (y : Yard) (box : ℕ → Box) (link : Links) (m : Mirror y box link) w
   goes (hands a b x t h) =
       box-goes b t (mail a x) (λ l. relinkedBy tail l a b) (Call.Deliver a b) tt
       (OwnStep.delivers s (m .form) a b x (h .behind) (h .link) (stands h))
-  goes (loses a b x h) =
+  goes (brings (loses a b x h)) =
       done (Call.Lose a b) (popped s a b)
       (ruled-met _ _ _ (m .form, (h .link, (some h, tt)))) (relinked-goes tail a b) tt
-  goes (repeats a b x h room) =
+  goes (brings (repeats a b x h room)) =
       done (Call.Repeat a b) (doubled s a b)
       (ruled-met _ _ _ (
         m .form,
@@ -307,19 +309,19 @@ module _ (y : Yard) (box : ℕ → Box) (link : Links) (m : Mirror y box link) w
         ),
       ))
       (relinked-goes twice a b) tt
-  goes (stops c h here) =
+  goes (brings (stops c h here)) =
       done (Call.Stop c) (presented s (without (y .present) c))
       (ruled-met _ _ _ (m .form, (box-is (h .box), (here, (counted h, tt)))))
       (presented-goes _) tt
-  goes (returns c h gone) =
+  goes (brings (returns c h gone)) =
       done (Call.Return c) (presented s (joined (y .present) c))
       (ruled-met _ _ _ (m .form, (box-is (h .box), (rw gone refl, (counted h, tt)))))
       (presented-goes _) tt
-  goes (times-out c h here ev) =
+  goes (brings (times-out c h here ev)) =
       done (Call.Timeout c) (presented s (y .present))
       (ruled-met _ _ _ (m .form, (box-is (h .box), (here, (ev, (counted h, tt))))))
       (presented-goes _) tt
-  goes (elects c h) =
+  goes (brings (elects c h)) =
       done (Call.Elect c) (elect s c)
       (ruled-met _ _ _
       (m .form, (box-is (h .box), (rw (h .due) refl, (h .here, (le-leb _ _ (h .majority), tt))))))
@@ -337,7 +339,7 @@ module _ (y : Yard) (box : ℕ → Box) (link : Links) (m : Mirror y box link) w
           form = m .form;
           boxes =
               upd-all (λ i x. In i (y .n) → Follows (now y i) (y .leader) x (box i)) (y .box) b
-              (λ i. let same = h .1 ∙ m .boxes b i .due (h .0) (t .once) in record {
+              (λ i. let same = h .1 ∙ m .boxes b i .due (h .0) (t .untold .once) in record {
                 right = (
                   epoch-form s (m .form),
                   form-says (m .form) .present,
@@ -348,6 +350,54 @@ module _ (y : Yard) (box : ℕ → Box) (link : Links) (m : Mirror y box link) w
                 rests = ap rest (h .1) ∙ m .boxes b i .rests;
                 told = λ e f. (refl, same);
                 due = λ e f. absurd (f refl);
+              })
+              (m .boxes);
+          links = m .links;
+        };
+      }
+
+  -- what is right of a box that waits
+  abbrev Waiting : ℕ → ℕ → ℕ → Type 0
+  Waiting b e w =
+      (within 1 mostEpoch e ≡ true) × (setForm (y .n) w ≡ true) × (e ≤ y .epoch)
+      × (even (y .epoch) ≡ true → e ≡ y .epoch → ⊥)
+      × (even (y .epoch) ≡ true → y .box b .epoch ≡ y .epoch → ⊥)
+
+  right-waiting : {b e w : ℕ} → In b (y .n) → Waits y b e w → Waiting b e w
+  right-waiting i (switched-on idle) = (
+    refl,
+    set-full (y .n),
+    form-says (m .form) .some-epoch,
+    λ ev same. both-no (subst (λ (k : ℕ). even k ≡ true) (sym same) ev) refl,
+    idle,
+  )
+  right-waiting {b} i (over e odd later past) = (
+    and-both (le-leb 1 e (omega (arith, later)))
+        (le-leb e mostEpoch (omega (arith, past, form-says (m .form) .few-epochs))),
+    m .boxes b i .right .1,
+    past,
+    λ ev same. both-no (subst (λ (k : ℕ). even k ≡ true) (sym same) ev) odd,
+    λ ev same. omega (arith, later, past, same),
+  )
+
+  pub waits-goes : (b e w : ℕ) → In b (y .n) → Waits y b e w
+      → Mirrored (withAlone y b (waiting y b e w)) s
+  waits-goes b e w i t =
+      let k = right-waiting i t in
+      record {
+        box = box;
+        link = link;
+        same = refl;
+        mirror = record {
+          form = m .form;
+          boxes =
+              upd-all (λ i x. In i (y .n) → Follows (now y i) (y .leader) x (box i)) (y .box) b
+              (λ i. let h = m .boxes b i in record {
+                right = (k .0, k .1, h .right .2);
+                old = k .2;
+                rests = h .rests;
+                told = λ ev same. absurd (k .3 ev same);
+                due = λ ev ne. h .due ev (k .4 ev);
               })
               (m .boxes);
           links = m .links;
@@ -385,6 +435,10 @@ module _ (n J L : ℕ) (sizes : sizesForm n J L ≡ true) where
       let r = lived l in
       subst (Mirrored (withAlone y b (toldOf y b))) (sym (r .same))
       (told-goes y (r .box) (r .link) (r .mirror) b t)
+  lived (waits {y = y} b e w l i t) =
+      let r = lived l in
+      subst (Mirrored (withAlone y b (waiting y b e w))) (sym (r .same))
+      (waits-goes y (r .box) (r .link) (r .mirror) b e w i t)
 
   pub same-answer : {calls : List Call} {y z : Yard} {d : Call} {a : Answer} → Lived n J L calls y
       → Happens y d a z → step (run (fresh n J L) calls) d .answer ≡ a

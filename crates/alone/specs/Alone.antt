@@ -18,8 +18,8 @@ use Rattle.rules.specs.declared.model.Setting.{Setting}
 use Rattle.laws.specs.Frames.{CallFits}
 use Rattle.safety.specs.Demand3.{In, Agreed, recordAt, start, Offered, AfterRun}
 use Rattle.alone.specs.Links.{linked, callOf}
-use Rattle.alone.specs.Yard.{Yard, asked, withAlone, toldOf, Told, Tells, Happens, Lived, did}
-use Rattle.alone.specs.Yard.{told}
+use Rattle.alone.specs.Apart.{withAlone, waiting, Told, Waits}
+use Rattle.alone.specs.Yard.{Yard, asked, toldOf, Tells, Happens, Lived, did, told, waits}
 
 -- what box b knows after an election
 abbrev pub elected-setting : Site → ℕ → Setting
@@ -55,6 +55,9 @@ pub data Taken {n J L : ℕ} : (calls : List Call) (y : Yard) → Lived n J L ca
         (h : Happens y d a z) {j r : ℕ} → Taken calls y l j r → Taken (d ∷ calls) z (did l h) j r
     before-told : {calls : List Call} {y : Yard} {l : Lived n J L calls y} {b : ℕ} (h : Tells y b)
         {j r : ℕ} → Taken calls y l j r → Taken calls (withAlone y b (toldOf y b)) (told b l h) j r
+    before-waits : {calls : List Call} {y : Yard} {l : Lived n J L calls y} {b e w : ℕ}
+        (i : In b (y .n)) (h : Waits y b e w) {j r : ℕ} → Taken calls y l j r
+        → Taken calls (withAlone y b (waiting y b e w)) (waits b e w l i h) j r
 
 -- frame numbers are numbers of 32 bits
 abbrev pub AllFit : List Call → Type 0

@@ -16,17 +16,27 @@ use Rattle.rules.specs.declared.model.Answer.{Answer}
 use Rattle.rules.specs.declared.model.Call.{Call}
 use Rattle.rules.specs.declared.model.Refusal.{Refusal}
 
--- the letters under way from each box to each other
+-- the letters under way from each box to each other, whatever a letter is
+abbrev pub LinksOf : Type 0 → Type 0
+LinksOf M = ℕ → ℕ → List M
+
+-- letters of box c to each box of a set go onto its links, behind those that are there
+abbrev pub sentTo : {M : Type 0} → LinksOf M → ℕ → ℕ → List M → LinksOf M
+sentTo link c to ms a b = cond (eqb a c && has to b) (link a b ++ ms) (link a b)
+
+-- no letter to the set would go onto a full link
+abbrev pub roomTo : {M : Type 0} → ℕ → ℕ → LinksOf M → ℕ → ℕ → Bool
+roomTo n L link c to = every n (λ b. not (has to b) || ltb (length (link c b)) L)
+
+-- .. the letters of the outcome o
 abbrev pub Links : Type 0
-Links = ℕ → ℕ → List Letter
+Links = LinksOf Letter
 
--- the letters of box c's outcome o go onto its links, behind those that are there
 abbrev pub sent : Links → ℕ → OwnOutcome → Links
-sent link c o a b = cond (eqb a c && has (o .to) b) (link a b ++ o .letters) (link a b)
+sent link c o = sentTo link c (o .to) (o .letters)
 
--- no letter of o would go onto a full link
 abbrev pub roomFor : ℕ → ℕ → Links → ℕ → OwnOutcome → Bool
-roomFor n L link c o = every n (λ b. not (has (o .to) b) || ltb (length (link c b)) L)
+roomFor n L link c o = roomTo n L link c (o .to)
 
 -- "a full link holds the call back" (8)
 abbrev pub heldBack : Bool → Answer → Answer

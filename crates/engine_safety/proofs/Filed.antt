@@ -4,7 +4,7 @@ use mathlib.Core.Path.{_≡_, refl, sym, ap, _∙_, subst}
 use mathlib.Core.Bool.{Bool, true, false, _&&_}
 use mathlib.Core.List.{List, [], _∷_}
 use lib.Dec.{leb}
-use lib.ListN.{length}
+use lib.ListN.{length, take}
 use Rattle.rules.specs.Sizes.{sizesForm}
 use Rattle.rules.specs.Answers.{isRefusal}
 use Rattle.rules.specs.Box.{Letter}
@@ -12,6 +12,7 @@ use Rattle.rules.specs.Site.{Site, Outcome, fresh}
 use Rattle.rules.specs.Step.{step, run, holds}
 use Rattle.rules.specs.declared.model.Answer.{Answer}
 use Rattle.rules.specs.declared.model.Call.{Call}
+use Rattle.laws.specs.Frames.{CallFits}
 use Rattle.laws.proofs.Logic.{Or, left, right, decide, true≠false}
 use Rattle.laws.proofs.LeftAlone.{other-box}
 use Rattle.memory.specs.Memory.{siteWords, linksWords, siteOf, memoryForm}
@@ -21,6 +22,8 @@ use Rattle.site.proofs.AfterLaws.{need-met, no-needs}
 use Rattle.site.proofs.FreshAfter.{fresh-sizes, fresh-short}
 use Rattle.site.proofs.Once.{form-kept, held-formed}
 use Rattle.image.proofs.MemoryImage.{one-memory}
+use Rattle.writer.specs.declared.Written.{Written}
+use Rattle.writer.specs.Writer.{WriteIs}
 use Rattle.reader.specs.Reader.{ReadIs}
 use Rattle.reader.specs.Reader as reader
 use Rattle.reader.proofs.RoundTrips.{front-written}
@@ -70,7 +73,7 @@ module _ {n J L : ℕ} {xs ls xs' ls' : List ℕ} (m : FreshMade n J L xs ls xs'
 -- a call of `step` on words by form
 module _ {xs ls xs' ls' : List ℕ} {a : Answer} (d : Call) (f : memoryForm xs ls ≡ true)
     (after : After (stepOn xs ls d) xs ls xs' ls' a) where
-  inner : After (step (siteOf xs ls) d) xs ls xs' ls' a
+  pub inner : After (step (siteOf xs ls) d) xs ls xs' ls' a
   unfolding stepOn
   inner = rw (form-readable xs ls f) at after
 
@@ -86,40 +89,56 @@ pub record Holds (n J L : ℕ) (h : Talk) (xs ls : List ℕ) : Type 0 where
   pub form : memoryForm xs ls ≡ true
   pub said : Spoken n J L h (siteOf xs ls)
 
-pub holds-run : {n J L : ℕ} {h : Talk} {xs ls : List ℕ} → Served n J L h xs ls
-    → Holds n J L h xs ls
-holds-run {n} {J} {L} (made m) = record {
-  form = m .form refl;
-  said = subst (Spoken n J L []) (sym (is-fresh m)) (spoken.begun (sizes-right m));
-}
-holds-run {n} {J} {L} (stepped {h = h} {xs = xs} {ls = ls} {a = a} d fits served after) =
-    let k = holds-run served in
-    let i = inner d (k .form) after in
-    record {
-      form = form-kept d fits (k .form) i;
-      said = subst (λ (s : Site). Spoken n J L (called d a ∷ h) s) (sym (i .site))
-          (subst (λ (b : Answer). Spoken n J L (called d b ∷ h) (step (siteOf xs ls) d .next))
-          (sym (i .answer)) (spoken.stepped d fits (k .said)));
-    }
-holds-run {n} {J} {L} (asked {h = h} {xs = xs} {ls = ls} b k l r served) =
-    let was = holds-run served in
-    record {
+module _ {n J L : ℕ} where
+  pub holds-made : {xs ls xs' ls' : List ℕ} → FreshMade n J L xs ls xs' ls' Answer.Done
+      → Holds n J L [] xs' ls'
+  holds-made m = record {
+    form = m .form refl;
+    said = subst (Spoken n J L []) (sym (is-fresh m)) (spoken.begun (sizes-right m));
+  }
+
+  module _ {h : Talk} {xs ls : List ℕ} (was : Holds n J L h xs ls) where
+    pub holds-stepped : {xs' ls' : List ℕ} {a : Answer} (d : Call) → CallFits d
+        → After (stepOn xs ls d) xs ls xs' ls' a → Holds n J L (called d a ∷ h) xs' ls'
+    holds-stepped {a = a} d fits after =
+        let i = inner d (was .form) after in
+        record {
+          form = form-kept d fits (was .form) i;
+          said = subst (λ (s : Site). Spoken n J L (called d a ∷ h) s) (sym (i .site))
+              (subst (λ (b : Answer). Spoken n J L (called d b ∷ h) (step (siteOf xs ls) d .next))
+              (sym (i .answer)) (spoken.stepped d fits (was .said)));
+        }
+
+    pub holds-asked : (b k l r : ℕ)
+        → Holds n J L (held b k l r (holdsOn xs ls b k l r) ∷ h) xs ls
+    holds-asked b k l r = record {
       form = was .form;
       said = subst (λ (a : Answer). Spoken n J L (held b k l r a ∷ h) (siteOf xs ls))
           (sym (held-formed xs ls b k l r (was .form))) (spoken.asked b k l r (was .said));
     }
-holds-run {n} {J} {L} (stored {h = h} {xs = xs} {ls = ls} {us' = us} {vs' = vs} m served w r) =
-    let was = holds-run served in
-    let bytes = front-written m refl w .1 in
-    let now = read-form refl r in
-    record {
-      form = now .form;
-      said = subst (Spoken n J L h)
-          (one-memory xs ls us vs (was .form) (now .form) (sym (now .image ∙ bytes))) (was .said);
-    }
+
+    pub holds-stored : {out out' us vs us' vs' : List ℕ} (m : ℕ)
+        → WriteIs xs ls out (Written.Length m) out'
+        → ReadIs (take m out') us vs Answer.Done us' vs' → Holds n J L h us' vs'
+    holds-stored {us' = us} {vs' = vs} m w r =
+        let bytes = front-written m refl w .1 in
+        let now = read-form refl r in
+        record {
+          form = now .form;
+          said = subst (Spoken n J L h)
+              (one-memory xs ls us vs (was .form) (now .form) (sym (now .image ∙ bytes)))
+              (was .said);
+        }
+
+pub holds-run : {n J L : ℕ} {h : Talk} {xs ls : List ℕ} → Served n J L h xs ls
+    → Holds n J L h xs ls
+holds-run (made m) = holds-made m
+holds-run (stepped d fits served after) = holds-stepped (holds-run served) d fits after
+holds-run (asked b k l r served) = holds-asked (holds-run served) b k l r
+holds-run (stored m served w r) = holds-stored (holds-run served) m w r
 
 module _ {n J L : ℕ} {h : Talk} {xs ls : List ℕ} (w : Holds n J L h xs ls) where
-  safely : Safe h (holdsOn xs ls) (firstsIn xs ls)
+  pub safely : Safe h (holdsOn xs ls) (firstsIn xs ls)
   safely =
       subst (λ (now : ℕ → ℕ → ℕ → ℕ → Answer). Safe h now (firstsIn xs ls))
       (λ t b k l r. sym (held-formed xs ls b k l r (w .form)) t)
@@ -135,7 +154,7 @@ module _ {n J L : ℕ} {h : Talk} {xs ls : List ℕ} (w : Holds n J L h xs ls) w
       → BeginComes s a b ahead y → y .head .pn ≡ s .box b .head .kept .pn)
       (sym (run-is (w .said))) (begins .promised n J L (in-range (w .said)) (calls h))
 
-both-hold : {h : Talk} {xs ls : List ℕ} → Holds 2 16 8 h xs ls → calls h ≡ load
+pub both-hold : {h : Talk} {xs ls : List ℕ} → Holds 2 16 8 h xs ls → calls h ≡ load
     → (holdsOn xs ls 1 1 71 72 ≡ Answer.Done) × (holdsOn xs ls 2 1 71 72 ≡ Answer.Done)
 both-hold {xs = xs} {ls = ls} w e =
     let at = run-is (w .said) ∙ ap (run (start 2 16 8)) e in (

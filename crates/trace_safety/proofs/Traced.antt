@@ -3,10 +3,9 @@ use Prim.Native.Nat.{ℕ}
 use mathlib.Core.Path.{_≡_, refl, sym, ap, _∙_, subst}
 use mathlib.Core.Bool.{Bool, true, false, not}
 use mathlib.Core.List.{List, [], _∷_, _++_, append-nil}
-use lib.Dec.{ltb, eqb}
+use lib.Dec.{eqb}
 use lib.ListN.{length}
-use borrow.Author.Tests.{ltb-true, not-true}
-use Rattle.rules.specs.Every.{each}
+use borrow.Author.Tests.{not-true}
 use Rattle.rules.specs.Answers.{isRefusal}
 use Rattle.rules.specs.Sizes.{sizesForm}
 use Rattle.rules.specs.Site.{Site}
@@ -18,7 +17,7 @@ use Rattle.laws.proofs.Logic.{All, nil, cons, and-yes, pick-elim}
 use Rattle.lines.specs.Printed.{inRange}
 use Rattle.lines.specs.Read.{readLine}
 use Rattle.lines.specs.declared.Line.{Line}
-use Rattle.lines.proofs.Exact.{exact}
+use Rattle.lines.proofs.Ranges.{none-out, read-range, call-fits}
 use Rattle.trace.specs.Lines.{linesFrom, linesOf}
 use Rattle.trace.specs.Replay.{Run, first, going, ended, traceSizes}
 use Rattle.trace.specs.Stops.{Takes, Ran, none, more, Output}
@@ -39,51 +38,25 @@ use Rattle.trace_safety.specs.Taken.{TracedSafely}
 Fits : Line → Type 0
 Fits l = inRange l ≡ true
 
-none-out : Fits Line.Unreadable
-unfolding Fits each
-none-out = refl
+none-fits : Fits Line.Unreadable
+unfolding Fits
+none-fits = none-out
 
 read-fits : (s : List ℕ) → Fits (readLine s)
 unfolding Fits
-read-fits s = go (readLine s) refl
-  where
-    go : (k : Line) → readLine s ≡ k → inRange k ≡ true
-    go (Line.Site n J L) q = exact s (Line.Site n J L) refl .0 q .1
-    go (Line.Call d) q = exact s (Line.Call d) refl .0 q .1
-    go (Line.Holds c k left right) q = exact s (Line.Holds c k left right) refl .0 q .1
-    go Line.Unreadable q = none-out
+read-fits s = read-range s refl
 
 lines-fit : (s l : List ℕ) → All Fits (linesFrom l s)
 unfolding linesFrom
 lines-fit [] l =
-    pick-elim (All Fits) (eqb (length l) 0) (λ e. nil) (λ e. cons none-out nil)
+    pick-elim (All Fits) (eqb (length l) 0) (λ e. nil) (λ e. cons none-fits nil)
 lines-fit (b ∷ s) l =
     pick-elim (All Fits) (eqb b 10) (λ e. cons (read-fits l) (lines-fit s []))
     (λ e. lines-fit s (l ++ (b ∷ [])))
 
-call-fits : (d : Call) → Fits (Line.Call d) → CallFits d
-unfolding Fits each
-call-fits (Call.Elect c) e = tt
-call-fits (Call.Recover c) e = tt
-call-fits (Call.Collect c) e = tt
-call-fits (Call.Ready c) e = tt
-call-fits (Call.Offer c left right) e =
-    let r = and-yes (ltb c 4294967296) _ e .1 in
-    let q = and-yes (ltb left 4294967296) _ r in (
-      ltb-true left 4294967296 (q .0),
-      ltb-true right 4294967296 (and-yes (ltb right 4294967296) true (q .1) .0),
-    )
-call-fits (Call.Propose c) e = tt
-call-fits (Call.Agree c) e = tt
-call-fits (Call.Finish c) e = tt
-call-fits (Call.Heard c) e = tt
-call-fits (Call.Trim c k) e = tt
-call-fits (Call.Stop c) e = tt
-call-fits (Call.Return c) e = tt
-call-fits (Call.Timeout c) e = tt
-call-fits (Call.Lose a b) e = tt
-call-fits (Call.Repeat a b) e = tt
-call-fits (Call.Deliver a b) e = tt
+fits-call : (d : Call) → Fits (Line.Call d) → CallFits d
+unfolding Fits
+fits-call d f = call-fits d f
 
 -- the lines before another, and that one
 fit-both : (ls : List Line) (l : Line) → All Fits (ls ++ (l ∷ [])) → All Fits ls × Fits l
@@ -132,7 +105,7 @@ talks-on ls w f (stops.call {s = s} {c = d} m e) = record {
   J = w .J;
   L = w .L;
   talk = called d (step s d .answer) ∷ w .talk;
-  spoken = stepped d (call-fits d f) (w .spoken);
+  spoken = stepped d (fits-call d f) (w .spoken);
   is =
       (λ t. called d (not (e t)) ∷ w .is t) ∙ sym (said-more [] ls (Line.Call d));
 }
