@@ -1,0 +1,30 @@
+-- The run after an election, proved: the plan (Stages, Going), what comes next, what each turn
+-- does, the whole site, the theorem (Waited).
+pub mod Stages
+pub mod Going
+pub mod FirstLaws
+pub mod OneStep
+pub mod RunLaws
+pub mod RunForm
+pub mod Verdicts
+pub mod Follows
+pub mod Quiet
+pub mod ActsCollect
+pub mod ActsRest
+pub mod ActsReady
+pub mod Acts
+pub mod HeedsLaws
+pub mod HeedsBest
+pub mod HeedsNotes
+pub mod HeedsLast
+pub mod Heeds
+pub mod Sums
+pub mod Plumb
+pub mod Falls
+pub mod Played
+pub mod Follower
+pub mod Leader
+pub mod Progress
+pub mod Start
+pub mod Soon
+pub mod Waited
