@@ -13,10 +13,15 @@ use Rattle.laws.proofs.Logic.{both-no}
 use Rattle.hex.specs.Hex.{hexOf, smalls, Bytes, HexIs, read, long, bad}
 use Rattle.hex.specs.declared.Hexed.{Hexed}
 use Rattle.hex.proofs.Once.{no-space}
-use Rattle.lines.specs.Read.{readLine}
+use Rattle.lines.specs.Printed.{readable}
+use Rattle.lines.specs.Read.{readLine, readOne}
 use Rattle.lines.specs.declared.Line.{Line}
+use Rattle.print.specs.Bytes.{bytes}
 use Rattle.answer.specs.declared.ask.Asked.{Asked}
-use Rattle.answer.specs.Asks.{served, Asks, askedOf, AskIs, asks, asks-long, asks-nothing}
+use Rattle.answer.specs.declared.reply.Ask.{Ask}
+use Rattle.answer.specs.Replies.{served}
+use Rattle.answer.specs.Asks.{runRead, askRead, askOf, Asks, askedOf}
+use Rattle.answer.specs.Asks.{AskIs, asks, asks-long, asks-nothing}
 
 -- ---- the first place of a byte
 
@@ -57,7 +62,7 @@ pub record Parted (line hex rest : List ℕ) (e : ℕ) : Type 0 where
   pub image : take e line ≡ hex
   pub call : drop (e + 1) line ≡ rest
 
-pub parted : (line : List ℕ) (e : ℕ) {im : List ℕ} {l : Line} → e ≡ indexOf 32 line
+pub parted : (line : List ℕ) (e : ℕ) {im : List ℕ} {l : Ask} → e ≡ indexOf 32 line
     → (a : Asks line im l) → Parted line (a .hex) (a .call) e
 parted line e {im} h a =
     let p : e ≡ length (a .hex) = h ∙ ap (indexOf 32) (a .text)
@@ -78,12 +83,12 @@ pub no-space-asks-nothing : (line o : List ℕ) (e : ℕ) → e ≡ indexOf 32 l
 no-space-asks-nothing line o e h n =
     asks-nothing (λ im l a. let p = parted line e h a .below in omega arith)
 
-pub not-served-asks-nothing : (line o rest : List ℕ) (e : ℕ) (l : Line) → e ≡ indexOf 32 line
-    → rest ≡ drop (e + 1) line → l ≡ readLine rest → served l ≡ false
+pub not-served-asks-nothing : (line o rest : List ℕ) (e : ℕ) (l : Ask) → e ≡ indexOf 32 line
+    → rest ≡ drop (e + 1) line → l ≡ askOf rest → served l ≡ false
     → AskIs line o Asked.Unreadable o
 not-served-asks-nothing line o rest e l h r s f =
     asks-nothing (λ im k a. both-no (a .served)
-    (ap served (sym (a .says) ∙ ap readLine (sym (parted line e h a .call) ∙ sym r) ∙ sym s) ∙ f))
+    (ap served (sym (a .says) ∙ ap askOf (sym (parted line e h a .call) ∙ sym r) ∙ sym s) ∙ f))
 
 -- ---- what is found
 
@@ -91,9 +96,9 @@ pub rest-all : (line : List ℕ) (e m : ℕ) → length line ≤ m + (e + 1)
     → take m (drop (e + 1) line) ≡ drop (e + 1) line
 rest-all line e m h = take-all m (drop (e + 1) line) (omega (arith, length-drop (e + 1) line))
 
-module _ (line part rest : List ℕ) (e : ℕ) (l : Line) (at : e ≡ indexOf 32 line)
+module _ (line part rest : List ℕ) (e : ℕ) (l : Ask) (at : e ≡ indexOf 32 line)
     (inside : e < length line) (hx : part ≡ take e line) (r : rest ≡ drop (e + 1) line)
-    (s : l ≡ readLine rest) (f : served l ≡ true) where
+    (s : l ≡ askOf rest) (f : served l ≡ true) where
   cut : line ≡ part ++ (32 ∷ rest)
   cut =
       let one : suc e ≡ e + 1 = omega arith in
@@ -124,11 +129,28 @@ module _ (line part rest : List ℕ) (e : ℕ) (l : Line) (at : e ≡ indexOf 32
       n im (a .bytes) (a .spells ∙ ap smalls (sym (parted line e at a .image) ∙ sym hx)))
 
 -- the same, of the answer as it is computed; a part of the line comes as its own bytes
-pub asked-so : (line : List ℕ) (e k m : ℕ) {o p : List ℕ} {l : Line} {h : Hexed} {r : Asked}
+pub asked-so : (line : List ℕ) (e k m : ℕ) {o p : List ℕ} {l : Ask} {h : Hexed} {r : Asked}
     → e ≡ indexOf 32 line → e < length line → k ≡ e → length line ≤ m + (e + 1)
-    → l ≡ readLine (take m (drop (e + 1) line)) → served l ≡ true
+    → l ≡ askOf (take m (drop (e + 1) line)) → served l ≡ true
     → HexIs (take k line) o h p → r ≡ askedOf h l → AskIs line o r p
 asked-so line e k m {o} {p} {l} at inside ke all s f w q =
     subst (λ (x : Asked). AskIs line o x p) (sym q)
     (asked-is line (take k line) (take m (drop (e + 1) line)) e l at inside
     (ap (λ (n : ℕ). take n line) ke) (rest-all line e m all) s f w)
+
+-- ---- what a text asks
+
+pub line-asked : (t : List ℕ) {l : Line} (k : Line) → readable k ≡ true → l ≡ readLine t → l ≡ k
+    → Ask.Line l ≡ askOf t
+line-asked t {l} k r e f =
+    ap Ask.Line f ∙ same k r ∙ ap (λ (j : Line). askRead j t) (sym f ∙ e)
+  where
+    same : (j : Line) → readable j ≡ true → Ask.Line j ≡ askRead j t
+    same (Line.Site n J L) g = refl
+    same (Line.Call d) g = refl
+    same (Line.Holds c m left right) g = refl
+    same Line.Unreadable g = absurd (both-no g refl)
+
+pub run-asked : (t : List ℕ) {l : Line} → l ≡ readLine t → l ≡ Line.Unreadable
+    → runRead (readOne (bytes "run ") t) ≡ askOf t
+run-asked t e f = ap (λ (j : Line). askRead j t) (sym f ∙ e)

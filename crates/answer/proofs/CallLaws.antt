@@ -26,11 +26,12 @@ use Rattle.reader.specs.Reader.{ReadIs, not-by-form, done}
 use Rattle.reader.specs.Reader.{too-short as too-few}
 use Rattle.reader.specs.Reader.{Holds as Stored}
 use Rattle.reader.proofs.Once.{held-form, held-room}
-use Rattle.lines.specs.declared.Line.{Line}
+use Rattle.answer.specs.declared.reply.Ask.{Ask}
+use Rattle.answer.specs.declared.reply.Reply.{Reply}
 use Rattle.answer.specs.declared.call.Came.{Came}
 use Rattle.answer.specs.declared.tell.Told.{Told}
-use Rattle.answer.specs.Asks.{served}
-use Rattle.answer.specs.Calls.{outcomeOf, Holds, fits, no-room, Comes, unserved, none}
+use Rattle.answer.specs.Replies.{served, outcomeOf, refuses}
+use Rattle.answer.specs.Calls.{refusal, Holds, fits, no-room, Comes, unserved, none}
 use Rattle.answer.specs.Calls.{few-words, some, no-sizes, no-words, made, front, CallIs}
 use Rattle.answer.specs.Calls.{too-long, called, FreshIs, comes, Serves, PutIs, put, not-put}
 use Rattle.answer.specs.Calls.{within, imageIn}
@@ -49,7 +50,7 @@ front-length im o h =
 
 -- ---- the writer
 
-pub put-done : {xs ls o p : List ℕ} {w : Written} {n : ℕ} (a : Answer) → WriteIs xs ls o w p
+pub put-done : {xs ls o p : List ℕ} {w : Written} {n : ℕ} (a : Reply) → WriteIs xs ls o w p
     → w ≡ Written.Length n → PutIs a (imageOf (siteOf xs ls)) o (Came.Answered a n) p
 put-done a (not-formed f) e = absurd (let z : _≡_ {A = ℕ} 0 1 = cc in omega arith)
 put-done a (too-short f h) e = absurd (let z : _≡_ {A = ℕ} 0 1 = cc in omega arith)
@@ -58,7 +59,7 @@ put-done {xs} {ls} {o} {n = n} a (written f h) e =
     let k : length im ≡ n = cc in
     subst (λ (m : ℕ). PutIs a im o (Came.Answered a m) (front im o)) k (put h)
 
-pub put-short : {xs ls o p : List ℕ} {w : Written} {f : Refusal} (a : Answer) → WriteIs xs ls o w p
+pub put-short : {xs ls o p : List ℕ} {w : Written} {f : Refusal} (a : Reply) → WriteIs xs ls o w p
     → memoryForm xs ls ≡ true → w ≡ Written.Refused f
     → PutIs a (imageOf (siteOf xs ls)) o Came.Short p
 put-short a (not-formed g) h e = absurd (both-no h g)
@@ -67,21 +68,21 @@ put-short a (written g l) h e = absurd (let z : _≡_ {A = ℕ} 0 1 = cc in omeg
 
 -- ---- the engine
 
-module _ (l : Line) (xs ls xs' ls' : List ℕ) {a : Answer} (s : Serves l xs ls xs' ls' a) where
+module _ (l : Ask) (xs ls xs' ls' : List ℕ) {a : Reply} (s : Serves l xs ls xs' ls' a) where
   pub put-served : {o p : List ℕ} {c : Came} → PutIs a (imageOf (siteOf xs' ls')) o c p
       → PutIs (outcomeOf (siteOf xs ls) l .answer) (imageOf (outcomeOf (siteOf xs ls) l .next)) o c
       p
   put-served {o} {p} {c} w =
       subst (λ (x : Site). PutIs (outcomeOf (siteOf xs ls) l .answer) (imageOf x) o c p)
-      (s .after .site)
-      (subst (λ (b : Answer). PutIs b (imageOf (siteOf xs' ls')) o c p) (s .after .answer) w)
+      (s .site)
+      (subst (λ (b : Reply). PutIs b (imageOf (siteOf xs' ls')) o c p) (s .answer) w)
 
   -- a refused call leaves the site, and so its image
-  pub put-refused : (o : List ℕ) (n : ℕ) → isRefusal a ≡ true → n ≤ length o
+  pub put-refused : (o : List ℕ) (n : ℕ) → refuses a ≡ true → n ≤ length o
       → imageOf (siteOf xs ls) ≡ take n o
       → PutIs (outcomeOf (siteOf xs ls) l .answer) (imageOf (outcomeOf (siteOf xs ls) l .next)) o
       (Came.Answered a n) o
-  put-refused o n r h e = let k = s .after .kept r in
+  put-refused o n r h e = let k = s .kept r in
       let same : imageOf (siteOf xs' ls') ≡ take n o =
       (λ i. imageOf (siteOf (k .0 i) (k .1 i))) ∙ e in
       put-served (subst (λ (im : List ℕ). PutIs a im o (Came.Answered a n) o) (sym same)
@@ -110,13 +111,13 @@ held {ys = ys} {ks} h =
 
 -- ---- a call on the first n bytes of the buffer o
 
-module _ (l : Line) (n : ℕ) (o : List ℕ) {xs ls : List ℕ} (inside : n ≤ length o) where
+module _ (l : Ask) (n : ℕ) (o : List ℕ) {xs ls : List ℕ} (inside : n ≤ length o) where
   -- the image stays
   stays : {c : Came} → Comes (take n o) l xs ls (length o) c (take n o) → CallIs l n xs ls o c o
   stays {c} w =
       subst (λ (q : List ℕ). CallIs l n xs ls o c q) (front-same o n inside) (called inside w)
 
-  refused-so : {a : Answer}
+  refused-so : {a : Reply}
       → Comes (take n o) l xs ls (length o) (Came.Answered a (length (take n o))) (take n o)
       → CallIs l n xs ls o (Came.Answered a n) o
   refused-so {a} w =
@@ -124,7 +125,7 @@ module _ (l : Line) (n : ℕ) (o : List ℕ) {xs ls : List ℕ} (inside : n ≤ 
       (stays w)
 
   pub call-unserved : served l ≡ false
-      → CallIs l n xs ls o (Came.Answered (Answer.Refused Refusal.Line) n) o
+      → CallIs l n xs ls o (Came.Answered (refusal Refusal.Line) n) o
   call-unserved s = refused-so (unserved s)
 
   pub call-short : {a : Answer} {ys ks : List ℕ} → served l ≡ true
@@ -135,7 +136,7 @@ module _ (l : Line) (n : ℕ) (o : List ℕ) {xs ls : List ℕ} (inside : n ≤ 
 
   pub call-none : {a : Answer} {ys ks : List ℕ} → served l ≡ true
       → ReadIs (take n o) xs ls a ys ks → (answerNumber a ≡ 0 → ⊥) → (answerNumber a ≡ 12 → ⊥)
-      → CallIs l n xs ls o (Came.Answered (Answer.Refused Refusal.Form) n) o
+      → CallIs l n xs ls o (Came.Answered (refusal Refusal.Form) n) o
   call-none s (not-by-form m) d e = refused-so (none s m)
   call-none s (too-few t f i w) d e = absurd (e refl)
   call-none s (done h) d e = absurd (d refl)
@@ -152,10 +153,10 @@ module _ (l : Line) (n : ℕ) (o : List ℕ) {xs ls : List ℕ} (inside : n ≤ 
 
 -- what came has its image, of at most m bytes, at the front of the buffer
 data Left (after : List ℕ) (m : ℕ) : Came → Type 0 where
-  answered : {a : Answer} → length after ≤ m → Left after m (Came.Answered a (length after))
+  answered : {a : Reply} → length after ≤ m → Left after m (Came.Answered a (length after))
   shorter : length after ≤ m → Left after m Came.Short
 
-left : {im xs ls after : List ℕ} {l : Line} {m : ℕ} {c : Came} → Comes im l xs ls m c after
+left : {im xs ls after : List ℕ} {l : Ask} {m : ℕ} {c : Came} → Comes im l xs ls m c after
     → length im ≤ m → Left after m c
 left (unserved s) h = answered h
 left (none s n) h = answered h
@@ -176,13 +177,13 @@ told-left {after} b {o = o} {q} {r} (answered {a} h) t =
 told-left b (shorter h) short = short
 
 -- what `call_on_image` leaves, for the one who tells it
-pub call-within : {l : Line} {n : ℕ} {xs ls im p : List ℕ} {c : Came} → CallIs l n xs ls im c p
+pub call-within : {l : Ask} {n : ℕ} {xs ls im p : List ℕ} {c : Came} → CallIs l n xs ls im c p
     → n ≤ length im → within (length p) c × (length p ≡ length im)
 call-within (too-long h) k = absurd (omega arith)
 call-within {n = n} {im = im} (called h w) k =
     left-within im (left w (omega (arith, length-take-le n im h)))
 
-pub told-call : {l : Line} {n : ℕ} {xs ls im p : List ℕ} {c : Came} {o q : List ℕ} {r : Told}
+pub told-call : {l : Ask} {n : ℕ} {xs ls im p : List ℕ} {c : Came} {o q : List ℕ} {r : Told}
     → CallIs l n xs ls im c p → n ≤ length im → TellIs (imageIn c p) o c r q
     → CallTold l (take n im) (length im) xs ls o r q
 told-call (too-long h) k t = absurd (omega arith)
@@ -241,22 +242,24 @@ module _ (n J L : ℕ) (xs ls xs' ls' : List ℕ) (a : Answer) (w : FreshMade n 
           (λ s k q t. absurd (omega (arith, ap answerNumber q)))
 
       pub fresh-refused : (answerNumber a ≡ 0 → ⊥) → (answerNumber a ≡ 12 → ⊥)
-          → FreshIs n J L xs ls o (Came.Answered a 0) o
+          → FreshIs n J L xs ls o (Came.Answered (Reply.Answer a) 0) o
       fresh-refused d e =
-          fresh-by (FreshIs n J L xs ls o (Came.Answered a 0) o)
-          (λ s q. subst (λ (b : Answer). FreshIs n J L xs ls o (Came.Answered b 0) o) (sym q)
+          fresh-by (FreshIs n J L xs ls o (Came.Answered (Reply.Answer a) 0) o)
+          (λ s q. subst (λ (b : Answer). FreshIs n J L xs ls o (Came.Answered (Reply.Answer b) 0) o)
+          (sym q)
           (comes (no-sizes s))) (λ s k q. absurd (e (ap answerNumber q)))
           (λ s k q t. absurd (d (ap answerNumber q)))
 
       fresh-put : {c : Came} {p : List ℕ} → sizesForm n J L ≡ true → enough n J L xs ls ≡ true
-          → PutIs Answer.Done (imageOf (fresh n J L)) o c p → FreshIs n J L xs ls o c p
+          → PutIs (Reply.Answer Answer.Done) (imageOf (fresh n J L)) o c p
+          → FreshIs n J L xs ls o c p
       fresh-put s e (put h) = comes (made s e (fits h))
       fresh-put s e (not-put h) = comes (made s e (no-room h))
 
       pub fresh-made : {c : Came} {p : List ℕ} → answerNumber a ≡ 0
-          → PutIs a (imageOf (siteOf xs' ls')) o c p → FreshIs n J L xs ls o c p
+          → PutIs (Reply.Answer a) (imageOf (siteOf xs' ls')) o c p → FreshIs n J L xs ls o c p
       fresh-made {c} {p} z v =
           fresh-by (FreshIs n J L xs ls o c p) (λ s q. absurd (omega (arith, ap answerNumber q)))
           (λ s k q. absurd (omega (arith, ap answerNumber q))) (λ s k q t. fresh-put s k
-          (subst (λ (x : Site). PutIs Answer.Done (imageOf x) o c p) t
-          (subst (λ (b : Answer). PutIs b (imageOf (siteOf xs' ls')) o c p) q v)))
+          (subst (λ (x : Site). PutIs (Reply.Answer Answer.Done) (imageOf x) o c p) t
+          (subst (λ (b : Answer). PutIs (Reply.Answer b) (imageOf (siteOf xs' ls')) o c p) q v)))

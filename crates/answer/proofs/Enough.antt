@@ -1,21 +1,17 @@
 -- With room for every site nothing is too short: `answer` says Short only of a line whose image is
 -- longer than any site's, and `call_on_image`, `fresh_image` and `unheard_on_image` never do.
 use Prim.Native.Nat.{ℕ, _≤_, _<_}
-use mathlib.Core.Path.{_≡_, refl, ap}
+use mathlib.Core.Path.{_≡_, refl, ap, sym, _∙_}
 use mathlib.Core.Bool.{true}
 use mathlib.Core.List.{List, []}
 use native.Mathlib.Omega.{arith}
-use lib.Dec.{ltb}
 use lib.ListN.{length}
-use borrow.Author.Tests.{le-leb, ltb-true}
-use Rattle.rules.specs.Every.{each}
+use borrow.Author.Tests.{le-leb}
 use Rattle.rules.specs.Site.{Site, fresh}
 use Rattle.rules.specs.Form.{form}
-use Rattle.rules.specs.declared.model.Answer.{Answer}
 use Rattle.rules.specs.declared.model.Call.{Call}
 use Rattle.rules.specs.declared.model.Refusal.{Refusal}
-use Rattle.laws.specs.Frames.{CallFits}
-use Rattle.laws.proofs.Logic.{and-yes, and-both, both-no}
+use Rattle.laws.proofs.Logic.{and-both, both-no}
 use Rattle.laws.proofs.FormLaws.{FormedSizes, form-says, sizes-says}
 use Rattle.laws.proofs.FormKept.{step-keeps-form, fresh-form}
 use Rattle.memory.specs.Memory.{siteWords, linksWords, enough}
@@ -24,20 +20,27 @@ use Rattle.image.specs.Image.{imageOf}
 use Rattle.image.specs.Longest.{longestOfAll}
 use Rattle.image.proofs.LongestLaws.{any-image}
 use Rattle.lines.specs.declared.Line.{Line}
+use Rattle.lines.specs.declared.One.{One}
+use Rattle.lines.specs.Read.{readLine, readOne}
+use Rattle.print.specs.Bytes.{bytes}
+use Rattle.wait.proofs.RunForm.{run-form}
 use Rattle.lines.specs.Printed.{readable, inRange}
 use Rattle.lines.proofs.Exact.{exact}
+use Rattle.lines.proofs.Ranges.{call-fits}
 use Rattle.answer.specs.declared.call.Came.{Came}
+use Rattle.answer.specs.declared.reply.Ask.{Ask}
 use Rattle.answer.specs.declared.tell.Told.{Told}
 use Rattle.answer.specs.declared.unheard.Seen.{Seen}
-use Rattle.answer.specs.Asks.{served, Asks}
-use Rattle.answer.specs.Calls.{outcomeOf, HoldsNone, no-room, Comes, few-words, some}
+use Rattle.answer.specs.Asks.{Asks, runRead, askRead, askOf}
+use Rattle.answer.specs.Calls.{refusal, HoldsNone, no-room, Comes, few-words, some}
 use Rattle.answer.specs.Calls.{FreshComes, no-words, made, CallIs, too-long, called, FreshIs}
 use Rattle.answer.specs.Calls.{comes}
 use Rattle.answer.specs.Says.{textRoom, lends, short, call-told, Says, not-by-form}
 use Rattle.answer.specs.Says.{AnswerIs, too-short, asks-long, asks}
 use Rattle.answer.specs.Hold.{heldFor}
 use Rattle.answer.specs.Unheard.{UnheardIs, few-words as few-seen}
-use Rattle.answer.specs.Text.{answerText}
+use Rattle.answer.specs.Text.{replyText}
+use Rattle.answer.specs.Replies.{outcomeOf, askInRange}
 use Rattle.answer.specs.Ample.{Ample, TooLong}
 use Rattle.answer.proofs.HoldLaws.{asks-short}
 
@@ -49,39 +52,15 @@ words-enough {n} {J} {L} xs ls lent z =
     and-both (le-leb (siteWords n J) (length xs) (omega (arith, rows-most z, lent .site)))
     (le-leb (linksWords n J L) (length ls) (omega (arith, links-most z, lent .links)))
 
--- numbers that are read, or that code has, are of 32 bits
-call-fits : (d : Call) → inRange (Line.Call d) ≡ true → CallFits d
-unfolding each
-call-fits (Call.Elect c) e = tt
-call-fits (Call.Recover c) e = tt
-call-fits (Call.Collect c) e = tt
-call-fits (Call.Ready c) e = tt
-call-fits (Call.Offer c left right) e =
-    let r = and-yes (ltb c 4294967296) _ e .1 in
-    let q = and-yes (ltb left 4294967296) _ r in (
-      ltb-true left 4294967296 (q .0),
-      ltb-true right 4294967296 (and-yes (ltb right 4294967296) true (q .1) .0),
-    )
-call-fits (Call.Propose c) e = tt
-call-fits (Call.Agree c) e = tt
-call-fits (Call.Finish c) e = tt
-call-fits (Call.Heard c) e = tt
-call-fits (Call.Stop c) e = tt
-call-fits (Call.Return c) e = tt
-call-fits (Call.Timeout c) e = tt
-call-fits (Call.Lose a b) e = tt
-call-fits (Call.Repeat a b) e = tt
-call-fits (Call.Trim c k) e = tt
-call-fits (Call.Deliver a b) e = tt
-
-next-form : (s : Site) (l : Line) → inRange l ≡ true → form s ≡ true
+next-form : (s : Site) (l : Ask) → askInRange l ≡ true → form s ≡ true
     → form (outcomeOf s l .next) ≡ true
-next-form s (Line.Site n J L) r e = e
-next-form s (Line.Call d) r e = step-keeps-form s d (call-fits d r) e
-next-form s (Line.Holds c k left right) r e = e
-next-form s Line.Unreadable r e = e
+next-form s (Ask.Line (Line.Site n J L)) r e = e
+next-form s (Ask.Line (Line.Call d)) r e = step-keeps-form s d (call-fits d r) e
+next-form s (Ask.Line (Line.Holds c k left right)) r e = e
+next-form s (Ask.Line Line.Unreadable) r e = e
+next-form s (Ask.Run steps) r e = run-form s steps e
 
-pub comes-ample : {im xs ls after : List ℕ} {l : Line} {m : ℕ} → inRange l ≡ true
+pub comes-ample : {im xs ls after : List ℕ} {l : Ask} {m : ℕ} → askInRange l ≡ true
     → Ample m (length xs) (length ls) → Comes im l xs ls m Came.Short after → ⊥
 comes-ample {xs = xs} {ls} r lent (few-words v s f e w) =
     both-no (words-enough xs ls lent (form-says f .sizes)) w
@@ -90,7 +69,7 @@ comes-ample {l = l} r lent (some v s h w (no-room k)) =
 
 -- ---- on an image in a buffer
 
-pub call-ample : {l : Line} {n : ℕ} {xs ls o p : List ℕ} → inRange l ≡ true
+pub call-ample : {l : Ask} {n : ℕ} {xs ls o p : List ℕ} → askInRange l ≡ true
     → Ample (length o) (length xs) (length ls) → CallIs l n xs ls o Came.Short p → length o < n
 call-ample r lent (too-long h) = h
 call-ample r lent (called h w) = absurd (comes-ample r lent w)
@@ -114,14 +93,30 @@ unheard-ample {xs = xs} {ls} lent (few-seen s f e w) =
 -- ---- a line
 
 -- a line is asked what its text says, in numbers of 32 bits
-asks-range : {line im : List ℕ} {l : Line} → Asks line im l → inRange l ≡ true
-asks-range {l = l} a = exact (a .call) l (serves l (a .served)) .0 (a .says) .1
+line-range : (t : List ℕ) (l : Line) → readable l ≡ true → askOf t ≡ Ask.Line l → inRange l ≡ true
+line-range t l h e = exact t l h .0 (go (readLine t) refl e) .1
   where
-    serves : (k : Line) → served k ≡ true → readable k ≡ true
-    serves (Line.Site n J L) e = refl
-    serves (Line.Call d) e = refl
-    serves (Line.Holds c k left right) e = refl
-    serves Line.Unreadable e = e
+    no-run : (o : One) → runRead o ≡ Ask.Line l → ⊥
+    no-run (One.Number steps) f = let z : _≡_ {A = ℕ} 0 1 = cc in omega arith
+    no-run One.Unreadable f =
+        let k : Line.Unreadable ≡ l = cc in both-no h (ap readable (sym k))
+
+    same : {k : Line} → Ask.Line k ≡ Ask.Line l → k ≡ l
+    same f = cc
+
+    go : (k : Line) → readLine t ≡ k → askRead k t ≡ Ask.Line l → readLine t ≡ l
+    go (Line.Site n J L) d f = d ∙ same f
+    go (Line.Call c) d f = d ∙ same f
+    go (Line.Holds c k left right) d f = d ∙ same f
+    go Line.Unreadable d f = absurd (no-run (readOne (bytes "run ") t) f)
+
+asks-range : {line im : List ℕ} {l : Ask} → Asks line im l → askInRange l ≡ true
+asks-range {l = Ask.Run steps} a = refl
+asks-range {l = Ask.Line (Line.Site n J L)} a = absurd (both-no (a .served) refl)
+asks-range {l = Ask.Line Line.Unreadable} a = absurd (both-no (a .served) refl)
+asks-range {l = Ask.Line (Line.Call d)} a = line-range (a .call) (Line.Call d) refl (a .says)
+asks-range {l = Ask.Line (Line.Holds c k left right)} a =
+    line-range (a .call) (Line.Holds c k left right) refl (a .says)
 
 -- no site by form has an image that is longer than the longest
 none-longer : (im : List ℕ) → longestOfAll < length im → HoldsNone im
@@ -143,11 +138,11 @@ short-only lent h (asks e a k (call-told w short)) = absurd (comes-ample (asks-r
 
 -- so the rules refuse it: 1
 pub too-long-refused : {line : List ℕ} → TooLong line
-    → Says line (answerText (Answer.Refused Refusal.Form) [])
+    → Says line (replyText (refusal Refusal.Form) [])
 too-long-refused t = not-by-form (t .asks) (t .none)
 
 -- a line that asks of a site's image is kept whole
-pub held-whole : {line im : List ℕ} {l : Line} (s : Site) → Asks line im l → form s ≡ true
+pub held-whole : {line im : List ℕ} {l : Ask} (s : Site) → Asks line im l → form s ≡ true
     → imageOf s ≡ im → length line < heldFor longestOfAll
 held-whole s a f e =
     asks-short longestOfAll (omega arith) a (omega (arith, any-image s f, ap length e))

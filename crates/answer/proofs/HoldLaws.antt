@@ -12,12 +12,17 @@ use lib.Seq.{take-all, take-append-add, length-take-le}
 use lib.Seq.{paste, paste-suc}
 use borrow.Author.Tests.{ltb-true, ltb-false, lt-ltb}
 use Rattle.rules.specs.Pick.{pick-true}
-use Rattle.laws.proofs.Logic.{both-no}
+use Rattle.laws.proofs.Logic.{both-no, or-left}
 use Rattle.hex.specs.Hex.{hexOf}
 use Rattle.hex.proofs.HexLaws.{digits-length, smalls-length}
 use Rattle.lines.specs.Read.{readLine}
 use Rattle.lines.specs.declared.Line.{Line}
-use Rattle.answer.specs.Asks.{served, Asks}
+use Rattle.lines.specs.declared.One.{One}
+use Rattle.lines.specs.Read.{readOne}
+use Rattle.print.specs.Bytes.{bytes}
+use Rattle.answer.specs.declared.reply.Ask.{Ask}
+use Rattle.answer.specs.Replies.{served}
+use Rattle.answer.specs.Asks.{Asks, runRead, askRead, askOf}
 use Rattle.answer.specs.Hold.{heldFor, kept, KeepIs}
 
 -- as many as there are, or k
@@ -81,12 +86,21 @@ hex-most : (m : ℕ) (im : List ℕ) → 1 ≤ m → length im ≤ m → length 
 hex-most m [] k h = omega arith
 hex-most m (b ∷ im) k h = omega (arith, digits-length (b ∷ im))
 
-long-call : (s : List ℕ) → 64 < length s → readLine s ≡ Line.Unreadable
+long-line : (s : List ℕ) → 64 < length s → readLine s ≡ Line.Unreadable
 unfolding readLine
-long-call s h = pick-true _ _ _ (lt-ltb 64 (length s) h)
+long-line s h = pick-true _ _ _ (lt-ltb 64 (length s) h)
+
+long-one : (w s : List ℕ) → 64 < length s → readOne w s ≡ One.Unreadable
+unfolding readOne
+long-one w s h = pick-true _ _ _ (or-left _ (lt-ltb 64 (length s) h))
+
+long-call : (s : List ℕ) → 64 < length s → askOf s ≡ Ask.Line Line.Unreadable
+long-call s h =
+    ap (λ (k : Line). askRead k s) (long-line s h)
+    ∙ ap runRead (long-one (bytes "run ") s h)
 
 -- a line that asks of an image of at most m bytes has fewer bytes than are kept
-pub asks-short : (m : ℕ) {line im : List ℕ} {l : Line} → 1 ≤ m → Asks line im l → length im ≤ m
+pub asks-short : (m : ℕ) {line im : List ℕ} {l : Ask} → 1 ≤ m → Asks line im l → length im ≤ m
     → length line < heldFor m
 asks-short m {line} {im} k a h = go (ltb 64 (length (a .call))) refl
   where
@@ -105,7 +119,7 @@ asks-short m {line} {im} k a h = go (ltb 64 (length (a .call))) refl
         omega (arith, sum, hex, hex-most m im k h)
 
 -- so a line that fills what is kept, or is longer, asks nothing or of an image of more than m bytes
-pub kept-asks-more : (m : ℕ) {line im : List ℕ} {l : Line} → 1 ≤ m → heldFor m ≤ length line
+pub kept-asks-more : (m : ℕ) {line im : List ℕ} {l : Ask} → 1 ≤ m → heldFor m ≤ length line
     → Asks line im l → m < length im
 kept-asks-more m {im = im} k h a = go (ltb m (length im)) refl
   where

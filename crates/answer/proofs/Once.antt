@@ -18,13 +18,14 @@ use Rattle.hex.proofs.Once.{hex-same}
 use Rattle.image.specs.Image.{imageOf}
 use Rattle.image.proofs.OneImage.{one-site}
 use Rattle.reader.proofs.Once.{same-room}
-use Rattle.lines.specs.Read.{readLine}
-use Rattle.lines.specs.declared.Line.{Line}
 use Rattle.answer.specs.declared.call.Came.{Came}
+use Rattle.answer.specs.declared.reply.Ask.{Ask}
+use Rattle.answer.specs.declared.reply.Reply.{Reply}
 use Rattle.answer.specs.declared.tell.Told.{Told}
+use Rattle.answer.specs.Replies.{outcomeOf}
 use Rattle.answer.specs.declared.unheard.Seen.{Seen}
-use Rattle.answer.specs.Asks.{Asks}
-use Rattle.answer.specs.Calls.{outcomeOf, Holds, Fits, fits, no-room, Comes, unserved, none}
+use Rattle.answer.specs.Asks.{Asks, askOf}
+use Rattle.answer.specs.Calls.{Holds, Fits, fits, no-room, Comes, unserved, none}
 use Rattle.answer.specs.Calls.{few-words, some, FreshComes, no-sizes, no-words, made, front}
 use Rattle.answer.specs.Calls.{CallIs, too-long, called, FreshIs, comes}
 use Rattle.answer.specs.Unheard.{UnheardIs, none as no-site, few-words as few-seen}
@@ -32,18 +33,18 @@ use Rattle.answer.specs.Unheard.{some as seen}
 use Rattle.answer.specs.Says.{Says, unreadable, not-by-form, answered}
 use Rattle.answer.specs.Says.{TellIs, told, short, CallTold, call-told}
 use Rattle.answer.specs.Says.{AnswerIs, too-short, asks-nothing, asks-long, asks}
-use Rattle.answer.specs.Text.{answerText}
+use Rattle.answer.specs.Text.{replyText}
 use Rattle.answer.proofs.AskLaws.{parted}
 use Rattle.answer.proofs.TellLaws.{refusal-alone}
 
 -- a line asks one thing of one image
-pub asks-once : {line a b : List ℕ} {k l : Line} → Asks line a k → Asks line b l → (a ≡ b) × (k ≡ l)
+pub asks-once : {line a b : List ℕ} {k l : Ask} → Asks line a k → Asks line b l → (a ≡ b) × (k ≡ l)
 asks-once {line} {a} {b} x y =
     let p = parted line (indexOf 32 line) refl x in
     let q = parted line (indexOf 32 line) refl y in (
       hex-same a b (x .bytes) (y .bytes)
           (x .spells ∙ ap smalls (sym (p .image) ∙ q .image) ∙ sym (y .spells)),
-      sym (x .says) ∙ ap readLine (sym (p .call) ∙ q .call) ∙ y .says,
+      sym (x .says) ∙ ap askOf (sym (p .call) ∙ q .call) ∙ y .says,
     )
 
 -- an image is of one site
@@ -61,14 +62,14 @@ pub record Same (c d : Came) (p q : List ℕ) : Type 0 where
 same : {c : Came} {p : List ℕ} → Same c c p p
 same = record { came = refl; image = refl }
 
-fits-once : {a : Answer} {im old p q : List ℕ} {m : ℕ} {c d : Came} → Fits a im old m c p
+fits-once : {a : Reply} {im old p q : List ℕ} {m : ℕ} {c d : Came} → Fits a im old m c p
     → Fits a im old m d q → Same c d p q
 fits-once (fits h) (fits k) = same
 fits-once (fits h) (no-room k) = absurd (omega arith)
 fits-once (no-room h) (fits k) = absurd (omega arith)
 fits-once (no-room h) (no-room k) = same
 
-pub comes-once : {im xs ls p q : List ℕ} {l : Line} {m : ℕ} {c d : Came} → Comes im l xs ls m c p
+pub comes-once : {im xs ls p q : List ℕ} {l : Ask} {m : ℕ} {c d : Came} → Comes im l xs ls m c p
     → Comes im l xs ls m d q → Same c d p q
 comes-once (unserved s) (unserved t) = same
 comes-once (unserved s) (none t n) = absurd (both-no t s)
@@ -97,7 +98,7 @@ front-once : (o : List ℕ) {c d : Came} {p q : List ℕ} → Same c d p q
     → Same c d (front p o) (front q o)
 front-once o s = record { came = s .came; image = ap (λ (p : List ℕ). front p o) (s .image) }
 
-pub call-once : {l : Line} {n : ℕ} {xs ls o p q : List ℕ} {c d : Came} → CallIs l n xs ls o c p
+pub call-once : {l : Ask} {n : ℕ} {xs ls o p q : List ℕ} {c d : Came} → CallIs l n xs ls o c p
     → CallIs l n xs ls o d q → Same c d p q
 call-once (too-long h) (too-long k) = same
 call-once (too-long h) (called k v) = absurd (omega arith)
@@ -151,7 +152,7 @@ tell-once : {im o p q : List ℕ} {c : Came} {a b : Told} → TellIs im o c a p 
 tell-once told told = alike
 tell-once short short = alike
 
-told-once : {l : Line} {im xs ls o p q : List ℕ} {m : ℕ} {a b : Told}
+told-once : {l : Ask} {im xs ls o p q : List ℕ} {m : ℕ} {a b : Told}
     → CallTold l im m xs ls o a p → CallTold l im m xs ls o b q → Alike a b p q
 told-once {o = o} {q = q} {b = b} (call-told {after = x} {c = c} w t)
     (call-told {after = y} {c = d} v u) = let s = comes-once v w in
@@ -177,15 +178,15 @@ answer-once (asks {im} {l = l} e x h w) (asks-nothing f k v) = absurd (k im l x)
 answer-once (asks e x h w) (asks-long f y k) = absurd (omega (arith, ap length (asks-once x y .0)))
 answer-once {xs = xs} {ls} {o} {q = q} {m} {b = b} (asks {im} e x h w) (asks {l = k} f y i v) =
     let s = asks-once y x in
-    told-once w (subst (λ (j : Line). CallTold j im m xs ls o b q) (s .1)
+    told-once w (subst (λ (j : Ask). CallTold j im m xs ls o b q) (s .1)
     (subst (λ (i : List ℕ). CallTold k i m xs ls o b q) (s .0) v))
 
 -- ---- what is written is what the rules say
 
-front-is : {im o p : List ℕ} {a : Answer} {k n : ℕ}
-    → TellIs im o (Came.Answered a k) (Told.Length n) p → take n p ≡ answerText a im
+front-is : {im o p : List ℕ} {a : Reply} {k n : ℕ}
+    → TellIs im o (Came.Answered a k) (Told.Length n) p → take n p ≡ replyText a im
 front-is {im} {o} {a = a} told =
-    take-append-seam (answerText a im) (drop (length (answerText a im)) o)
+    take-append-seam (replyText a im) (drop (length (replyText a im)) o)
 
 pub rules-say : {line xs ls o p : List ℕ} {m n : ℕ} → AnswerIs line m xs ls o (Told.Length n) p
     → Says line (take n p)

@@ -14,10 +14,12 @@ use Rattle.print.specs.Decimal.{decimal}
 use Rattle.print.specs.Text.{Wrote}
 use Rattle.print.proofs.WriteLaws.{spelled, at-most}
 use Rattle.hex.specs.Hex.{hexOf}
+use Rattle.wait.specs.declared.model.Run.{Run}
 use Rattle.answer.specs.declared.call.Came.{Came}
+use Rattle.answer.specs.declared.reply.Reply.{Reply}
 use Rattle.answer.specs.declared.tell.Told.{Told}
 use Rattle.answer.specs.Calls.{within, imageIn}
-use Rattle.answer.specs.Text.{causeWord, wordOf, answerText}
+use Rattle.answer.specs.Text.{causeWord, wordOf, answerText, runText, replyText}
 use Rattle.answer.specs.Says.{textRoom, TellIs, told, short}
 
 -- ---- words
@@ -51,6 +53,16 @@ image-text a im e =
     ap (λ (t : Bool). wordOf a ++ (cond t (decimal (answerNumber a)) (hexOf im) ++ (10 ∷ [])))
     (sym e)
 
+-- ---- runs and replies, by their case
+
+pub run-wrote : {r q : Run} (im : List ℕ) {m i j : ℕ} {o p : List ℕ} → r ≡ q
+    → Wrote m o p i j (runText q im) → Wrote m o p i j (runText r im)
+run-wrote im e w = spelled (ap (λ (k : Run). runText k im) (sym e)) w
+
+pub reply-wrote : {r q : Reply} (im : List ℕ) {m i j : ℕ} {o p : List ℕ} → r ≡ q
+    → Wrote m o p i j (replyText q im) → Wrote m o p i j (replyText r im)
+reply-wrote im e w = spelled (ap (λ (k : Reply). replyText k im) (sym e)) w
+
 -- ---- what is told
 
 front : {m r : ℕ} {o p t : List ℕ} → m ≤ length o → Wrote m o p 0 r t
@@ -63,17 +75,18 @@ front {r = r} {o = o} {t = t} h w =
     )
 
 -- a text that was written at the front is told
-told-text : {a : Answer} {k r n : ℕ} {im o p : List ℕ} → k ≤ length o
-    → Wrote k o p 0 r (answerText a im) → TellIs im o (Came.Answered a n) (Told.Length r) p
+told-text : {a : Reply} {k r n : ℕ} {im o p : List ℕ} → k ≤ length o
+    → Wrote k o p 0 r (replyText a im) → TellIs im o (Came.Answered a n) (Told.Length r) p
 told-text {a} {r = r} {n} {im} {o} h w =
-    let t = answerText a im in
+    let t = replyText a im in
     let s = front h w in
     subst (λ (q : List ℕ). TellIs im o (Came.Answered a n) (Told.Length r) q) (sym (s .1))
     (subst (λ (m : ℕ). TellIs im o (Came.Answered a n) (Told.Length m) (t ++ drop (length t) o))
     (sym (s .0)) told)
 
 pub refused-told : {a : Answer} {r : ℕ} {o p : List ℕ} → 38 ≤ length o
-    → Wrote 38 o p 0 r (answerText a []) → TellIs [] o (Came.Answered a 0) (Told.Length r) p
+    → Wrote 38 o p 0 r (answerText a [])
+    → TellIs [] o (Came.Answered (Reply.Answer a) 0) (Told.Length r) p
 refused-told h w = told-text h w
 
 -- ---- the line of any answer
@@ -93,19 +106,19 @@ image-wrote a im w = at-most (omega arith) w
 pub part-length : (image : List ℕ) (n k : ℕ) → k ≡ n → n ≤ length image → length (take k image) ≡ n
 part-length image n k e h = length-take-le k image (omega arith) ∙ e
 
-pub told-came : (image : List ℕ) (k : ℕ) {a : Answer} {c : Came} {n r : ℕ} {o q : List ℕ}
+pub told-came : (image : List ℕ) (k : ℕ) {a : Reply} {c : Came} {n r : ℕ} {o q : List ℕ}
     → c ≡ Came.Answered a n → k ≡ n → n ≤ length image → textRoom (length image) ≤ length o
-    → Wrote (textRoom (length (take k image))) o q 0 r (answerText a (take k image))
+    → Wrote (textRoom (length (take k image))) o q 0 r (replyText a (take k image))
     → TellIs (imageIn c image) o c (Told.Length r) q
 told-came image k {a} {c} {n} {r} {o} {q} e f h g w =
     subst (λ (d : Came). TellIs (imageIn d image) o d (Told.Length r) q) (sym e)
     (told-text (omega (arith, part-length image n k f h))
-    (spelled (ap (λ (i : ℕ). answerText a (take i image)) f) w))
+    (spelled (ap (λ (i : ℕ). replyText a (take i image)) f) w))
 
 pub told-none : (image : List ℕ) {c : Came} {o : List ℕ} → c ≡ Came.Short
     → TellIs (imageIn c image) o c Told.Short o
 told-none image {c} {o} e =
     subst (λ (d : Came). TellIs (imageIn d image) o d Told.Short o) (sym e) short
 
-pub came-within : {c : Came} {a : Answer} {m n : ℕ} → within m c → c ≡ Came.Answered a n → n ≤ m
+pub came-within : {c : Came} {a : Reply} {m n : ℕ} → within m c → c ≡ Came.Answered a n → n ≤ m
 came-within {m = m} h e = subst (λ (d : Came). within m d) e h

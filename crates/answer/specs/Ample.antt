@@ -5,7 +5,7 @@ use lib.ListN.{length}
 use Rattle.rules.specs.Sizes.{mostBoxes, mostLoads, mostMails}
 use Rattle.memory.specs.Memory.{siteWords, linksWords}
 use Rattle.image.specs.Longest.{longestOfAll}
-use Rattle.lines.specs.declared.Line.{Line}
+use Rattle.answer.specs.declared.reply.Ask.{Ask}
 use Rattle.answer.specs.Asks.{Asks}
 use Rattle.answer.specs.Calls.{HoldsNone}
 
@@ -18,7 +18,7 @@ pub record Ample (m x y : ℕ) : Type 0 where
 -- the line asks something of an image that is longer than that of any site by form
 pub record TooLong (line : List ℕ) : Type 0 where
   pub image : List ℕ
-  pub call : Line
+  pub call : Ask
   pub asks : Asks line image call
   pub longer : longestOfAll < length image
   pub none : HoldsNone image

@@ -1,4 +1,5 @@
 -- What the contracts of `answer` cite.
+pub mod Replies
 pub mod Asks
 pub mod Calls
 pub mod Unheard

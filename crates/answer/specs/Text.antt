@@ -3,13 +3,15 @@
 use mathlib.Core.Bool.{cond}
 use Prim.Native.Nat.{ℕ}
 use mathlib.Core.List.{List, [], _∷_, _++_}
-use Rattle.rules.specs.Numbers.{answerNumber}
+use Rattle.rules.specs.Numbers.{answerNumber, refusalNumber}
 use Rattle.rules.specs.declared.model.Answer.{Answer}
 use Rattle.rules.specs.declared.model.Cause.{Cause}
 use Rattle.rules.specs.Answers.{isRefusal}
 use Rattle.print.specs.Bytes.{bytes}
 use Rattle.print.specs.Decimal.{decimal}
 use Rattle.hex.specs.Hex.{hexOf}
+use Rattle.wait.specs.declared.model.Run.{Run}
+use Rattle.answer.specs.declared.reply.Reply.{Reply}
 
 abbrev pub causeWord : Cause → List ℕ
 causeWord Cause.Role = bytes "role "
@@ -27,3 +29,18 @@ wordOf (Answer.Refused why) = bytes "refused "
 unfoldable pub answerText : Answer → List ℕ → List ℕ
 answerText a im =
     wordOf a ++ (cond (isRefusal a) (decimal (answerNumber a)) (hexOf im) ++ (10 ∷ []))
+
+-- a number of steps, and the image
+abbrev pub usedText : ℕ → List ℕ → List ℕ
+usedText used im = decimal used ++ (32 ∷ (hexOf im ++ (10 ∷ [])))
+
+-- "`ran USED IMAGE`, `stopped N USED IMAGE` (N the refusal that stopped it) or `refused N`" (Q-9)
+unfoldable pub runText : Run → List ℕ → List ℕ
+runText (Run.Ran used) im = bytes "ran " ++ usedText used im
+runText (Run.Stopped why used) im =
+    bytes "stopped " ++ (decimal (refusalNumber why) ++ (32 ∷ usedText used im))
+runText (Run.Refused why) im = answerText (Answer.Refused why) im
+
+abbrev pub replyText : Reply → List ℕ → List ℕ
+replyText (Reply.Answer a) im = answerText a im
+replyText (Reply.Run r) im = runText r im

@@ -1,19 +1,22 @@
-// What a line asks: an image in hex, one space, and a call or a holds line.
+// What a line asks: an image in hex, one space, and a call or a holds line, or a run.
 ghost use mathlib.Core.Path.{_≡_};
-ghost use Rattle.answer.specs.Asks.{served, askedOf, AskIs};
+ghost use Rattle.answer.specs.Asks.{runRead, askOf, askedOf, AskIs};
+ghost use Rattle.answer.specs.Replies.{servedLine, served};
+use crate::reply::Ask;
 use hex::Hexed;
 use lines::Line;
+use lines::One;
 
 // The image's length and what is to be done with it; or that there is no room for the image; or
 // that the line asks nothing.
 pub enum Asked {
-    Step(usize, Line),
+    Step(usize, Ask),
     Long,
     Unreadable,
 }
 
-pub(crate) fn serves(l: Line) -> bool
-    ensures { λ r. ⌜ r ≡ served l ⌝ }
+fn serves_line(l: Line) -> bool
+    ensures { λ r. ⌜ r ≡ servedLine l ⌝ }
 {
     match l {
         Line::Site(_, _, _) => false,
@@ -23,7 +26,38 @@ pub(crate) fn serves(l: Line) -> bool
     }
 }
 
-fn found(h: Hexed, l: Line) -> Asked
+pub(crate) fn serves(l: Ask) -> bool
+    ensures { λ r. ⌜ r ≡ served l ⌝ }
+{
+    match l {
+        Ask::Line(k) => serves_line(k),
+        Ask::Run(_) => true,
+    }
+}
+
+// A text that is no line of a trace.
+fn run_of(t: One) -> Ask
+    ensures { λ r. ⌜ r ≡ runRead t ⌝ }
+{
+    match t {
+        One::Number(steps) => Ask::Run(steps),
+        One::Unreadable => Ask::Line(Line::Unreadable),
+    }
+}
+
+pub fn read_ask(text: &[u8]) -> Ask
+    ensures { λ r. ⌜ r ≡ askOf (now (text .entry)) ⌝ }
+{
+    let l = lines::read_line(text);
+    match l {
+        Line::Site(_, _, _) => Ask::Line(l),
+        Line::Call(_) => Ask::Line(l),
+        Line::Holds(_, _, _, _) => Ask::Line(l),
+        Line::Unreadable => run_of(lines::read_one(b"run ", text)),
+    }
+}
+
+fn found(h: Hexed, l: Ask) -> Asked
     ensures { λ r. ⌜ r ≡ askedOf h l ⌝ }
 {
     match h {
@@ -43,7 +77,7 @@ pub(crate) fn ask(line: &[u8], image: &mut [u8]) -> Asked
     if e == n {
         return Asked::Unreadable;
     }
-    let l = lines::read_line(&line[e + 1..n]);
+    let l = read_ask(&line[e + 1..n]);
     if !serves(l) {
         return Asked::Unreadable;
     }

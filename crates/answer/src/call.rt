@@ -1,16 +1,17 @@
-// One call on an image that stands in a lent buffer, and the image of a fresh site.
+// What is asked of an image that stands in a lent buffer, and the image of a fresh site.
 ghost use mathlib.Core.Path.{_≡_};
 ghost use mathlib.Core.Bool.{true};
 ghost use Prim.Native.Nat.{_≤_};
 ghost use lib.ListN.{length, take};
 ghost use Rattle.memory.specs.Memory.{siteOf, memoryForm};
 ghost use Rattle.image.specs.Image.{imageOf};
-ghost use Rattle.answer.specs.Asks.{served};
-ghost use Rattle.answer.specs.Calls.{outcomeOf, CallIs, FreshIs, PutIs};
+ghost use Rattle.answer.specs.Replies.{served, outcomeOf};
+ghost use Rattle.answer.specs.Calls.{CallIs, FreshIs, PutIs};
 use crate::ask;
+use crate::reply;
+use crate::reply::Ask;
+use crate::reply::Reply;
 use crate::serve;
-use lines::Line;
-use rules::answers;
 use rules::model::Answer;
 use rules::model::Refusal;
 use rules::numbers;
@@ -19,12 +20,12 @@ use writer::Written;
 // What came of it: the answer, and how many bytes the image after it has; or what was lent is too
 // short.
 pub enum Came {
-    Answered(Answer, usize),
+    Answered(Reply, usize),
     Short,
 }
 
 // The image of words by form, after the answer a, goes to the front of the buffer.
-fn put(a: Answer, image: &mut [u8], site: &[u64], links: &[u64]) -> Came
+fn put(a: Reply, image: &mut [u8], site: &[u64], links: &[u64]) -> Came
     requires { ⌜ memoryForm (now site) (now links) ≡ true ⌝ }
     ensures { λ r.
         ⌜ PutIs a (imageOf (siteOf (now (site .entry)) (now (links .entry))))
@@ -38,7 +39,7 @@ fn put(a: Answer, image: &mut [u8], site: &[u64], links: &[u64]) -> Came
 }
 
 // What l asks of words by form, whose image stands in the first n bytes of the buffer.
-fn call_formed(l: Line, n: usize, image: &mut [u8], site: &mut [u64], links: &mut [u64]) -> Came
+fn call_formed(l: Ask, n: usize, image: &mut [u8], site: &mut [u64], links: &mut [u64]) -> Came
     requires { ⌜ memoryForm (now site) (now links) ≡ true ⌝ }
     requires { ⌜ n ≤ length (now image) ⌝ }
     requires { ⌜ imageOf (siteOf (now site) (now links)) ≡ take n (now image) ⌝ }
@@ -48,14 +49,14 @@ fn call_formed(l: Line, n: usize, image: &mut [u8], site: &mut [u64], links: &mu
         (now (image .entry)) r (now (image .exit)) ⌝ }
 {
     let a = serve::serve(site, links, l);
-    if answers::is_refusal(a) {
+    if reply::is_refusal(a) {
         return Came::Answered(a, n);
     }
     put(a, image, site, links)
 }
 
 // The image is read into the words: 1, else 12 as a short room, else l is done.
-fn call_served(l: Line, n: usize, image: &mut [u8], site: &mut [u64], links: &mut [u64]) -> Came
+fn call_served(l: Ask, n: usize, image: &mut [u8], site: &mut [u64], links: &mut [u64]) -> Came
     requires { ⌜ served l ≡ true ⌝ }
     requires { ⌜ n ≤ length (now image) ⌝ }
     ensures { λ r.
@@ -70,13 +71,13 @@ fn call_served(l: Line, n: usize, image: &mut [u8], site: &mut [u64], links: &mu
     if k == 12 {
         return Came::Short;
     }
-    Came::Answered(Answer::Refused(Refusal::Form), n)
+    Came::Answered(Reply::Answer(Answer::Refused(Refusal::Form)), n)
 }
 
 // What l asks of the image in the first n bytes of the buffer; the image after it goes to the
 // buffer's front. The words are work room.
 pub fn call_on_image(
-    l: Line,
+    l: Ask,
     n: usize,
     image: &mut [u8],
     site: &mut [u64],
@@ -90,7 +91,7 @@ pub fn call_on_image(
         return Came::Short;
     }
     if !ask::serves(l) {
-        return Came::Answered(Answer::Refused(Refusal::Line), n);
+        return Came::Answered(Reply::Answer(Answer::Refused(Refusal::Line)), n);
     }
     call_served(l, n, image, site, links)
 }
@@ -111,10 +112,10 @@ pub fn fresh_image(
     let a = site::fresh(site, links, n, j, l);
     let k = numbers::answer_number(a);
     if k == 0 {
-        return put(a, image, site, links);
+        return put(Reply::Answer(a), image, site, links);
     }
     if k == 12 {
         return Came::Short;
     }
-    Came::Answered(a, 0)
+    Came::Answered(Reply::Answer(a), 0)
 }

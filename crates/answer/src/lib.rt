@@ -1,11 +1,11 @@
-// One call on a stored image, as a line of text: the image in hex and the call, answered by a line
-// with the answer and the image after it.
+// A stored image and what is asked of it, as a line of text: the image in hex and a call or a
+// run, answered by a line with the answer and the image after it.
 ghost use mathlib.Core.Path.{_≡_};
 ghost use Prim.Native.Nat.{_≤_};
 ghost use lib.ListN.{length, take};
 ghost use Rattle.answer.specs.Says.{lends as lendsEnough, textRoom, CallTold, AnswerIs};
 use ask::Asked;
-use lines::Line;
+use reply::Ask;
 use rules::model::Answer;
 use rules::model::Refusal;
 use tell::Told;
@@ -13,6 +13,7 @@ use tell::Told;
 pub mod ask;
 pub mod call;
 pub mod hold;
+pub mod reply;
 mod serve;
 pub mod tell;
 pub mod unheard;
@@ -23,15 +24,15 @@ fn lends(image: &[u8], out: &[u8]) -> bool
         ⌜ r ≡ lendsEnough (length (now (image .entry))) (length (now (out .entry))) ⌝ }
 {
     let k = out.len();
-    if k < 38 {
+    if k < 52 {
         return false;
     }
-    image.len() <= (k - 38) / 2
+    image.len() <= (k - 52) / 2
 }
 
 // What l asks of the image in the first n bytes of the buffer, told.
 fn answer_call(
-    l: Line,
+    l: Ask,
     n: usize,
     image: &mut [u8],
     site: &mut [u64],

@@ -7,13 +7,18 @@ ghost use lib.ListN.{length};
 ghost use Rattle.rules.specs.Answers.{isRefusal};
 ghost use Rattle.print.specs.Text.{Wrote};
 ghost use Rattle.rules.specs.declared.model.Answer.{Answer};
+ghost use Rattle.wait.specs.declared.model.Run.{Run};
 ghost use Rattle.answer.specs.Text.{causeWord, wordOf, answerText};
+ghost use Rattle.answer.specs.Text.{usedText, runText, replyText};
 ghost use Rattle.answer.specs.Calls.{within, imageIn};
 ghost use Rattle.answer.specs.Says.{textRoom, TellIs};
 use crate::call::Came;
+use crate::reply::Reply;
 use rules::answers;
 use rules::model::Answer;
 use rules::model::Cause;
+use rules::model::Refusal;
+use wait::model::Run;
 
 // How many bytes the answer has, or that what was lent is too short for it.
 pub enum Told {
@@ -92,6 +97,69 @@ fn put_answer(out: &mut [u8], a: Answer, image: &[u8]) -> usize
     put_image(out, a, image)
 }
 
+// So many steps, and the image.
+fn put_used(out: &mut [u8], at: usize, used: u32, image: &[u8]) -> usize
+    requires { ⌜ at + (2 * length (now image) + 23) ≤ length (now out) ⌝ }
+    ensures { λ r.
+        ⌜ Wrote (2 * length (now (image .entry)) + 23)
+        (now (out .entry)) (now (out .exit)) at r (usedText used (now (image .entry))) ⌝ }
+{
+    let p = print::put_decimal(out, at, used as u64);
+    let p = print::put_byte(out, p, 32);
+    let p = hex::put_hex(out, p, image);
+    print::put_byte(out, p, 10)
+}
+
+fn put_stopped(out: &mut [u8], why: Refusal, used: u32, image: &[u8]) -> usize
+    requires { ⌜ textRoom (length (now image)) ≤ length (now out) ⌝ }
+    ensures { λ r.
+        ⌜ Wrote (textRoom (length (now (image .entry))))
+        (now (out .entry)) (now (out .exit)) 0 r
+        (runText (Run.Stopped why used) (now (image .entry))) ⌝ }
+{
+    let p = print::put_bytes(out, 0, b"stopped ");
+    let n = rules::numbers::answer_number(Answer::Refused(why));
+    let p = print::put_decimal(out, p, n as u64);
+    let p = print::put_byte(out, p, 32);
+    put_used(out, p, used, image)
+}
+
+fn put_ran(out: &mut [u8], used: u32, image: &[u8]) -> usize
+    requires { ⌜ textRoom (length (now image)) ≤ length (now out) ⌝ }
+    ensures { λ r.
+        ⌜ Wrote (textRoom (length (now (image .entry))))
+        (now (out .entry)) (now (out .exit)) 0 r (runText (Run.Ran used) (now (image .entry))) ⌝ }
+{
+    let p = print::put_bytes(out, 0, b"ran ");
+    put_used(out, p, used, image)
+}
+
+// The line of a run, with the image after it.
+fn put_run(out: &mut [u8], r: Run, image: &[u8]) -> usize
+    requires { ⌜ textRoom (length (now image)) ≤ length (now out) ⌝ }
+    ensures { λ q.
+        ⌜ Wrote (textRoom (length (now (image .entry))))
+        (now (out .entry)) (now (out .exit)) 0 q (runText r (now (image .entry))) ⌝ }
+{
+    match r {
+        Run::Ran(used) => put_ran(out, used, image),
+        Run::Stopped(why, used) => put_stopped(out, why, used, image),
+        Run::Refused(why) => put_refusal(out, Answer::Refused(why)),
+    }
+}
+
+fn put_reply(out: &mut [u8], r: Reply, image: &[u8]) -> usize
+    requires { ⌜ textRoom (length (now image)) ≤ length (now out) ⌝ }
+    ensures { λ q.
+        ⌜ Wrote (textRoom (length (now (image .entry))))
+        (now (out .entry)) (now (out .exit)) 0 q (replyText r (now (image .entry))) ⌝ }
+{
+    match r {
+        Reply::Answer(a) => put_answer(out, a, image),
+        Reply::Run(k) => put_run(out, k, image),
+    }
+}
+
 // The line of what came, with the image that it left at the front of image.
 pub(crate) fn tell(c: Came, image: &[u8], out: &mut [u8]) -> Told
     requires { ⌜ within (length (now image)) c ⌝ }
@@ -100,7 +168,7 @@ pub(crate) fn tell(c: Came, image: &[u8], out: &mut [u8]) -> Told
         ⌜ TellIs (imageIn c (now (image .entry))) (now (out .entry)) c r (now (out .exit)) ⌝ }
 {
     match c {
-        Came::Answered(a, n) => Told::Length(put_answer(out, a, &image[0..n])),
+        Came::Answered(a, n) => Told::Length(put_reply(out, a, &image[0..n])),
         Came::Short => Told::Short,
     }
 }

@@ -1,24 +1,28 @@
 -- What the buffers have room for, and where the larger ones are asked for.
 use Prim.Native.Nat.{ℕ, _≤_, _<_}
-use mathlib.Core.Path.{_≡_, refl, sym, subst, _∙_}
+use mathlib.Core.Path.{_≡_, refl, ap, sym, subst, _∙_}
 use mathlib.Core.Bool.{Bool, true, false}
 use mathlib.Core.List.{List}
 use native.Mathlib.Omega.{arith}
 use lib.ListN.{length}
-use Rattle.rules.specs.Every.{each}
 use Rattle.laws.proofs.Logic.{true≠false}
 use Rattle.answer.specs.declared.call.Came.{Came}
+use Rattle.answer.specs.declared.reply.Ask.{Ask}
 use Rattle.answer.specs.declared.tell.Told.{Told}
 use Rattle.answer.specs.declared.unheard.Seen.{Seen}
+use Rattle.answer.specs.Asks.{runRead, askRead, askOf}
+use Rattle.answer.specs.Replies.{askInRange}
 use Rattle.answer.specs.Calls.{CallIs, FreshIs}
 use Rattle.answer.specs.Says.{AnswerIs}
 use Rattle.answer.specs.Unheard.{UnheardIs}
 use Rattle.answer.specs.Ample.{Ample, TooLong}
 use Rattle.answer.proofs.Enough.{short-only, call-ample, fresh-ample, unheard-ample}
 use Rattle.lines.specs.declared.Line.{Line}
-use Rattle.lines.specs.Read.{readLine}
+use Rattle.lines.specs.declared.One.{One}
+use Rattle.lines.specs.Read.{readLine, readOne}
+use Rattle.print.specs.Bytes.{bytes}
 use Rattle.lines.specs.Printed.{inRange}
-use Rattle.lines.proofs.Exact.{exact}
+use Rattle.lines.proofs.Ranges.{none-out, read-range}
 use Rattle.streams.specs.Got.{GotFrom}
 use Rattle.streams.specs.declared.Got.{Got}
 use Rattle.apply.specs.declared.buffers.Job.{Job}
@@ -100,7 +104,7 @@ pub larger-is : (P : ℕ → Type 0) {d : Done} {k : ℕ} → OnLarger P d → d
 larger-is P h e = subst (λ (d : Done). OnLarger P d) e h
 
 -- not where there is room for every site and the image is whole
-pub call-fits : {l : Line} {n k m : ℕ} {xs ls o p : List ℕ} {c : Came} → inRange l ≡ true
+pub call-fits : {l : Ask} {n k m : ℕ} {xs ls o p : List ℕ} {c : Came} → askInRange l ≡ true
     → length o ≡ m → n ≤ length o → CallIs l n xs ls o c p → c ≡ Came.Short
     → Ample m (length xs) (length ls) → k ≡ m
 call-fits {l} {n} {xs = xs} {ls} {o} {p} r e h w s a =
@@ -118,19 +122,22 @@ pub unheard-fits : {c k m : ℕ} {im xs ls : List ℕ} {s : Seen} → UnheardIs 
 unheard-fits {c} {im = im} {xs} {ls} w e a =
     absurd (unheard-ample a (subst (λ (d : Seen). UnheardIs c im xs ls d) e w))
 
-pub job-call : {j : Job} {l : Line} → JobFits j → j ≡ Job.Call l → inRange l ≡ true
+pub job-call : {j : Job} {l : Ask} → JobFits j → j ≡ Job.Call l → askInRange l ≡ true
 job-call h e = subst (λ (j : Job). JobFits j) e h
 
--- a line that was read has numbers in range
-none-out : inRange Line.Unreadable ≡ true
-unfolding each
-none-out = refl
-
-pub read-range : (s : List ℕ) {l : Line} → l ≡ readLine s → inRange l ≡ true
-read-range s {l} e = go l (sym e)
+-- what was read has numbers in range
+pub ask-range : (s : List ℕ) {l : Ask} → l ≡ askOf s → askInRange l ≡ true
+ask-range s {l} e = ap askInRange e ∙ go (readLine s) refl
   where
-    go : (k : Line) → readLine s ≡ k → inRange k ≡ true
-    go (Line.Site n J L) q = exact s (Line.Site n J L) refl .0 q .1
-    go (Line.Call d) q = exact s (Line.Call d) refl .0 q .1
-    go (Line.Holds c k left right) q = exact s (Line.Holds c k left right) refl .0 q .1
-    go Line.Unreadable q = none-out
+    ran : (o : One) → askInRange (runRead o) ≡ true
+    ran (One.Number steps) = refl
+    ran One.Unreadable = none-out
+
+    go : (k : Line) → readLine s ≡ k → askInRange (askRead k s) ≡ true
+    go (Line.Site n J L) q = read-range s (sym q)
+    go (Line.Call d) q = read-range s (sym q)
+    go (Line.Holds c k left right) q = read-range s (sym q)
+    go Line.Unreadable q = ran (readOne (bytes "run ") s)
+
+pub line-range : {l : Ask} {k : Line} → askInRange l ≡ true → l ≡ Ask.Line k → inRange k ≡ true
+line-range h e = subst (λ (m : Ask). askInRange m ≡ true) e h

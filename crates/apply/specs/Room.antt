@@ -6,7 +6,7 @@ use Rattle.image.specs.Longest.{longestOfAll}
 use Rattle.answer.specs.Says.{textRoom}
 use Rattle.answer.specs.Hold.{heldFor}
 use Rattle.answer.specs.Ample.{Ample}
-use Rattle.lines.specs.Printed.{inRange}
+use Rattle.answer.specs.Replies.{askInRange}
 use Rattle.apply.specs.declared.buffers.Job.{Job}
 use Rattle.apply.specs.declared.raw.Done.{Done}
 use Rattle.apply.specs.declared.raw.Filled.{Filled}
@@ -23,7 +23,8 @@ pub record LineRoom (last : Bool) (h : ℕ) : Type 0 where
 -- a call's numbers are of 32 bits, as those of a line that was read
 abbrev pub JobFits : Job → Type 0
 JobFits (Job.Lines run) = Unit {0}
-JobFits (Job.Call l) = inRange l ≡ true
+JobFits (Job.Call l) = askInRange l ≡ true
+JobFits (Job.Each steps) = Unit {0}
 
 -- what was read is at most what there is room for
 abbrev pub FilledIn : ℕ → Filled → Type 0

@@ -3,17 +3,18 @@
 ghost use lib.ListN.{length};
 ghost use Rattle.answer.specs.Ample.{Ample};
 ghost use Rattle.apply.specs.Room.{JobFits};
+use crate::each;
 use crate::pieces;
 use crate::raw;
 use crate::run::Run;
-use lines::Line;
+use answer::reply::Ask;
 
 // Images of 128 KiB, and the links of most sites.
 const IMAGE: usize = 131072;
 
 const LINE: usize = 2 * IMAGE + 66;
 
-const OUT: usize = 2 * IMAGE + 38;
+const OUT: usize = 2 * IMAGE + 52;
 
 const LINKS: usize = 65536;
 
@@ -30,7 +31,7 @@ const LONGER: usize = LONGEST + 1;
 
 const LONGEST_LINE: usize = 2 * LONGEST + 66;
 
-const LONGEST_OUT: usize = 2 * LONGEST + 38;
+const LONGEST_OUT: usize = 2 * LONGEST + 52;
 
 const LINK: usize = 2 + 16 * (letter::HEAD + 4096);
 
@@ -38,10 +39,12 @@ const ALL_LINKS: usize = 5 * 4 * LINK;
 
 const SITE: usize = memory::GENERAL + 5 * (row::HEAD + 4096);
 
-// What goes on in the larger set: the lines of the input, or a call on an image.
+// What goes on in the larger set: the lines of the input, a call on an image, or a run on one, step
+// by step.
 pub enum Job {
     Lines(Run),
-    Call(Line),
+    Call(Ask),
+    Each(u32),
 }
 
 // Each large buffer comes from a function: a proof that has an array of millions of bytes before it
@@ -99,6 +102,7 @@ pub(crate) fn serve_large(job: Job, front: &[u8], text: &[u8]) -> u8
     match job {
         Job::Lines(run) => lines_large(run, front, text, &mut image, &mut site, &mut links),
         Job::Call(l) => raw::call_rest(l, front, text, &mut image, &mut site, &mut links),
+        Job::Each(steps) => each::run_each(steps, text, &mut image, &mut site, &mut links),
     }
 }
 
@@ -114,6 +118,9 @@ pub(crate) fn serve() -> u8 {
     let mut links = [0u64; LINKS];
     if streams::has_argument(2, b"call") {
         return raw::serve_call(&mut image, &mut site, &mut links);
+    }
+    if streams::has_argument(2, b"each") {
+        return each::serve_each();
     }
     lines_small(&mut image, &mut site, &mut links)
 }

@@ -1,8 +1,11 @@
-// Calls on stored images: one for each line of standard input, or one on an image in raw bytes; and
-// the question which boxes have not answered a lease, of an image in raw bytes.
+// Calls and runs on stored images: one for each line of standard input, or one on an image in raw
+// bytes; a run on such an image step by step; and the question which boxes have not answered a
+// lease.
 mod buffers;
+mod each;
 mod line;
 mod pieces;
+mod ran;
 mod raw;
 mod refused;
 mod run;

@@ -1,23 +1,28 @@
-// One call on one image, both raw: the image in and out, the call as an argument. In place of a
-// call it may be asked which boxes have not answered a lease.
+// One call or run on one image, both raw: the image in and out, the call as an argument. In place
+// of a call it may be asked which boxes have not answered a lease.
 ghost use mathlib.Core.Path.{_≡_};
 ghost use mathlib.Core.Bool.{true};
 ghost use Prim.Native.Nat.{_≤_, _<_};
 ghost use lib.ListN.{length};
 ghost use Rattle.image.specs.Longest.{longestOfAll};
 ghost use Rattle.lines.specs.Printed.{inRange};
+ghost use Rattle.answer.specs.Replies.{askInRange};
 ghost use Rattle.answer.specs.declared.call.Came.{Came};
 ghost use Rattle.answer.specs.Ample.{Ample};
 ghost use Rattle.apply.specs.declared.raw.Done.{Done};
 ghost use Rattle.apply.specs.Room.{FilledIn, OnLarger};
 use crate::buffers;
 use crate::buffers::Job;
+use crate::ran;
 use crate::refused;
 use crate::run::least;
 use crate::unheard;
+use answer::ask;
 use answer::call;
 use answer::call::Came;
 use answer::hold;
+use answer::reply::Ask;
+use answer::reply::Reply;
 use libc::STDIN_FILENO;
 use libc::STDOUT_FILENO;
 use lines::Line;
@@ -27,6 +32,7 @@ use rules::model::Answer;
 use rules::model::Cause;
 use rules::numbers;
 use streams::Got;
+use wait::model::Run;
 use wording::Place;
 use wording::fault;
 
@@ -83,6 +89,31 @@ pub(crate) fn tell(a: Answer, image: &[u8], text: &[u8]) -> u8 {
     0
 }
 
+// The image after a run goes to standard output, and what the run did to standard error.
+fn tell_ran(r: Run, image: &[u8]) -> u8 {
+    if !streams::send(STDOUT_FILENO, image) {
+        os::fail(b"apply: standard output");
+        return 3;
+    }
+    ran::say(r);
+    0
+}
+
+fn tell_run(r: Run, image: &[u8], text: &[u8]) -> u8 {
+    match r {
+        Run::Ran(_) => tell_ran(r, image),
+        Run::Stopped(_, _) => tell_ran(r, image),
+        Run::Refused(why) => tell(Answer::Refused(why), image, text),
+    }
+}
+
+fn tell_reply(r: Reply, image: &[u8], text: &[u8]) -> u8 {
+    match r {
+        Reply::Answer(a) => tell(a, image, text),
+        Reply::Run(k) => tell_run(k, image, text),
+    }
+}
+
 // What came of the call, of an image of n bytes.
 fn come(c: Came, n: usize, image: &[u8], text: &[u8]) -> Done
     ensures { λ r. ⌜ OnLarger (λ k. (k ≡ n) × (c ≡ Came.Short)) r ⌝ }
@@ -90,7 +121,7 @@ fn come(c: Came, n: usize, image: &[u8], text: &[u8]) -> Done
     match c {
         Came::Answered(a, k) => {
             let k = least(k, image.len());
-            Done::Status(tell(a, &image[0..k], text))
+            Done::Status(tell_reply(a, &image[0..k], text))
         }
         Came::Short => Done::Larger(n),
     }
@@ -120,14 +151,14 @@ pub(crate) fn failed() -> Done
 
 // A call on the image of standard input, of which there are n bytes already.
 fn call_on_input(
-    l: Line,
+    l: Ask,
     n: usize,
     text: &[u8],
     image: &mut [u8],
     site: &mut [u64],
     links: &mut [u64],
 ) -> Done
-    requires { ⌜ inRange l ≡ true ⌝ }
+    requires { ⌜ askInRange l ≡ true ⌝ }
     ensures { λ r.
         ⌜ OnLarger (λ k. Ample (length (now (image .entry))) (length (now (site .entry)))
         (length (now (links .entry))) → k ≡ length (now (image .entry))) r ⌝ }
@@ -150,7 +181,7 @@ fn refuse_unreadable(text: &[u8]) -> Done
     Done::Status(1)
 }
 
-// A text that is no line of a trace.
+// A text that is no line of a trace and no run.
 fn ask_in(n: usize, text: &[u8], image: &mut [u8], site: &mut [u64], links: &mut [u64]) -> Done
     ensures { λ r.
         ⌜ OnLarger (λ k. Ample (length (now (image .entry))) (length (now (site .entry)))
@@ -163,7 +194,7 @@ fn ask_in(n: usize, text: &[u8], image: &mut [u8], site: &mut [u64], links: &mut
 }
 
 // A site line asks for the image of a fresh site; then standard input is not read.
-fn call_in(
+fn line_in(
     l: Line,
     n: usize,
     text: &[u8],
@@ -181,9 +212,28 @@ fn call_in(
             let c = call::fresh_image(b, j, m, image, site, links);
             come(c, 0, image, text)
         }
-        Line::Call(_) => call_on_input(l, n, text, image, site, links),
-        Line::Holds(_, _, _, _) => call_on_input(l, n, text, image, site, links),
+        Line::Call(_) => call_on_input(Ask::Line(l), n, text, image, site, links),
+        Line::Holds(_, _, _, _) => call_on_input(Ask::Line(l), n, text, image, site, links),
         Line::Unreadable => ask_in(n, text, image, site, links),
+    }
+}
+
+fn call_in(
+    l: Ask,
+    n: usize,
+    text: &[u8],
+    image: &mut [u8],
+    site: &mut [u64],
+    links: &mut [u64],
+) -> Done
+    requires { ⌜ askInRange l ≡ true ⌝ }
+    ensures { λ r.
+        ⌜ OnLarger (λ k. Ample (length (now (image .entry))) (length (now (site .entry)))
+        (length (now (links .entry))) → k ≡ length (now (image .entry))) r ⌝ }
+{
+    match l {
+        Ask::Line(k) => line_in(k, n, text, image, site, links),
+        Ask::Run(_) => call_on_input(l, n, text, image, site, links),
     }
 }
 
@@ -197,14 +247,14 @@ fn refuse_image(n: usize, text: &[u8]) -> u8
 
 // In the larger set, where only an image that is longer than any site's has no room.
 pub(crate) fn call_rest(
-    l: Line,
+    l: Ask,
     front: &[u8],
     text: &[u8],
     image: &mut [u8],
     site: &mut [u64],
     links: &mut [u64],
 ) -> u8
-    requires { ⌜ inRange l ≡ true ⌝ }
+    requires { ⌜ askInRange l ≡ true ⌝ }
     requires { ⌜ longestOfAll < length (now image) ⌝ }
     requires { ⌜ Ample (length (now image)) (length (now site)) (length (now links)) ⌝ }
 {
@@ -215,8 +265,8 @@ pub(crate) fn call_rest(
     }
 }
 
-fn call_small(l: Line, text: &[u8], image: &mut [u8], site: &mut [u64], links: &mut [u64]) -> u8
-    requires { ⌜ inRange l ≡ true ⌝ }
+fn call_small(l: Ask, text: &[u8], image: &mut [u8], site: &mut [u64], links: &mut [u64]) -> u8
+    requires { ⌜ askInRange l ≡ true ⌝ }
 {
     match call_in(l, 0, text, image, site, links) {
         Done::Status(s) => s,
@@ -228,7 +278,7 @@ fn call_small(l: Line, text: &[u8], image: &mut [u8], site: &mut [u64], links: &
 }
 
 // Argument 3 is the call; of one that is longer than the buffer the first bytes are enough.
-fn call_text(text: &mut [u8]) -> usize
+pub(crate) fn call_text(text: &mut [u8]) -> usize
     ensures { λ r. ⌜ r ≤ length (now (text .exit)) ⌝ }
 {
     let n = os::arg(3, text);
@@ -239,7 +289,7 @@ fn call_text(text: &mut [u8]) -> usize
 }
 
 fn call_as_asked(text: &[u8], image: &mut [u8], site: &mut [u64], links: &mut [u64]) -> u8 {
-    call_small(lines::read_line(text), text, image, site, links)
+    call_small(ask::read_ask(text), text, image, site, links)
 }
 
 pub(crate) fn serve_call(image: &mut [u8], site: &mut [u64], links: &mut [u64]) -> u8 {
