@@ -1,9 +1,11 @@
--- Nothing else could satisfy what `write` and `image_length` say: one answer and one buffer.
+-- Nothing else could satisfy what `write` and `image_length` say: one answer and one buffer. And
+-- what it says of order: nothing is written where it refuses.
 use mathlib.Core.Path.{_≡_, refl}
 use Prim.Native.Nat.{ℕ}
 use native.Mathlib.Omega.{arith}
 use mathlib.Core.List.{List}
 use Rattle.laws.proofs.Logic.{both-no}
+use Rattle.rules.specs.declared.model.Refusal.{Refusal}
 use Rattle.writer.specs.declared.Written.{Written}
 use Rattle.writer.specs.Writer.{WriteIs, not-by-form, too-short, written}
 use Rattle.writer.specs.Writer.{LengthIs, no-image, has-length}
@@ -26,3 +28,8 @@ length-once (no-image e) (no-image f) = refl
 length-once (no-image e) (has-length f) = absurd (both-no f e)
 length-once (has-length e) (no-image f) = absurd (both-no e f)
 length-once (has-length e) (has-length f) = refl
+
+pub refused-stays : {xs ls o p : List ℕ} {why : Refusal} → WriteIs xs ls o (Written.Refused why) p
+    → p ≡ o
+refused-stays (not-by-form e) = refl
+refused-stays (too-short e g) = refl
