@@ -1,0 +1,3 @@
+-- The agreed records by the words of a row.
+pub mod PlaceLaws
+pub mod Places

@@ -1,0 +1,3 @@
+-- What the contracts of `agreed` cite.
+pub mod Agreed
+pub mod Places

@@ -1,0 +1,3 @@
+-- What the contracts of `longer` cite.
+pub mod Longer
+pub mod Told

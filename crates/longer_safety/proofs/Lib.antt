@@ -1,0 +1,3 @@
+-- Two boxes of one site never differ.
+pub mod Lists
+pub mod NeverDiffers
