@@ -10,12 +10,22 @@
  * as a pointer and its length in words; a longer one is allowed, and the words past those needed
  * are never read or written. What C must see to, since no test can: a pointer is not null, not even
  * with the length 0; words are aligned to 8 bytes; the length is no more than is there; two arrays of
- * one call do not overlap (nor do the numbers behind `to`, `set` and `length`). What the words hold
- * is tested by every call: words that are not by form are refused with 1.
+ * one call do not overlap (nor do the numbers behind `to`, `set`, `used`, `length`, `first`, `at` and
+ * `count`). What the words hold is tested by every call: words that are not by form are refused with
+ * 1.
+ *
+ * STACK. No function but journal_run needs more than JOURNAL_STACK bytes of it, the call itself and
+ * its arguments among them, whatever n, J and L are: nothing is copied there that grows with them. A
+ * run needs up to JOURNAL_RUN_STACK: its mail and its leader's turns call each other, some 400 bytes
+ * for each turn of the leader and 150 each time that mail is handed over after one; J and L do not
+ * matter. This is measured and not proved, at the smallest and the largest sizes, with every call,
+ * every kind of mail, every answer and the longest run that is known, as the kit's compiler makes
+ * libjournal.a. A memcpy that the loader binds at its first call takes some 3,000 bytes more in that
+ * one; linking with -z now avoids it.
  *
  * ANSWERS. Every function but the two that count words answers one of these numbers. A refused call
- * (1 to 14) leaves every word as it was. A mail that is discarded (101 to 104) has left its link,
- * and nothing else has changed. */
+ * (1 to 14, and 22) leaves every word as it was. A mail that is discarded (101 to 104) has left its
+ * link, and nothing else has changed. A run that was stopped (above 200) has done the steps before. */
 #ifndef JOURNAL_H
 #define JOURNAL_H
 
@@ -42,14 +52,20 @@ enum {
     JOURNAL_LINK = 8,      /* a mail would go onto a full link */
     JOURNAL_BUFFER = 12,   /* too few words or bytes are lent */
     JOURNAL_UNTRUE = 14,   /* a holds line that is untrue, or of a load no longer kept */
+    JOURNAL_DIFFERS = 22,  /* journal_longer: a number that both lists hold differs */
     /* 9 is no longer given and stays unused: a number given back is not given anew. */
     /* A mail that was handed over. */
     JOURNAL_TAKEN = 100,
     JOURNAL_DISCARDED_ROLE = 101,
     JOURNAL_DISCARDED_PHASE = 102,
     JOURNAL_DISCARDED_NUMBER = 103,
-    JOURNAL_DISCARDED_PLACE = 104
+    JOURNAL_DISCARDED_PLACE = 104,
+    /* A run that a refused step has stopped answers this and the step's number. */
+    JOURNAL_STOPPED = 200
 };
+
+#define JOURNAL_STACK 2048
+#define JOURNAL_RUN_STACK 8192
 
 /* The words of an array, as constants: for sizes within their ranges the same as the two functions
  * below. A row is one box, a place is one letter. */
@@ -140,6 +156,54 @@ uint32_t journal_holds(const uint64_t *site, size_t site_words, const uint64_t *
 uint32_t journal_unheard(const uint64_t *site, size_t site_words, const uint64_t *links,
                          size_t links_words, uint32_t c, uint32_t *set);
 
+/* THE RUN after an election: how soon is the scale usable? While any link holds mail its head is
+ * handed over, of the first such link by sender and then receiver; otherwise the leader takes its
+ * own recover, collect, ready, agree, finish or heard. It ends where neither is possible, after a
+ * step that is refused, or after so many steps; a discarded mail was handed over, and counts.
+ *
+ * Answers 0 where it ran, and *used has the steps used. Where a step was refused it answers
+ * JOURNAL_STOPPED and that step's number (206, 207, 208), *used has the steps before it, and the
+ * words are as that step found them. 1, and 3 in an odd epoch, are refused calls as everywhere: they
+ * leave the words and *used.
+ *
+ * Just after elect, with room for 8 mails on a link or more and no promise above 999,999,800, it
+ * is proved to leave the scale usable within 0, 18, 42, 84 or 150 steps, with 1 to 5 boxes present:
+ * the leader active, no mail under way, every present box active at the leader's last load. With
+ * `steps` 1 it is done step by step; *used is 0 where there is nothing left to do. It takes more
+ * stack than the other functions: JOURNAL_RUN_STACK.
+ *
+ *     uint32_t used, answer = journal_run(site, s, links, l, 200, &used);
+ *     if (answer == JOURNAL_DONE) printf("usable after %u steps\n", used);
+ *     else if (answer > JOURNAL_STOPPED) printf("stopped by %u\n", answer - JOURNAL_STOPPED); */
+uint32_t journal_run(uint64_t *site, size_t site_words, uint64_t *links, size_t links_words,
+                     uint32_t steps, uint32_t *used);
+
+/* LOAD LISTS, for the weigh house. A list is words, a record each: left * 2^32 + right, the loads one
+ * after another from a first number on.
+ *
+ * agreed: where the agreed records of box c stand in the words of its site. Answers 0: *first is the
+ * first number that the box keeps, site[*at] its record, and *count how many are agreed from it on.
+ * 1, 2; a refused call leaves the three. Nothing is copied: the list is good until the words change.
+ *
+ * longer: of two lists from the same first number, which is the longer. Answers 1, the first, also
+ * on equal length, or 2, the second; the shorter is its beginning then. 22 where a number that both
+ * hold differs: print from neither. The lists are read once, up to the end of the shorter, and may
+ * overlap. Lists of two boxes of one site, from the larger of their first numbers on, never differ,
+ * also where one is older than the other: that is proved.
+ *
+ *     uint64_t f1, f2, f;
+ *     size_t at1, at2, n1, n2, skip1, skip2;
+ *     journal_agreed(site, s, links, l, 1, &f1, &at1, &n1);
+ *     journal_agreed(site, s, links, l, 2, &f2, &at2, &n2);
+ *     f = f1 < f2 ? f2 : f1;
+ *     skip1 = f - f1 < n1 ? f - f1 : n1, skip2 = f - f2 < n2 ? f - f2 : n2;
+ *     journal_longer(site + at1 + skip1, n1 - skip1, site + at2 + skip2, n2 - skip2); */
+uint32_t journal_agreed(const uint64_t *site, size_t site_words, const uint64_t *links,
+                        size_t links_words, uint32_t c, uint64_t *first, size_t *at,
+                        size_t *count);
+uint32_t journal_longer(const uint64_t *first, size_t first_words, const uint64_t *second,
+                        size_t second_words);
+
 /* A BOX BY ITSELF, for a program that runs one box and carries its mails by other means. These may
  * lose mail and hand it over more than once, but none after the next election; they neither alter
  * it nor change its order. docs/RUNNING-A-BOX.md has these duties, with what goes wrong without
@@ -226,6 +290,24 @@ uint32_t journal_write(const uint64_t *site, size_t site_words, const uint64_t *
                        size_t links_words, uint8_t *image, size_t image_bytes, size_t *length);
 uint32_t journal_read(const uint8_t *image, size_t image_bytes, uint64_t *site, size_t site_words,
                       uint64_t *links, size_t links_words);
+
+/* THE BODIES of an image, without copying: 1 is the general body, 2 to n + 1 are the boxes, n + 2 is
+ * the mail. Where body k begins in the image, and its length, go into *begin and *length: exactly
+ * the part that the image's table of contents names. Answers 0; 1 where the image_bytes bytes are no
+ * site's image; 3 where k is no body's number. A refused call leaves *begin and *length.
+ *
+ * journal_body looks at the whole image each time. journal_named does not, and reads nothing outside
+ * it: for the further bodies of an image that journal_body has taken. It answers 0 and 3; of bytes
+ * that are no site's image, 0 where a part inside them is named, else 3.
+ *
+ *     size_t begin, length;
+ *     uint32_t k = 1, r = journal_body(image, bytes, &begin, &length, k);
+ *     for (; r == JOURNAL_DONE; r = journal_named(image, bytes, &begin, &length, ++k))
+ *         fwrite(image + begin, 1, length, stdout); */
+uint32_t journal_body(const uint8_t *image, size_t image_bytes, size_t *begin, size_t *length,
+                      uint32_t k);
+uint32_t journal_named(const uint8_t *image, size_t image_bytes, size_t *begin, size_t *length,
+                       uint32_t k);
 
 /* EXAMPLE. Two boxes agree on one load; tests/c/example.c is this as a whole program.
  *

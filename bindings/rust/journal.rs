@@ -25,6 +25,8 @@ pub enum Refusal {
     Link = 8,
     Buffer = 12,
     Untrue = 14,
+    /// Of `longer` alone: a number that both lists hold differs.
+    Differs = 22,
 }
 
 /// Why a mail is discarded.
@@ -43,6 +45,13 @@ pub enum Mail {
     Discarded(Cause),
 }
 
+/// What became of a run that was not refused: it ended, or a step was refused, after so many steps.
+#[derive(Clone, Copy, Debug, PartialEq, Eq)]
+pub enum Run {
+    Ran(u32),
+    Stopped(Refusal, u32),
+}
+
 impl fmt::Display for Refusal {
     fn fmt(&self, f: &mut fmt::Formatter<'_>) -> fmt::Result {
         write!(f, "refused {}", *self as u32)
@@ -51,7 +60,7 @@ impl fmt::Display for Refusal {
 
 impl std::error::Error for Refusal {}
 
-const REFUSALS: [Refusal; 12] = [
+const REFUSALS: [Refusal; 13] = [
     Refusal::Sizes,
     Refusal::Form,
     Refusal::Box,
@@ -64,9 +73,17 @@ const REFUSALS: [Refusal; 12] = [
     Refusal::Link,
     Refusal::Buffer,
     Refusal::Untrue,
+    Refusal::Differs,
 ];
 
 /// The library answers no other number than these; another would be another library's.
+fn refusal(number: u32) -> Refusal {
+    REFUSALS
+        .into_iter()
+        .find(|r| *r as u32 == number)
+        .expect("libjournal.a answers a number that this binding does not know")
+}
+
 fn answered(number: u32) -> Result<Option<Mail>, Refusal> {
     match number {
         0 => Ok(None),
@@ -75,10 +92,7 @@ fn answered(number: u32) -> Result<Option<Mail>, Refusal> {
         102 => Ok(Some(Mail::Discarded(Cause::Phase))),
         103 => Ok(Some(Mail::Discarded(Cause::Number))),
         104 => Ok(Some(Mail::Discarded(Cause::Place))),
-        _ => Err(REFUSALS
-            .into_iter()
-            .find(|r| *r as u32 == number)
-            .expect("libjournal.a answers a number that this binding does not know")),
+        _ => Err(refusal(number)),
     }
 }
 
@@ -162,6 +176,30 @@ mod c {
             c: u32,
             set: *mut u32,
         ) -> u32;
+        pub fn journal_run(
+            s: *mut u64,
+            sn: usize,
+            l: *mut u64,
+            ln: usize,
+            steps: u32,
+            used: *mut u32,
+        ) -> u32;
+        pub fn journal_agreed(
+            s: *const u64,
+            sn: usize,
+            l: *const u64,
+            ln: usize,
+            c: u32,
+            first: *mut u64,
+            at: *mut usize,
+            count: *mut usize,
+        ) -> u32;
+        pub fn journal_longer(
+            first: *const u64,
+            first_words: usize,
+            second: *const u64,
+            second_words: usize,
+        ) -> u32;
         pub fn journal_image_length(
             s: *const u64,
             sn: usize,
@@ -185,6 +223,20 @@ mod c {
             sn: usize,
             l: *mut u64,
             ln: usize,
+        ) -> u32;
+        pub fn journal_body(
+            image: *const u8,
+            bytes: usize,
+            begin: *mut usize,
+            length: *mut usize,
+            k: u32,
+        ) -> u32;
+        pub fn journal_named(
+            image: *const u8,
+            bytes: usize,
+            begin: *mut usize,
+            length: *mut usize,
+            k: u32,
         ) -> u32;
         pub fn journal_own_recover(
             row: *mut u64,
@@ -514,6 +566,70 @@ impl<'a> Site<'a> {
         })?;
         Ok(set)
     }
+
+    /// The first number that box c keeps, and the records of all that it keeps as agreed from it
+    /// on: the site's own words, left × 2^32 + right each.
+    pub fn agreed(&self, c: u32) -> Result<(u64, &[u64]), Refusal> {
+        let (mut first, mut at, mut count) = (0, 0, 0);
+        // SAFETY: two slices, each with its own length, that are only read, and three numbers.
+        done(unsafe {
+            c::journal_agreed(
+                self.site.as_ptr(),
+                self.site.len(),
+                self.links.as_ptr(),
+                self.links.len(),
+                c,
+                &mut first,
+                &mut at,
+                &mut count,
+            )
+        })?;
+        Ok((first, &self.site[at..at + count]))
+    }
+}
+
+/// The longer of two lists of records from the same first number: one of the two itself, the first
+/// on equal length, and the shorter is its beginning. `Err(Differs)` where a number that both hold
+/// differs, which lists of two boxes of one site never do.
+pub fn longer<'a>(first: &'a [u64], second: &'a [u64]) -> Result<&'a [u64], Refusal> {
+    // SAFETY: two slices, each with its own length, that are only read.
+    let which =
+        unsafe { c::journal_longer(first.as_ptr(), first.len(), second.as_ptr(), second.len()) };
+    match which {
+        1 => Ok(first),
+        2 => Ok(second),
+        number => Err(answered(number).expect_err("journal_longer answers 1, 2 or 22")),
+    }
+}
+
+/// The part of a list that begins with number `own`, from number `first` on: for two boxes that
+/// keep different firsts, from the larger one on.
+pub fn from_first(list: &[u64], own: u64, first: u64) -> &[u64] {
+    let dropped = usize::try_from(first.saturating_sub(own)).unwrap_or(usize::MAX);
+    list.get(dropped..).unwrap_or(&[])
+}
+
+impl Site<'_> {
+    /// The run after an election: mails are handed over and the leader takes its own steps, at most
+    /// so many. `Err(Condition)` in an odd epoch.
+    pub fn run(&mut self, steps: u32) -> Result<Run, Refusal> {
+        let mut used = 0;
+        // SAFETY: two slices, each with its own length, and a number, that do not overlap.
+        let number = unsafe {
+            c::journal_run(
+                self.site.as_mut_ptr(),
+                self.site.len(),
+                self.links.as_mut_ptr(),
+                self.links.len(),
+                steps,
+                &mut used,
+            )
+        };
+        match number.checked_sub(200) {
+            Some(why) => Ok(Run::Stopped(refusal(why), used)),
+            None => done(number).map(|()| Run::Ran(used)),
+        }
+    }
 }
 
 impl<'a> Site<'a> {
@@ -753,4 +869,61 @@ pub fn own_unheard(row: &[u64], s: Setting) -> Result<u32, Refusal> {
         )
     })?;
     Ok(set)
+}
+
+/// The bodies of an image, in order and without copying: general, boxes 1 to n, mail. The image is
+/// looked at once, when the reader is made.
+#[derive(Clone, Debug)]
+pub struct Bodies<'a> {
+    image: &'a [u8],
+    next: u32,
+}
+
+impl<'a> Bodies<'a> {
+    /// A reader of these bytes: `Refusal::Form` where they are no site's image.
+    pub fn open(image: &'a [u8]) -> Result<Self, Refusal> {
+        body(image, 1)?;
+        Ok(Bodies { image, next: 1 })
+    }
+}
+
+impl<'a> Iterator for Bodies<'a> {
+    type Item = &'a [u8];
+
+    /// The next body; none after the last, each time.
+    fn next(&mut self) -> Option<&'a [u8]> {
+        let (mut begin, mut length) = (0, 0);
+        let image = self.image;
+        // SAFETY: the slice is the library's to read, and both numbers its to write.
+        let number = unsafe {
+            c::journal_named(
+                image.as_ptr(),
+                image.len(),
+                &mut begin,
+                &mut length,
+                self.next,
+            )
+        };
+        done(number).ok()?;
+        self.next += 1;
+        Some(&image[begin..begin + length])
+    }
+}
+
+/// Body k of an image, from 1: `Refusal::Form` where the bytes are no site's image,
+/// `Refusal::Condition` where k is no body's number.
+pub fn body(image: &[u8], k: u32) -> Result<&[u8], Refusal> {
+    let (mut begin, mut length) = (0, 0);
+    // SAFETY: as above.
+    let number = unsafe {
+        c::journal_body(
+            image.as_ptr(),
+            image.len(),
+            &mut begin,
+            &mut length,
+            k,
+        )
+    };
+    done(number)?;
+    Ok(&image[begin..begin + length])
 }

@@ -78,10 +78,44 @@ fn main() {
     assert_eq!(s.elect(1), Err(Refusal::Majority));
     s.come_back(2).unwrap();
     s.holds(1, 1, 71, 72).unwrap();
+    assert_eq!(s.agreed(3), Err(Refusal::Box));
+    let (one, two) = (s.agreed(1).unwrap(), s.agreed(2).unwrap());
+    assert_eq!(one, (1, &[71 << 32 | 72][..]));
+    assert_eq!(two, (1, &[][..]));
+    assert!(std::ptr::eq(longer(one.1, two.1).unwrap(), one.1));
+    assert!(std::ptr::eq(longer(two.1, one.1).unwrap(), one.1));
+    assert!(std::ptr::eq(
+        longer(one.1, &[71 << 32 | 72]).unwrap(),
+        one.1
+    ));
+    assert_eq!(longer(one.1, &[1, 2]), Err(Refusal::Differs));
+    assert_eq!(from_first(&[7, 8, 9], 4, 6), [9]);
+    assert_eq!(from_first(&[7, 8, 9], 4, 3), [7, 8, 9]);
+    assert_eq!(from_first(&[7, 8, 9], 4, 8), []);
     assert_eq!(s.trim(3, 2), Err(Refusal::Box));
     assert_eq!(s.trim(1, 2), Err(Refusal::Condition));
     drop(s);
     assert_eq!(Site::of(&mut site, &mut links).holds(1, 1, 71, 72), Ok(()));
+
+    // of two boxes, one with a load that the other has not: recover, collect, Collect, Last, Commit,
+    // ready, Lease, LeaseAck, heard
+    let mut s = Site::of(&mut site, &mut links);
+    assert_eq!(s.run(200), Err(Refusal::Condition));
+    s.elect(1).unwrap();
+    assert_eq!(s.run(0), Ok(Run::Ran(0)));
+    assert_eq!(s.run(4), Ok(Run::Ran(4)));
+    assert_eq!(s.run(200), Ok(Run::Ran(5)));
+    assert_eq!(s.run(200), Ok(Run::Ran(0)));
+    s.holds(2, 1, 71, 72).unwrap();
+    s.timeout(1).unwrap();
+    s.elect(2).unwrap();
+    drop(s);
+    let promise = std::mem::replace(&mut site[5 + 38 + 3], 999_999_902);
+    let mut s = Site::of(&mut site, &mut links);
+    assert_eq!(s.run(200), Ok(Run::Stopped(Refusal::NewPn, 0)));
+    drop(s);
+    site[5 + 38 + 3] = promise;
+    assert_eq!(Site::of(&mut [], &mut []).run(200), Err(Refusal::Form));
 
     let s = Site::of(&mut site, &mut links);
     let length = s.image_length().unwrap();
@@ -103,6 +137,18 @@ fn main() {
     let mut again = vec![0u8; length];
     assert_eq!(s.write(&mut again), Ok(length));
     assert_eq!(again, image[..length]);
+    assert_eq!(Bodies::open(&image).err(), Some(Refusal::Form));
+    assert_eq!(body(&image, 1), Err(Refusal::Form));
+    let mut reader = Bodies::open(&again).unwrap();
+    let all: Vec<&[u8]> = reader.by_ref().collect();
+    assert_eq!((reader.next(), reader.next()), (None, None));
+    assert_eq!((all.len(), all[0].len()), (4, 20));
+    assert_eq!([&again[..36], &all.concat()].concat(), again);
+    for (k, one) in (1..).zip(&all) {
+        assert_eq!(body(&again, k), Ok(*one));
+    }
+    assert_eq!(body(&again, 0), Err(Refusal::Condition));
+    assert_eq!(body(&again, 5), Err(Refusal::Condition));
 
     let (mut row, mut peer) = ([7u64; 26], [9u64; 26]);
     let (mut letter, mut out) = ([0u64; 10], [0u64; 10]);

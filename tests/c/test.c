@@ -109,6 +109,17 @@ static void settle_own(int line, const char *what, uint32_t got, uint32_t want, 
         check(__LINE__, "the silent boxes", set, boxes);                                           \
         check(__LINE__, "site stays", stays(site, 0) && stays(links, 0), 1);                       \
     } while (0)
+/* A run: where it is refused, and where no step is used, every word stays, and where it is refused
+ * the number behind `used` too. */
+#define RUN(want, steps, count)                                                                    \
+    do {                                                                                           \
+        uint32_t used = 77;                                                                        \
+        keep(site), keep(links);                                                                   \
+        uint32_t got = journal_run(ON, steps, &used);                                              \
+        settle(__LINE__, "run " #steps, got, want);                                                \
+        check(__LINE__, "the steps used", used, is_refusal(want) ? 77 : count);                    \
+        if (count == 0) check(__LINE__, "site stays", stays(site, 0) && stays(links, 0), 1);       \
+    } while (0)
 #define WORD(array, at, want) check(__LINE__, #array " " #at, array.words[at], want)
 
 static void lend_site(uint32_t n, uint32_t j, uint32_t l) {
@@ -160,6 +171,7 @@ static void short_arrays(void) {
         SITE(JOURNAL_FORM, journal_trim(ON, 9, 0));
         SITE(JOURNAL_FORM, journal_heard(ON, 9));
         SILENT(JOURNAL_FORM, 9, 77);
+        RUN(JOURNAL_FORM, 200, 77);
         SITE(JOURNAL_FORM, journal_holds(ON, 9, 0, 0, 0));
     }
     site.lent = 83, links.lent = 132;
@@ -548,6 +560,64 @@ static void mails(void) {
     release_site();
 }
 
+/* The run after an election, at its edges: no step, one, all; and what stops it. Of two boxes that
+ * have nothing it is recover, collect, Collect, Last, ready, Lease, LeaseAck, heard. */
+static void runs(void) {
+    lend_site(2, 1, 2);
+    RUN(JOURNAL_FORM, 200, 77); /* words of 0 are no site */
+    SITE(JOURNAL_DONE, journal_fresh(ON, 2, 1, 2));
+    RUN(JOURNAL_CONDITION, 200, 77);
+    RUN(JOURNAL_CONDITION, 0, 77);
+    SITE(JOURNAL_DONE, journal_elect(ON, 1));
+    RUN(JOURNAL_DONE, 0, 0);
+    RUN(JOURNAL_DONE, 1, 1);
+    WORD(site, 5 + 2, 1), WORD(site, 5 + 3, 1);
+    RUN(JOURNAL_DONE, 2, 2);
+    WORD(links, 1, 0), WORD(links, 16 + 1, 1); /* the Last is under way */
+    RUN(JOURNAL_DONE, UINT32_MAX, 5);
+    WORD(site, 5 + 1, 1), WORD(site, 5 + 2, 6), WORD(site, 5 + 23 + 1, 1);
+    RUN(JOURNAL_DONE, 200, 0);
+    /* A load that waits is the crew's: the run does not propose it, and agrees one that is begun. */
+    SITE(JOURNAL_DONE, journal_offer(ON, 1, 71, 72));
+    RUN(JOURNAL_DONE, 200, 0);
+    SITE(JOURNAL_DONE, journal_propose(ON, 1));
+    RUN(JOURNAL_DONE, 200, 8); /* Begin, Accept, agree, Commit, finish, Lease, LeaseAck, heard */
+    SITE(JOURNAL_DONE, journal_holds(ON, 2, 1, 71, 72));
+    /* 8: two answers to a Lease fill the link back, and one is there already. */
+    SITE(JOURNAL_DONE, journal_timeout(ON, 1));
+    SITE(JOURNAL_DONE, journal_elect(ON, 1));
+    RUN(JOURNAL_DONE, 5, 5);
+    SITE(JOURNAL_DONE, journal_repeat(ON, 1, 2));
+    SITE(JOURNAL_TAKEN, journal_deliver(ON, 1, 2));
+    SITE(JOURNAL_DONE, journal_repeat(ON, 1, 2));
+    RUN(JOURNAL_STOPPED + JOURNAL_LINK, 200, 1);
+    WORD(links, 1, 1), WORD(links, 16 + 1, 2);
+    RUN(JOURNAL_STOPPED + JOURNAL_LINK, 200, 0);
+    RUN(JOURNAL_DONE, 0, 0); /* a step is not tried where none is left */
+    SITE(JOURNAL_LINK, journal_deliver(ON, 1, 2));
+    /* A discarded mail was handed over: an answer to no lease. */
+    SITE(JOURNAL_TAKEN, journal_deliver(ON, 2, 1));
+    RUN(JOURNAL_DONE, 200, 4); /* Lease, two LeaseAcks, heard */
+    post(6, 0, 0, 0);
+    RUN(JOURNAL_DONE, 1, 1);
+    WORD(links, 1, 0);
+    /* 7: a Begin that box 2 has no room for. */
+    post(3, site.words[5 + 23 + 3], 1, 1);
+    RUN(JOURNAL_STOPPED + JOURNAL_BOOK, 200, 0);
+    links.words[1] = 0;
+    /* 6: no new number is left. */
+    SITE(JOURNAL_DONE, journal_timeout(ON, 1));
+    RUN(JOURNAL_CONDITION, 200, 77);
+    SITE(JOURNAL_DONE, journal_elect(ON, 2));
+    site.words[5 + 23 + 3] = 999999902;
+    RUN(JOURNAL_STOPPED + JOURNAL_NEW_PN, 200, 0);
+    site.words[5 + 23 + 3] = 999999901;
+    RUN(JOURNAL_DONE, 200, 8);
+    site.words[5 + 23 + 1] = UINT64_MAX; /* its state */
+    RUN(JOURNAL_FORM, 200, 77);
+    release_site();
+}
+
 /* Two boxes by themselves, whose letters are carried by copying them. */
 static void own_boxes(void) {
     enum { J = 4, EVEN = 2, ODD = 3, BOTH = 3 };
@@ -825,6 +895,12 @@ static void largest(void) {
     SITE(JOURNAL_DONE, journal_finish(ON, 1));
     links.words[1] = 17;
     SITE(JOURNAL_FORM, journal_finish(ON, 1));
+    /* Box 5 leads four that have nothing: each Last brings a Commit to it and to those before it. */
+    SITE(JOURNAL_DONE, journal_fresh(ON, 5, 4096, 16));
+    put_book(4096, 5, 4095);
+    SITE(JOURNAL_DONE, journal_elect(ON, 5));
+    RUN(JOURNAL_DONE, UINT32_MAX, 30);
+    for (uint32_t b = 1; b <= 5; b++) SITE(JOURNAL_DONE, journal_holds(ON, b, 4095, 4095, 4095));
     release_site();
 }
 
@@ -836,6 +912,7 @@ static void one_box(void) {
     check(__LINE__, "links words", journal_links_words(1, 1, 1), 0);
     SITE(JOURNAL_DONE, journal_fresh(ON, 1, 1, 1));
     SITE(JOURNAL_DONE, journal_elect(ON, 1));
+    RUN(JOURNAL_DONE, 200, 0); /* it is active at once */
     SITE(JOURNAL_DONE, journal_offer(ON, 1, 1, UINT32_MAX));
     SITE(JOURNAL_DONE, journal_propose(ON, 1));
     SITE(JOURNAL_DONE, journal_agree(ON, 1));
@@ -892,6 +969,31 @@ static void measure(int line, uint32_t want, size_t length) {
     check(line, "length", bytes, length);
 }
 
+/* The bodies of the image of n boxes, by both functions, lie in order without gaps from its table to
+ * its end; no other number has one, and a refused call leaves what is lent. */
+static void walk_bodies(int line, uint32_t n) {
+    size_t at = 4 + 8 * (n + 2), begin = 77, length = 78, again = 79, long_again = 80;
+    for (uint32_t k = 1; k <= n + 2; k++) {
+        check(line, "body", journal_body(image, bytes, &begin, &length, k), JOURNAL_DONE);
+        check(line, "named", journal_named(image, bytes, &again, &long_again, k), JOURNAL_DONE);
+        check(line, "begin", begin, at);
+        check(line, "the same", begin == again && length == long_again, 1);
+        at += length;
+    }
+    check(line, "end", at, bytes);
+    begin = 77, length = 78;
+    uint32_t none[] = {0, n + 3, n + 4, 8, 4294967295u};
+    for (int i = 0; i < 5; i++) {
+        check(line, "no body", journal_body(image, bytes, &begin, &length, none[i]),
+              JOURNAL_CONDITION);
+        check(line, "none named", journal_named(image, bytes, &begin, &length, none[i]),
+              JOURNAL_CONDITION);
+    }
+    check(line, "no image", journal_body(image, bytes - 1, &begin, &length, 1), JOURNAL_FORM);
+    check(line, "no bytes", journal_named(image, 0, &begin, &length, 1), JOURNAL_CONDITION);
+    check(line, "both stay", begin == 77 && length == 78, 1);
+}
+
 static void images(void) {
     image = malloc(1024), image_before = malloc(1024);
     lend_site(1, 1, 1);
@@ -900,6 +1002,7 @@ static void images(void) {
     measure(__LINE__, JOURNAL_DONE, 132);
     write_image(__LINE__, JOURNAL_DONE, 1024, 1024);
     read_back(__LINE__, 1, 1, 1);
+    walk_bodies(__LINE__, 1);
     release_site();
     lend_site(3, 4, 2);
     write_image(__LINE__, JOURNAL_FORM, 0, 1024);
@@ -918,6 +1021,7 @@ static void images(void) {
     measure(__LINE__, JOURNAL_DONE, 364 + 2 * 20);
     write_image(__LINE__, JOURNAL_DONE, bytes, 1024);
     read_back(__LINE__, 3, 4, 2);
+    walk_bodies(__LINE__, 3);
     int others = 0, larger = 0;
     for (size_t k = 0; k < bytes; k++)
         for (int bit = 0; bit < 8; bit++) {
@@ -970,6 +1074,53 @@ static void longest_image(void) {
     free(image), free(image_before);
 }
 
+/* Where the list of box c stands: its first number, its place, how many; the question leaves every
+ * word, and where it is refused the three numbers too. */
+static void list_of(int line, uint32_t want, uint32_t c, uint64_t first, size_t at, size_t count) {
+    uint64_t f = 77;
+    size_t p = 78, m = 79;
+    keep(site), keep(links);
+    check(line, "agreed", journal_agreed(ON, c, &f, &p, &m), want);
+    check(line, "the first number", f, first);
+    check(line, "the place", p, at);
+    check(line, "how many", m, count);
+    check(line, "site stays", stays(site, 0) && stays(links, 0), 1);
+}
+
+/* Two lists out of one array, by their places and lengths. */
+static void longer_of(int line, uint32_t want, const uint64_t *a, size_t n, const uint64_t *b,
+                      size_t m) {
+    check(line, "longer", journal_longer(a, n, b, m), want);
+}
+
+/* The lists of a site's boxes, and the longer of two lists. */
+static void lists(void) {
+    const uint64_t long_one[] = {5, 6, 7, 8}, other[] = {5, 9, 7};
+    longer_of(__LINE__, 1, long_one, 0, other, 0);
+    longer_of(__LINE__, 1, long_one, 4, long_one, 4);
+    longer_of(__LINE__, 1, long_one, 4, long_one, 0);
+    longer_of(__LINE__, 1, long_one, 4, other, 1);
+    longer_of(__LINE__, 2, other, 0, long_one, 1);
+    longer_of(__LINE__, 2, long_one, 3, long_one, 4);
+    longer_of(__LINE__, JOURNAL_DIFFERS, long_one, 4, other, 3);
+    longer_of(__LINE__, JOURNAL_DIFFERS, other, 2, long_one, 4);
+    longer_of(__LINE__, JOURNAL_DIFFERS, long_one, 1, long_one + 1, 1);
+
+    lend_site(2, 2, 4);
+    list_of(__LINE__, JOURNAL_FORM, 1, 77, 78, 79);
+    journal_fresh(ON, 2, 2, 4);
+    list_of(__LINE__, JOURNAL_BOX, 0, 77, 78, 79);
+    list_of(__LINE__, JOURNAL_BOX, 3, 77, 78, 79);
+    list_of(__LINE__, JOURNAL_DONE, 1, 1, 27, 0);
+    put_kept(1, 1, 2, 0);
+    put_kept(2, 2, 2, 1);
+    list_of(__LINE__, JOURNAL_DONE, 1, 1, 27, 2);
+    list_of(__LINE__, JOURNAL_DONE, 2, 2, 51, 1);
+    /* from number 2 on: one record of each */
+    longer_of(__LINE__, 1, site.words + 28, 1, site.words + 51, 1);
+    release_site();
+}
+
 int main(void) {
     word_counts();
     short_arrays();
@@ -979,12 +1130,14 @@ int main(void) {
     leases();
     trims();
     mails();
+    runs();
     own_boxes();
     told_boxes();
     largest();
     one_box();
     images();
     longest_image();
+    lists();
     printf("%d checks, %d failures\n", checks, failures);
     return failures != 0;
 }

@@ -2,3 +2,5 @@
 pub mod NumberedLaws
 pub mod SizeLaws
 pub mod Once
+pub mod Soon
+pub mod BodiesOnce

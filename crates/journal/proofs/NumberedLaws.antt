@@ -1,18 +1,43 @@
 -- An answer and its number: what an entry promises of its answer, it promises of the outcome's.
-use Prim.Native.Nat.{ℕ}
-use mathlib.Core.Path.{_≡_, ap, _∙_, subst}
+use Prim.Native.Nat.{ℕ, _≤_}
+use mathlib.Core.Path.{_≡_, refl, ap, _∙_, subst}
 use mathlib.Core.Bool.{Bool, cond}
 use mathlib.Core.List.{List}
-use Rattle.rules.specs.Numbers.{answerNumber}
+use native.Mathlib.Omega.{arith}
+use Rattle.rules.specs.Numbers.{answerNumber, refusalNumber}
 use Rattle.rules.specs.Answers.{isRefusal}
 use Rattle.rules.specs.Own.{OwnOutcome}
 use Rattle.rules.specs.declared.model.Answer.{Answer}
 use Rattle.rules.specs.declared.model.Call.{Call}
+use Rattle.rules.specs.declared.model.Refusal.{Refusal}
 use Rattle.rules.specs.declared.model.Setting.{Setting}
 use Rattle.site.specs.Entries.{After, FreshMade, stepOn}
 use Rattle.own.specs.Entry.{Owned, Told}
 use Rattle.own.specs.Lent.{StillReads}
 use Rattle.journal.specs.Numbered.{Stepped, Freshened, Alone, ToldAlone}
+
+-- a refusal's number is none of an answer that is done, of a mail's or of a stopped run's
+pub refusal-number : (why : Refusal) → (1 ≤ refusalNumber why) × (refusalNumber why ≤ 14)
+refusal-number Refusal.Sizes = (omega arith, omega arith)
+refusal-number Refusal.Form = (omega arith, omega arith)
+refusal-number Refusal.Box = (omega arith, omega arith)
+refusal-number Refusal.Frame = (omega arith, omega arith)
+refusal-number Refusal.Condition = (omega arith, omega arith)
+refusal-number Refusal.Majority = (omega arith, omega arith)
+refusal-number Refusal.Epoch = (omega arith, omega arith)
+refusal-number Refusal.NewPn = (omega arith, omega arith)
+refusal-number Refusal.Book = (omega arith, omega arith)
+refusal-number Refusal.Link = (omega arith, omega arith)
+refusal-number Refusal.Buffer = (omega arith, omega arith)
+refusal-number Refusal.Untrue = (omega arith, omega arith)
+refusal-number Refusal.Line = (omega arith, omega arith)
+
+-- no other answer has the number 0
+pub done-only : (a : Answer) → answerNumber a ≡ 0 → a ≡ Answer.Done
+done-only Answer.Done e = refl
+done-only Answer.Taken e = absurd (omega (arith, e))
+done-only (Answer.Discarded why) e = absurd (omega (arith, e))
+done-only (Answer.Refused why) e = absurd (omega (arith, e, refusal-number why .0))
 
 pub stepped : {d : Call} {xs ls xs' ls' : List ℕ} {a : Answer} {r : ℕ}
     → After (stepOn xs ls d) xs ls xs' ls' a → r ≡ answerNumber a → Stepped d xs ls xs' ls' r

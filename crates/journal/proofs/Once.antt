@@ -21,7 +21,13 @@ use Rattle.reader.proofs.Once as reader
 use Rattle.journal.specs.Numbered.{Stepped, Freshened, Alone, ToldAlone}
 use Rattle.journal.specs.Images.{writtenNumber, writtenLength}
 use Rattle.journal.specs.Images.{LengthAnswered, WriteAnswered, ReadAnswered}
+use Rattle.agreed.specs.declared.Agreed.{Agreed}
+use Rattle.journal.specs.Longer.{agreedNumber, agreedFirst, agreedPlace, agreedMany}
+use Rattle.journal.specs.Longer.{AgreedAnswered}
 use Rattle.journal.specs.Unheard.{unheardNumber, unheardSet, UnheardAnswered}
+use Rattle.until.specs.Until.{runOn}
+use Rattle.until.proofs.Once as until
+use Rattle.journal.specs.Run.{runNumber, runUsed, RunAnswered}
 
 pub stepped-once : {d : Call} {xs ls ys ms zs ns : List ℕ} {r q : ℕ}
     → Stepped d xs ls ys ms r → Stepped d xs ls zs ns q
@@ -57,6 +63,27 @@ unheard-once {w = w} p q =
     let e = p .is ∙ sym (q .is) in (
       p .number ∙ ap unheardNumber e ∙ sym (q .number),
       p .set ∙ ap (λ u. unheardSet u w) e ∙ sym (q .set),
+    )
+
+pub agreed-once : {a : Agreed} {f p m g k n h l o r q : ℕ} → AgreedAnswered a f p m g k n r
+    → AgreedAnswered a f p m h l o q → (r ≡ q) × (g ≡ h) × (k ≡ l) × (n ≡ o)
+agreed-once {f = f} {p = p} {m = m} u v =
+    let e = u .is ∙ sym (v .is) in (
+      u .number ∙ ap agreedNumber e ∙ sym (v .number),
+      u .first ∙ ap (λ a. agreedFirst a f) e ∙ sym (v .first),
+      u .place ∙ ap (λ a. agreedPlace a p) e ∙ sym (v .place),
+      u .many ∙ ap (λ a. agreedMany a m) e ∙ sym (v .many),
+    )
+
+pub run-once : {steps : ℕ} {xs ls ys ms zs ns : List ℕ} {u t v r q : ℕ}
+    → (p : RunAnswered steps xs ls ys ms u t r) → (h : RunAnswered steps xs ls zs ns u v q)
+    → (r ≡ q) × (t ≡ v)
+    × until.Same (runOn xs ls steps .next) ys ms zs ns (p .answer) (h .answer)
+run-once {u = u} p h =
+    let e = until.once (p .after) (h .after) in (
+      p .number ∙ ap runNumber (e .answer) ∙ sym (h .number),
+      p .used ∙ ap (λ a. runUsed a u) (e .answer) ∙ sym (h .used),
+      e,
     )
 
 -- the number and the length of one answer

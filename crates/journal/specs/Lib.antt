@@ -2,3 +2,7 @@
 pub mod Numbered
 pub mod Images
 pub mod Unheard
+pub mod Longer
+pub mod Run
+pub mod Soon
+pub mod Bodies

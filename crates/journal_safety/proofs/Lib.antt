@@ -1,2 +1,3 @@
 -- Demand 3 of the functions for C.
+pub mod Ran
 pub mod Numbered

@@ -1,5 +1,5 @@
 -- Words that `journal_fresh` made, and any calls of the other functions for C since, refused ones
--- too, the site stored by `journal_write` and loaded by `journal_read` in between.
+-- too, runs among them, the site stored by `journal_write` and loaded by `journal_read` in between.
 use Prim.Native.Nat.{ℕ}
 use mathlib.Core.Path.{_≡_}
 use mathlib.Core.List.{List, [], _∷_}
@@ -10,9 +10,12 @@ use Rattle.laws.specs.Frames.{CallFits}
 use Rattle.site.specs.Entries.{holdsOn}
 use Rattle.journal.specs.Numbered.{Stepped, Freshened}
 use Rattle.journal.specs.Images.{WriteAnswered, ReadAnswered}
+use Rattle.journal.specs.Run.{RunAnswered}
+use Rattle.memory.specs.Memory.{siteOf}
 use Rattle.said.specs.Said.{Said, called, held, calls}
 use Rattle.said.specs.Demand3.{Demand3}
 use Rattle.engine_safety.specs.Served.{firstsIn}
+use Rattle.journal_safety.specs.Ran.{saidRun}
 
 -- what was said since, each answer by the number that was returned, and the words now. By the
 -- contracts of the functions a program that calls them has just this. Frame numbers are numbers of
@@ -24,6 +27,10 @@ pub data Called (n J L : ℕ) : List (Said ℕ) → List ℕ → List ℕ → Ty
   asked : {h : List (Said ℕ)} {xs ls : List ℕ} {r : ℕ} (b k left right : ℕ) → Called n J L h xs ls
       → r ≡ answerNumber (holdsOn xs ls b k left right)
       → Called n J L (held b k left right r ∷ h) xs ls
+  -- a run: the steps that it does are said
+  ran : {h : List (Said ℕ)} {xs ls xs' ls' : List ℕ} {u u' r : ℕ} (steps : ℕ)
+      → Called n J L h xs ls → RunAnswered steps xs ls xs' ls' u u' r
+      → Called n J L (saidRun answerNumber steps (siteOf xs ls) h) xs' ls'
   -- the length that was returned, as many bytes of the buffer, were read into other words
   stored : {h : List (Said ℕ)} {xs ls out out' us vs us' vs' : List ℕ} {len len' : ℕ}
       → Called n J L h xs ls → WriteAnswered xs ls out out' len len' 0
