@@ -18,6 +18,8 @@ static u32 plain_write(u8 *image, u64 length) {
 
 static u32 plain_read(const u8 *image, u64 length) { return image_read(&site, image, length); }
 
+static u32 plain_run(u32 steps, u32 *used) { return run(&site, steps, used); }
+
 static u32 formed_step(u32 call, u32 a, u32 b, u32 c) {
     return by_form(&site) ? step(&site, call, a, b, c) : 1;
 }
@@ -26,8 +28,18 @@ static u32 formed_write(u8 *image, u64 length) {
     return by_form(&site) ? plain_write(image, length) : 1;
 }
 
-const struct engine FORMED = {plain_fresh, formed_step, formed_write, plain_read};
-const struct engine PLAIN = {plain_fresh, plain_step, plain_write, plain_read};
+static u32 formed_run(u32 steps, u32 *used) {
+    return by_form(&site) ? plain_run(steps, used) : 1;
+}
+
+static u64 plain_length(void) { return image_length(&site); }
+
+static u64 formed_length(void) { return by_form(&site) ? image_length(&site) : 0; }
+
+const struct engine FORMED = {plain_fresh, formed_step, formed_write,
+                              plain_read,  formed_run,  formed_length};
+const struct engine PLAIN = {plain_fresh, plain_step, plain_write,
+                             plain_read,  plain_run,  plain_length};
 
 static u64 *boxes, *links, box_words, link_words;
 
@@ -74,4 +86,12 @@ static u32 journal_reads(const u8 *image, u64 length) {
     return journal_read(image, length, LENT);
 }
 
-const struct engine JOURNAL = {journal_begin, journal_call, journal_writes, journal_reads};
+static u32 journal_runs(u32 steps, u32 *used) { return journal_run(LENT, steps, used); }
+
+static u64 journal_length(void) {
+    u64 length = 0;
+    return journal_image_length(LENT, &length) == DONE ? length : 0;
+}
+
+const struct engine JOURNAL = {journal_begin, journal_call, journal_writes,
+                               journal_reads, journal_runs, journal_length};

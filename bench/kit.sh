@@ -36,8 +36,9 @@ build() { # NAME FLAGS.. FILE.c.. [ARCHIVE]
         *) flags="$flags $part" ;;
         esac
     done
+    # -z now: the loader binds memcpy before the program begins, and not on the stack of its first call
     # shellcheck disable=SC2086
-    "$tools/bin/ld.lld" -pie --dynamic-linker /lib64/ld-linux-x86-64.so.2 -o "$program" \
+    "$tools/bin/ld.lld" -pie -z now --dynamic-linker /lib64/ld-linux-x86-64.so.2 -o "$program" \
         "$lib/Scrt1.o" "$lib/crti.o" "$lib/crtbeginS.o" $objects \
         "$lib/libc.so.6" "$lib/libc_nonshared.a" "$lib/libgcc.a" "$lib/crtendS.o" "$lib/crtn.o"
 }

@@ -7,7 +7,7 @@ void *memchr(const void *in, int byte, u64 count);
 int memcmp(const void *a, const void *b, u64 count);
 
 #define INPUT (2 * 65536 + LONGEST_LINE + 2)
-#define OUTPUT (1 << 20)
+#define OUTPUT (1 << 25)
 
 static u8 in[INPUT], out[OUTPUT];
 static u64 out_used;
@@ -54,6 +54,24 @@ static const struct {
 };
 #define WORD_COUNT (sizeof WORDS / sizeof *WORDS)
 
+/* Behind the decimal of at most 32 bits that begins at p; 0 where there is none. */
+static const u8 *read_number(u32 *number, const u8 *p, const u8 *end) {
+    const u8 *first = p;
+    u64 value = 0;
+    for (; p < end && *p >= '0' && *p <= '9'; p++) {
+        value = value * 10 + (*p - '0');
+        if (value > 4294967295u) return 0;
+    }
+    if (p == first || (*first == '0' && p > first + 1)) return 0;
+    *number = (u32)value;
+    return p;
+}
+
+u32 read_run(u32 *steps, const u8 *p, u64 length) {
+    if (!p || length > LONGEST_LINE || length < 5 || memcmp(p, "run ", 4) != 0) return 0;
+    return read_number(steps, p + 4, p + length) == p + length;
+}
+
 u32 read_line(struct line *line, const u8 *p, u64 length) {
     u32 w, numbers[4] = {0, 0, 0, 0};
     if (!p || length > LONGEST_LINE) return 0;
@@ -66,14 +84,8 @@ u32 read_line(struct line *line, const u8 *p, u64 length) {
     p = space;
     for (u32 k = 0; k < WORDS[w].numbers; k++) {
         if (p == end || *p++ != ' ') return 0;
-        const u8 *first = p;
-        u64 value = 0;
-        for (; p < end && *p >= '0' && *p <= '9'; p++) {
-            value = value * 10 + (*p - '0');
-            if (value > 4294967295u) return 0;
-        }
-        if (p == first || (*first == '0' && p > first + 1)) return 0;
-        numbers[k] = (u32)value;
+        p = read_number(&numbers[k], p, end);
+        if (!p) return 0;
     }
     line->call = WORDS[w].call;
     line->a = numbers[0], line->b = numbers[1], line->c = numbers[2], line->d = numbers[3];

@@ -19,6 +19,8 @@ u8 *put_number(u8 *p, u64 number);
 
 /* 1 where the bytes are a readable line; no bytes (0) stand for a line too long or unended. */
 u32 read_line(struct line *line, const u8 *p, u64 length);
+/* 1 where the bytes are `run STEPS`, which is no line of a trace. */
+u32 read_run(u32 *steps, const u8 *p, u64 length);
 u32 answer_line(struct site *s, const struct line *line);
 u32 is_refusal(u32 answer);
 

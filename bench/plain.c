@@ -385,3 +385,31 @@ u32 holds(const struct site *s, u32 c, u32 k, u32 left, u32 right) {
     u64 r = (u64)left << 32 | right;
     return k >= b->first && k <= b->last && b->records[k - b->first] == r ? DONE : 14;
 }
+
+/* The head of the first link with mail, by sender and then receiver, or else the leader's own step
+   that is not refused 3; 3 where there is none. */
+static u32 turn(struct site *s) {
+    static const u32 CALLS[] = {RECOVER, COLLECT_CALL, READY, AGREE, FINISH, HEARD};
+    for (u32 a = 1; a <= s->n; a++)
+        for (u32 b = 1; b <= s->n; b++)
+            if (a != b && link_of(s, a, b)->count) return deliver(s, a, b);
+    for (u32 c = 1; c <= s->n; c++) {
+        if (!at(s, c)->leads) continue;
+        for (u32 i = 0; i < sizeof CALLS / sizeof *CALLS; i++) {
+            u32 answer = step(s, CALLS[i], c, 0, 0);
+            if (answer != 3) return answer;
+        }
+        return 3;
+    }
+    return 3;
+}
+
+u32 run(struct site *s, u32 steps, u32 *used) {
+    if (s->epoch % 2) return 3;
+    for (*used = 0; *used < steps; ++*used) {
+        u32 answer = turn(s);
+        if (answer == 3) return DONE;
+        if (answer != DONE && answer < TAKEN) return STOPPED + answer;
+    }
+    return DONE;
+}

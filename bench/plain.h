@@ -24,7 +24,7 @@ enum { ELECTION, SEND_COLLECT, COLLECT_PHASE, LEASE_PHASE, BEGIN_PHASE, COMMIT_P
 enum { COLLECT = 1, LAST, BEGIN, ACCEPT, COMMIT, LEASE, LEASE_ACK };
 enum { ELECT, RECOVER, COLLECT_CALL, READY, PROPOSE, AGREE, FINISH, HEARD, STOP, RETURN, TIMEOUT,
        OFFER, TRIM, LOSE, REPEAT, DELIVER, HOLDS, SITE };
-enum { DONE = 0, TAKEN = 100, ROLE, PHASE, NUMBER, PLACE };
+enum { DONE = 0, TAKEN = 100, ROLE, PHASE, NUMBER, PLACE, STOPPED = 200 };
 
 struct mail {
     u32 kind, pn, last, first, unagreed_pn, count;
@@ -62,6 +62,9 @@ struct site {
 void fresh(struct site *s, u32 n, u32 j, u32 l);
 u32 step(struct site *s, u32 call, u32 c, u32 x, u32 y);
 u32 holds(const struct site *s, u32 c, u32 k, u32 left, u32 right);
+/* The run after an election: 0, or 3, or STOPPED and the number of the refusal that stopped it; not
+   where it is 3, *used has the steps. */
+u32 run(struct site *s, u32 steps, u32 *used);
 
 u32 by_form(const struct site *s);
 

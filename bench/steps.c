@@ -1,5 +1,8 @@
 /* Times steps, image writes and image reads of the plain C engine and of the journal library: one
-   line each, 'NAME<tab>plain<tab>journal' in nanoseconds, the medians of rounds in turn. */
+   line each, 'NAME<tab>plain<tab>journal' in nanoseconds, the medians of rounds in turn.
+
+   steps plain|formed|journal write|read|length|form n J L TIMES: an image's part so many times and
+   nothing else, for a tool that counts instructions. */
 #include "plain.h"
 #include "engines.h"
 
@@ -86,6 +89,14 @@ static void do_block(const struct engine *e) {
 static void do_election(const struct engine *e) {
     calls(e, TIMEOUT, 1, 0, 0);
     election(e);
+}
+/* An election and the run after it: 4n steps. A small site begins anew before its last epoch. */
+static u32 elections[2];
+static void do_run(const struct engine *e) {
+    u32 *k = &elections[e == &JOURNAL], used = 0;
+    if (++*k == 400000) *k = 0, do_life(e);
+    calls(e, TIMEOUT, 1, 0, 0), calls(e, ELECT, 1, 0, 0);
+    must(e->run(200, &used) == DONE && used == 4 * n, "a run");
 }
 static void do_read(const struct engine *e) { must(e->read(image, length) == DONE, "a read"); }
 static void do_write(const struct engine *e) { must(e->write(image, length) == DONE, "a write"); }
@@ -205,12 +216,45 @@ static void measure_growth(void) {
     }
 }
 
+static u32 number(const char *text) {
+    u32 x = 0;
+    while (*text) x = 10 * x + (u32)(*text++ - '0');
+    return x;
+}
+
+static void do_length(const struct engine *e) { must(e->length() == length, "a length"); }
+/* What comes before a write too, and little else. */
+static void do_form(const struct engine *e) { must(e->step(LOSE, 1, 1, 0) == 2, "a call"); }
+
+/* Boxes whose books are full, as are the links. */
+static void repeat(char **word) {
+    const struct engine *e = *word[1] == 'p' ? &PLAIN : *word[1] == 'f' ? &FORMED : &JOURNAL;
+    void (*act)(const struct engine *) = *word[2] == 'w'   ? do_write
+                                         : *word[2] == 'r' ? do_read
+                                         : *word[2] == 'l' ? do_length
+                                                           : do_form;
+    u32 j = number(word[4]), l = number(word[5]);
+    n = number(word[3]);
+    must(PLAIN.fresh(n, j, l) == DONE && JOURNAL.fresh(n, j, l) == DONE, "a fresh site");
+    for (u32 c = 0; c < n; c++) {
+        struct camera *b = &site.boxes[c];
+        b->last = b->held = j;
+        for (u32 k = 0; k < j; k++) b->records[k] = (u64)1 << 32 | (k + 1);
+    }
+    fill_links();
+    take_image();
+    for (u32 i = number(word[6]); i; i--) act(e);
+}
+
 int main(int arguments, char **argument) {
-    (void)argument;
+    if (arguments == 7) return repeat(argument), 0;
     if (arguments > 1) return measure_growth(), 0;
     begin(3, 4, 2, 4);
     measure("step, 3 boxes, 4 loads", &PLAIN, do_life, 73);
     measure("the same, form looked at in C too", &FORMED, do_life, 73);
+    measure("election and run of 12 steps, 3 boxes, 4 loads", &PLAIN, do_run, 1);
+    measure("the same, form looked at in C too", &FORMED, do_run, 1);
+    begin(3, 4, 2, 4);
     take_image();
     measure("image write, 3 boxes, 4 loads", &PLAIN, do_write, 1);
     measure("the same, form looked at in C too", &FORMED, do_write, 1);
@@ -218,6 +262,9 @@ int main(int arguments, char **argument) {
     begin(5, 4096, 16, 4096);
     measure("step, 5 boxes, 4,096 loads", &PLAIN, do_election, 22);
     measure("the same, form looked at in C too", &FORMED, do_election, 22);
+    begin(5, 4096, 16, 4096);
+    measure("election and run of 20 steps, 5 boxes, 4,096 loads", &PLAIN, do_run, 1);
+    measure("the same, form looked at in C too", &FORMED, do_run, 1);
     fill_links();
     take_image();
     measure("image write, largest", &PLAIN, do_write, 1);
