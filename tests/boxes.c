@@ -1,5 +1,6 @@
 /* `apply` on the C library, twice: with every box by itself, this program carrying the mails, and
-   by the library's own calls on a site. Both must give the same, and it what `apply` prints. */
+   by the library's own calls on a site; a run at once, and step by step. Both must give the same, and
+   it what `apply` prints. */
 #include "apply.h"
 #include "engines.h"
 #include "journal.h"
@@ -148,6 +149,22 @@ u32 take_call(const struct line *line) {
     if (line->call != HOLDS) again = JOURNAL.step(line->call, line->a, line->b, line->c);
     if (answer != again || (is_refusal(answer) && !kept())) return DIFFERS;
     return answer;
+}
+
+/* The run of the library, and the same step by step: the site's words are one run's, the engine's
+   those of many. */
+u32 take_run(u32 steps, u32 *used) {
+    u32 answer = journal_run(LENT, steps, used), again = JOURNAL_DONE, one, sum = 0;
+    if (is_refusal(answer)) {
+        again = JOURNAL.run(steps, &sum);
+        return again == answer && sum == 0 && kept() ? answer : DIFFERS;
+    }
+    while (again == JOURNAL_DONE && sum < steps) {
+        again = JOURNAL.run(1, &one);
+        if (one == 0) break;
+        sum++;
+    }
+    return again == answer && sum == *used ? answer : DIFFERS;
 }
 
 u64 give_image(u8 *image) {

@@ -7,6 +7,7 @@ use crate::image;
 use crate::other::{Other, Run, Verdict};
 use crate::random::Random;
 use crate::rules::Call;
+use crate::run::{next_turn, usable};
 use crate::shrink::fewest;
 use crate::site::*;
 use crate::texts::*;
@@ -349,6 +350,82 @@ pub fn applies(other: &Other, seed: u64, count: u64, longest: usize) -> bool {
     let long: &[&str] = if longest > SHORT_IMAGE { &["long image"] } else { &[] };
     let others = [&answers[..], &words, &acks, &causes, &REFUSED, &FULL, &[WHOLE], long].concat();
     met.all(&[1, 2, 3, 4, 5, 6, 7, 8, 10, 11, 14], &others)
+}
+
+/// What a run's answer must have been, beside the refusals 1, 3 and 11.
+const RUNS: [&str; 8] = [
+    "ran",
+    "ran nothing",
+    "ran out of steps",
+    "stopped 6",
+    "stopped 7",
+    "stopped 8",
+    "stopped at once",
+    "usable",
+];
+
+/// What came of a run, in words; several may be true.
+fn came_of_run(line: &[u8], answer: &str) -> Vec<String> {
+    let words: Vec<_> = answer.split_ascii_whitespace().collect();
+    let after = || image_of(answer.as_bytes()).expect("the image after a run");
+    match words[..] {
+        ["refused", number] => vec![format!("refused {number}")],
+        ["stopped", number, used, _] => {
+            let at_once = (used == "0").then(|| "stopped at once".to_string());
+            at_once.into_iter().chain([format!("stopped {number}")]).collect()
+        }
+        ["ran", used, _] => {
+            let after = after();
+            let limit = line.rsplit(|byte| *byte == b' ').next() == Some(used.as_bytes());
+            let out = limit && next_turn(&after, Fault::None).is_some();
+            let so = [(true, "ran"), (used == "0", "ran nothing"), (out, "ran out of steps")];
+            let so = so.into_iter().chain([(used != "0" && usable(&after), "usable")]);
+            so.filter(|(so, _)| *so).map(|(_, word)| word.into()).collect()
+        }
+        _ => vec!["unknown".into()],
+    }
+}
+
+/// Runs of images, many to a run of the other program; then those of the first that are not
+/// refused. An image has at most `longest` bytes.
+pub fn runs(other: &Other, seed: u64, count: u64, longest: usize) -> bool {
+    let (mut met, mut done) = (Met::default(), vec![]);
+    for from in (seed..seed + count).step_by(500) {
+        let (seeds, lines): (Vec<u64>, Vec<_>) = (from..(from + 500).min(seed + count))
+            .map(|k| (k, random_run(&mut Random::new(k))))
+            .filter(|(_, line)| line.len() <= 2 * longest + 65)
+            .unzip();
+        if !steps_agree(other, &seeds, &lines) {
+            return false;
+        }
+        let said = trace::apply(&ended_lines(&lines), Fault::None);
+        met.count_status(&said);
+        let answers = String::from_utf8_lossy(&said.text);
+        for ((k, line), answer) in seeds.iter().zip(lines).zip(answers.lines()) {
+            for word in came_of_run(&line, answer) {
+                *met.0.entry(word).or_default() += 1;
+            }
+            if from == seed && !answer.starts_with("refused") {
+                done.push((*k, line));
+            }
+        }
+    }
+    let (seeds, lines): (Vec<u64>, Vec<_>) = done.into_iter().unzip();
+    if !lines.is_empty() && !steps_agree(other, &seeds, &lines) {
+        return false;
+    }
+    met.count_status(&trace::apply(&ended_lines(&lines), Fault::None));
+    println!("{count} runs from seed {seed}: the same");
+    // nothing else stops a run, or refuses it
+    let other = |answer: &&String| {
+        let known = ["stopped 6", "stopped 7", "stopped 8", "refused 1", "refused 3", "refused 11"];
+        let number = answer.ends_with(|last: char| last.is_ascii_digit());
+        number && !answer.starts_with("status") && !known.contains(&answer.as_str())
+    };
+    let others: Vec<_> = met.0.keys().filter(other).collect();
+    others.iter().for_each(|answer| println!("  met: {answer}"));
+    let all = met.all(&[1, 3, 11], &[&RUNS[..], &["status 0", "status 1"]].concat());
+    all && others.is_empty()
 }
 
 /// A simpler line that is bad too.

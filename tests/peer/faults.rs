@@ -28,6 +28,13 @@ pub enum Fault {
     HeardKept,
     HeardByMajority,
     NoProposeWhenHeard,
+    ByReceiver,
+    LeaderFirst,
+    HeardLeftOut,
+    RefusedCounted,
+    DiscardNotCounted,
+    TriedWithNoneLeft,
+    OddEpochRuns,
 }
 
 /// Where a fault shows.
@@ -43,10 +50,12 @@ pub enum Shows {
     InRule,
     /// On sites that the steps do not reach, and on no others.
     OnForeign,
+    /// It breaks the run after an election, and no step of it.
+    InRun,
 }
 
 /// Each fault, its name, and where a walk notices it.
-pub const FAULTS: [(Fault, &str, Shows); 24] = [
+pub const FAULTS: [(Fault, &str, Shows); 31] = [
     (Fault::MajorityOfPresent, "majority-of-present", Shows::InDemand),
     (Fault::MajorityOfSite, "majority-of-site", Shows::InRule),
     (Fault::PromiseClearedAtStop, "promise-cleared-at-stop", Shows::InDemand),
@@ -71,4 +80,11 @@ pub const FAULTS: [(Fault, &str, Shows); 24] = [
     (Fault::HeardKept, "heard-kept", Shows::InRule),
     (Fault::HeardByMajority, "heard-by-majority", Shows::InRule),
     (Fault::NoProposeWhenHeard, "no-propose-when-heard", Shows::InRule),
+    (Fault::ByReceiver, "by-receiver", Shows::InRun),
+    (Fault::LeaderFirst, "leader-first", Shows::InRun),
+    (Fault::HeardLeftOut, "heard-left-out", Shows::InRun),
+    (Fault::RefusedCounted, "refused-counted", Shows::InRun),
+    (Fault::DiscardNotCounted, "discard-not-counted", Shows::InRun),
+    (Fault::TriedWithNoneLeft, "tried-with-none-left", Shows::InRun),
+    (Fault::OddEpochRuns, "odd-epoch-runs", Shows::InRun),
 ];

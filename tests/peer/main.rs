@@ -6,13 +6,18 @@
 //!     peer script            calls on lent words, and on those of a box by itself
 //!     peer compare-replay    random traces to this and to another program, command=SHELL
 //!     peer compare-apply     random image steps to both
+//!     peer compare-run       random runs of images to both
+//!     peer each steps=N      a run of the raw image of standard input: each step, and its answer
+//!     peer wait              runs just after an election: how many steps until the scale is usable
 //!     peer walk              long random walks with demand 3 looked at, and broken rules noticed
 //!     peer watch             a trace with demand 3 looked at after every line
 //!     peer faults            the names of the broken rules
+//!     peer run-faults        .. of those that break the run alone
 //!
 //! `fault=NAME` breaks a rule on purpose; a walk then shows the shortest trace. `seed=N`, and
 //! `count=N` or `walks=N steps=N`, say which random inputs and how many; `limit=SECONDS` how long
-//! the other program may take for one, `longest=BYTES` how long an image may be. `replay` and `apply`
+//! the other program may take for one, `longest=BYTES` how long an image may be; `mails=L` and
+//! `promise=PN` what the sites of `wait` have, and `order=any` that mail comes in any order there. `replay` and `apply`
 //! end with 1 where a line was refused.
 
 mod calls;
@@ -25,12 +30,14 @@ mod image;
 mod other;
 mod random;
 mod rules;
+mod run;
 mod script;
 mod shrink;
 mod site;
 mod texts;
 mod trace;
 mod turn;
+mod waits;
 mod walk;
 mod words;
 
@@ -81,10 +88,16 @@ fn walks(seed: u64, walks: u64, steps: u32, fault: Fault) -> ExitCode {
         return status(broken(*one, true));
     }
     let mut good = walk::right(seed, walks, steps);
-    for one in FAULTS {
+    for one in FAULTS.into_iter().filter(|(_, _, shows)| *shows != Shows::InRun) {
         good &= broken(one, false);
     }
     status(good)
+}
+
+/// The names of the broken rules that show so.
+fn names(so: impl Fn(Shows) -> bool) -> ExitCode {
+    FAULTS.iter().filter(|(_, _, shows)| so(*shows)).for_each(|(_, name, _)| println!("{name}"));
+    ExitCode::SUCCESS
 }
 
 fn main() -> ExitCode {
@@ -101,6 +114,10 @@ fn main() -> ExitCode {
     match (words.first().map(String::as_str), other) {
         (Some("replay"), _) => filter(|input| trace::replay(input, fault)),
         (Some("apply"), _) => filter(|input| trace::apply(input, fault)),
+        (Some("each"), _) => {
+            let steps = number("steps", 200) as u32;
+            filter(|image| trace::each(image, steps))
+        }
         (Some("damage"), _) => filter(|input| text(damage::damage(input))),
         (Some("script"), _) => filter(|input| text(script::script(input, fault))),
         (Some("watch"), _) => filter(|input| text(walk::watch(input, fault))),
@@ -111,14 +128,27 @@ fn main() -> ExitCode {
             let longest = number("longest", trace::LONGEST_IMAGE as u64) as usize;
             status(compare::applies(&other, seed, number("count", 6000), longest))
         }
-        (Some("faults"), _) => {
-            FAULTS.iter().for_each(|(_, name, _)| println!("{name}"));
-            ExitCode::SUCCESS
+        (Some("compare-run"), Some(other)) => {
+            let longest = number("longest", trace::LONGEST_IMAGE as u64) as usize;
+            status(compare::runs(&other, seed, number("count", 6000), longest))
         }
+        (Some("wait"), _) => {
+            let (mails, promise) =
+                (number("mails", 8) as u32, number("promise", 999_999_800) as u32);
+            status(waits::wait(
+                seed,
+                number("count", 40_000),
+                mails,
+                promise,
+                value("order") == Some("any"),
+            ))
+        }
+        (Some("faults"), _) => names(|shows| shows != Shows::InRun),
+        (Some("run-faults"), _) => names(|shows| shows == Shows::InRun),
         (Some("walk"), _) => walks(seed, number("walks", 2000), number("steps", 500) as u32, fault),
         _ => {
             eprintln!(
-                "usage: peer replay|apply|damage|script|walk|watch|faults|compare-replay|compare-apply [NAME=VALUE ..]"
+                "usage: peer replay|apply|each|damage|script|walk|watch|wait|faults|run-faults|compare-replay|compare-apply|compare-run [NAME=VALUE ..]"
             );
             ExitCode::FAILURE
         }

@@ -244,6 +244,56 @@ fn some_call(site: &Site, r: &mut Random) -> Call {
     any_call(site.sizes.n, r)
 }
 
+/// A reached site just after an election, a little further, or with promises near the last number.
+fn elected(r: &mut Random, sizes: Sizes) -> Site {
+    let mut site = reached(r, sizes);
+    if site.epoch % 2 == 0 {
+        let present = site.numbers().find(|c| member(site.present, *c)).unwrap_or(1);
+        let _ = step(&mut site, Call::Timeout(present));
+    }
+    for c in site.numbers().filter(|_| r.percent(30)).collect::<Vec<_>>() {
+        let near = HIGHEST_PN - r.from(94, 99);
+        site.at_mut(c).pn = r.pick(&[0, 7, 102, 305, 999_999_800, near]);
+    }
+    for _ in 0..10 {
+        let c = r.from(1, sizes.n);
+        if step(&mut site, Call::Elect(c)).is_ok() {
+            break;
+        }
+        let _ = step(&mut site, Call::Return(c));
+    }
+    let style = Style::any(r, sizes.n);
+    for frame in 1..=r.pick(&[0, 0, 3, 20]) {
+        let call = likely_call(&site, r, &style, frame);
+        let _ = step(&mut site, call);
+    }
+    site
+}
+
+/// A line `IMAGE run STEPS` for `apply`, without its newline.
+pub fn random_run(r: &mut Random) -> Vec<u8> {
+    let sizes = Sizes { l: r.pick(&[1, 2, 3, 8]), ..some_sizes(r) };
+    let site = match r.below(10) {
+        0..=2 => reached(r, sizes),
+        3..=5 => elected(r, sizes),
+        _ => foreign(r, sizes),
+    };
+    let mut image = image::write(&site);
+    if r.percent(6) {
+        image = damaged(image, r);
+    }
+    let any = r.below(60);
+    let steps = r.pick(&[200, 200, 200, 200, 0, 1, 2, 3, any, any, u32::MAX]);
+    let mut words = format!("run {steps}").into_bytes();
+    if r.percent(3) {
+        let bad = ["run", "run ", "run 01", "run 4294967296", "run 1 2", "run -1", "ran 1"];
+        let whole = String::from_utf8_lossy(&words).into_owned();
+        words = if r.percent(50) { spoilt(&whole, r) } else { r.pick(&bad).into() };
+        words.retain(|byte| *byte != b'\n');
+    }
+    [hex(&image).as_bytes(), b" ", &words].concat()
+}
+
 /// Most random images are no longer.
 pub const SHORT_IMAGE: usize = 65_536;
 

@@ -3,6 +3,7 @@
 use crate::faults::Fault;
 use crate::image;
 use crate::rules::*;
+use crate::run::{run, Ended};
 use crate::site::*;
 
 pub enum Line {
@@ -172,12 +173,31 @@ pub fn unhex(text: &[u8]) -> Option<Vec<u8>> {
     text.chunks(2).map(|pair| Some(digit(pair[0])? << 4 | digit(pair[1])?)).collect()
 }
 
+/// What `run STEPS` asks for, which is no line of a trace.
+pub fn read_run(words: &[u8]) -> Option<u32> {
+    let steps = words.strip_prefix(b"run ")?;
+    (words.len() <= LONGEST_LINE).then(|| decimal(steps)).flatten()
+}
+
+fn run_line(bytes: &[u8], steps: u32, fault: Fault) -> Result<String, Refusal> {
+    let mut site = image::read(bytes).ok_or(1u32)?;
+    let ended = run(&mut site, steps, fault, |_| ())?;
+    let after = hex(&image::write(&site));
+    Ok(match ended {
+        Ended::Ran(used) => format!("ran {used} {after}"),
+        Ended::Stopped(why, used) => format!("stopped {why} {used} {after}"),
+    })
+}
+
 fn apply_line(line: Option<&[u8]>, fault: Fault) -> Result<String, Refusal> {
     // a line is no longer than its image in hex, the space and the call may be together
     let line =
         line.filter(|line| line.len() <= 2 * LONGEST_IMAGE + 1 + LONGEST_LINE).ok_or(11u32)?;
     let space = line.iter().position(|byte| *byte == b' ').ok_or(11u32)?;
     let bytes = unhex(&line[..space]).ok_or(11u32)?;
+    if let Some(steps) = read_run(&line[space + 1..]) {
+        return run_line(&bytes, steps, fault);
+    }
     let words = read_line(&line[space + 1..]).ok_or(11u32)?;
     if matches!(words, Line::Site(_)) {
         return Err(11);
@@ -197,6 +217,20 @@ fn apply_line(line: Option<&[u8]>, fault: Fault) -> Result<String, Refusal> {
         Answer::Discarded(Cause::Place) => "discarded place",
     };
     Ok(format!("{word} {}", hex(&image::write(&site))))
+}
+
+/// What `wait --each` prints of this image: each step that is done, and the run's answer.
+pub fn each(image: &[u8], steps: u32) -> Said {
+    let mut out = String::new();
+    let ended = image::read(image).ok_or(1u32).and_then(|mut site| {
+        run(&mut site, steps, Fault::None, |call| out += &(call_text(call) + "\n"))
+    });
+    out += &match ended {
+        Ok(Ended::Ran(used)) => format!("ran {used}\n"),
+        Ok(Ended::Stopped(why, used)) => format!("stopped {why} {used}\n"),
+        Err(why) => format!("refused {why}\n"),
+    };
+    Said { text: out.into_bytes(), refused: ended.is_err() }
 }
 
 /// What `apply` prints for this input: one line for each line.
