@@ -7,7 +7,7 @@ goal = "$(DESTDIR)$(PREFIX)"
 all: programs lib
 
 programs:
-	rt check replay apply
+	rt check replay apply weigh show
 
 lib:
 	lib/build
@@ -19,7 +19,8 @@ install: all
 	lib/install $(goal)
 
 uninstall:
-	cd $(goal) && rm -rf lib/szomrelik && rm -f bin/replay bin/apply lib/libjournal.a \
-		include/journal.h share/man/man1/replay.1 share/man/man1/apply.1
+	cd $(goal) && rm -rf lib/szomrelik && rm -f bin/replay bin/apply bin/wait bin/longer bin/bodies \
+		lib/libjournal.a include/journal.h share/man/man1/replay.1 share/man/man1/apply.1 \
+		share/man/man1/wait.1 share/man/man1/longer.1 share/man/man1/bodies.1
 
 .PHONY: all programs lib test install uninstall
