@@ -18,7 +18,8 @@ use Rattle.laws.proofs.FormLaws.{count-says}
 use Rattle.row.specs.Row.{boxOf, lastAt, firstAt, countAt, headWords}
 use Rattle.row.specs.Lent.{RowByForm}
 use Rattle.row.proofs.TurnLaws.{row-formed, first-within}
-use Rattle.memory.specs.Memory.{nAt, JAt, rowAt, rowStart, rowWidth, siteOf, memoryForm}
+use Rattle.memory.specs.Memory.{nAt, JAt, rowAt, rowStart, siteOf, memoryForm}
+use Rattle.row.specs.Row.{rowWidth}
 use Rattle.memory.specs.After.{settingAt}
 use Rattle.site.proofs.KnownLaws.{AtBox}
 use Rattle.site.proofs.HoldsLaws.{row-here}

@@ -29,7 +29,7 @@ use Rattle.feed.specs.State.{toldSite, Past}
 use Rattle.feed.specs.Says.{Answers}
 use Rattle.feed.proofs.EntryLaws.{either}
 use Rattle.letter.specs.Place.{headWords as letterHead}
-use Rattle.row.specs.Row.{headWords}
+use Rattle.row.specs.Row.{rowWidth}
 
 -- a line that is not done leaves the words, and one that is done holds what it left
 held-by : (a : Answer) (t : Told) (xs ls xs' ls' : List ℕ) → told a (siteOf xs' ls') ≡ t
@@ -199,8 +199,8 @@ open-large n J L xs ls h = sizes-refused n J L xs ls (too-large n J L h)
 -- there are words enough for every site of a trace
 rows-enough : (n J m : ℕ) → n ≤ 5 → J ≤ 32 → siteWords 5 32 ≤ m → siteWords n J ≤ m
 rows-enough n J m hn hj h =
-    let rows : n * (headWords + J) ≤ 5 * (headWords + 32) =
-    mul-le-mul {n₂ = 5} {m₂ = headWords + 32} hn (omega arith) in omega arith
+    let rows : n * rowWidth J ≤ 5 * rowWidth 32 =
+    mul-le-mul {n₂ = 5} {m₂ = rowWidth 32} hn (omega arith) in omega arith
 
 links-enough : (n J L m : ℕ) → n ≤ 5 → J ≤ 32 → L ≤ 8 → linksWords 5 32 8 ≤ m → linksWords n J L ≤ m
 links-enough n J L m hn hj hl h =

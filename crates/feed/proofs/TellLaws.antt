@@ -10,7 +10,7 @@ use lib.Seq.{getD-take, getD-drop}
 use Rattle.rules.specs.Site.{freshBox}
 use Rattle.laws.proofs.Logic.{In}
 use Rattle.laws.proofs.FormLaws.{box-is}
-use Rattle.row.specs.Row.{boxOf, headWords, lastAt}
+use Rattle.row.specs.Row.{boxOf, lastAt, rowWidth}
 use Rattle.memory.specs.Memory.{generalWords, rowStart, rowAt, boxIn, siteOf}
 use Rattle.print.specs.Decimal.{decimal, spaced}
 use Rattle.print.specs.Text.{Wrote, doneText}
@@ -62,19 +62,19 @@ map-same (suc n) f g same =
     ∙ sym (map-append g (upTo n) (suc n ∷ []))))
 
 last-is : (n J b : ℕ) (xs : List ℕ) → In b n
-    → boxIn n J xs b .head .kept .last ≡ getD xs ((b - 1) * (headWords + J) + firstLast) 0
+    → boxIn n J xs b .head .kept .last ≡ getD xs ((b - 1) * (rowWidth J) + firstLast) 0
 last-is n J b xs h =
-    let e : generalWords + (b - 1) * (headWords + J) + lastAt
-    ≡ (b - 1) * (headWords + J) + firstLast = omega arith in
+    let e : generalWords + (b - 1) * (rowWidth J) + lastAt
+    ≡ (b - 1) * (rowWidth J) + firstLast = omega arith in
     ap (λ t. cond t (boxOf n (rowAt J xs b)) freshBox .head .kept .last) (box-is h)
-    ∙ (getD-take (headWords + J) (drop (rowStart J b) xs) 4 0 (omega arith)
+    ∙ (getD-take (rowWidth J) (drop (rowStart J b) xs) 4 0 (omega arith)
     ∙ (getD-drop (rowStart J b) xs 4 0 ∙ ap (λ (i : ℕ). getD xs i 0) e))
 
 pub lasts-are : (xs : List ℕ)
-    → lastsAt xs (headWords + getD xs 1 0) (getD xs 0 0) ≡ lasts (siteOf xs [])
+    → lastsAt xs (rowWidth (getD xs 1 0)) (getD xs 0 0) ≡ lasts (siteOf xs [])
 unfolding siteOf
 lasts-are xs =
-    map-same (getD xs 0 0) (λ b. getD xs ((b - 1) * (headWords + getD xs 1 0) + firstLast) 0)
+    map-same (getD xs 0 0) (λ b. getD xs ((b - 1) * (rowWidth (getD xs 1 0)) + firstLast) 0)
     (λ b. boxIn (getD xs 0 0) (getD xs 1 0) xs b .head .kept .last)
     (λ b h. sym (last-is (getD xs 0 0) (getD xs 1 0) b xs h))
 
@@ -88,21 +88,21 @@ lasts-done xs w n i {a} {b} {at} {p} lo hi v =
 -- ---- the whole answer
 
 pub rows-fit : (xs : List ℕ) (n j : ℕ) → n ≡ getD xs 0 0 → j ≡ getD xs 1 0 → Rowed xs
-    → 5 + n * (headWords + j) ≤ length xs
+    → 5 + n * (rowWidth j) ≤ length xs
 rows-fit xs n j e f w =
-    subst (λ (x : ℕ). 5 + x * (headWords + j) ≤ length xs) (sym e)
-    (subst (λ (x : ℕ). 5 + getD xs 0 0 * (headWords + x) ≤ length xs) (sym f) (w .rows))
+    subst (λ (x : ℕ). 5 + x * (rowWidth j) ≤ length xs) (sym e)
+    (subst (λ (x : ℕ). 5 + getD xs 0 0 * (rowWidth x) ≤ length xs) (sym f) (w .rows))
 
 pub done-is : (xs : List ℕ) (k n j : ℕ) {a b : List ℕ} {at p : ℕ} → n ≡ getD xs 0 0
     → j ≡ getD xs 1 0 → n ≤ 5 → Wrote (20 + (21 + (21 * n + 1))) a b at p
     (decimal k ++ ((32 ∷ decimal
-    (getD xs 3 0)) ++ (spaced (lastsAt xs (headWords + j) n) ++ (10 ∷ []))))
+    (getD xs 3 0)) ++ (spaced (lastsAt xs (rowWidth j) n) ++ (10 ∷ []))))
     → Wrote answerMost a b at p (doneText k (siteOf xs [] .epoch) (lasts (siteOf xs [])))
 unfolding doneText siteOf
 done-is xs k n j e f h v =
     let front : List ℕ = 32 ∷ decimal (getD xs 3 0) in
-    let same : lastsAt xs (headWords + j) n ≡ lasts (siteOf xs []) =
-    ap (λ (x : ℕ). lastsAt xs (headWords + j) x) e
-    ∙ (ap (λ (x : ℕ). lastsAt xs (headWords + x) (getD xs 0 0)) f ∙ lasts-are xs) in
+    let same : lastsAt xs (rowWidth j) n ≡ lasts (siteOf xs []) =
+    ap (λ (x : ℕ). lastsAt xs (rowWidth j) x) e
+    ∙ (ap (λ (x : ℕ). lastsAt xs (rowWidth x) (getD xs 0 0)) f ∙ lasts-are xs) in
     at-most (omega arith)
     (spelled (ap (λ (t : List ℕ). decimal k ++ (front ++ (spaced t ++ (10 ∷ [])))) same) v)

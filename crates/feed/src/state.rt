@@ -9,7 +9,9 @@ pub const MOST_J: u32 = 32;
 pub const MOST_L: u32 = 8;
 
 // Words enough for every such site.
-pub const SITE_WORDS: usize = memory::GENERAL + BOXES * (row::HEAD + MOST_J as usize);
+const ROW_WORDS: usize = row::HEAD + MOST_J as usize + (index::NEXTS + MOST_J as usize);
+
+pub const SITE_WORDS: usize = memory::GENERAL + BOXES * ROW_WORDS;
 
 const LINK_WORDS: usize = 2 + MOST_L as usize * (letter::HEAD + MOST_J as usize);
 

@@ -44,7 +44,8 @@ pub(crate) fn put_done(out: &mut [u8], at: usize, k: u64, site: &[u64]) -> usize
         (lasts (siteOf (now (site .entry)) []))) ⌝ }
 {
     let n = words::size(site[memory::N]);
-    let w = row::HEAD + words::size(site[memory::J]);
+    let j = words::size(site[memory::J]);
+    let w = row::HEAD + j + (index::NEXTS + j);
     let p = print::put_decimal(out, at, k);
     let p = print::put_next(out, p, site[memory::EPOCH]);
     let p = put_lasts(out, p, site, n, w);

@@ -14,7 +14,8 @@ use Rattle.rules.specs.Form.{form}
 use Rattle.laws.proofs.Types.{Kind}
 use Rattle.laws.proofs.FormLaws.{FormedSizes, letter-says, box-says, sizes-says, form-says}
 use Rattle.link.specs.Link.{placeWidth, linkWidth}
-use Rattle.memory.specs.Memory.{rowWidth, siteWords, linksWords}
+use Rattle.memory.specs.Memory.{siteWords, linksWords}
+use Rattle.row.specs.Row.{rowWidth}
 use Rattle.cells.specs.Cells.{chain, cells, Each, All}
 use Rattle.cells.proofs.ChainLaws.{length-cells, each-map}
 use Rattle.image.specs.Image.{boxBody, letterBytes, linkBytes, tableOf, imageOf}

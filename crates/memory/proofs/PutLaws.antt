@@ -20,7 +20,8 @@ use Rattle.laws.proofs.FormLaws.{is-box}
 use Rattle.row.specs.Row.{boxOf, rowFits}
 use Rattle.link.specs.Link.{linkWidth, linkOf, linkFits}
 use Rattle.link.specs.Holds.{Holds}
-use Rattle.memory.specs.Memory.{rowWidth, siteWords, linksWords, rowStart, rowAt, linkIndex}
+use Rattle.memory.specs.Memory.{siteWords, linksWords, rowStart, rowAt, linkIndex}
+use Rattle.row.specs.Row.{rowWidth}
 use Rattle.memory.specs.Memory.{generalWords}
 use Rattle.memory.specs.After.{boxesOf, linksOf, RowsLent, LinksLent, linkRow, RowSet}
 use Rattle.memory.specs.After.{LinkSet, RowsPut, LinksPut}

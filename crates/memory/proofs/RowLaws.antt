@@ -1,6 +1,6 @@
 -- What the functions of one row have computed, in terms of all boxes.
 use Prim.Native.Nat.{ℕ, _+_, _-_, _≤_, _<_}
-use mathlib.Core.Path.{_≡_, sym, ap, _∙_, subst}
+use mathlib.Core.Path.{_≡_, refl, sym, ap, _∙_, subst}
 use mathlib.Core.Bool.{Bool, true, cond}
 use mathlib.Core.List.{List}
 use native.Mathlib.Omega.{arith}
@@ -21,7 +21,10 @@ use Rattle.laws.proofs.FormLaws.{Peer, sizes-says, box-says}
 use Rattle.letter.specs.Place.{letterAt}
 use Rattle.row.specs.Row.{boxOf, rowFits, rowForm, countAt, headWords}
 use Rattle.row.specs.Lent.{RowSized, RowByForm, RowHolds, Plays, Played}
-use Rattle.memory.specs.Memory.{rowWidth, siteWords, rowStart, rowAt}
+use Rattle.row.proofs.TurnLaws.{row-formed}
+use Rattle.row.proofs.AfterLaws.{turn-numbered}
+use Rattle.memory.specs.Memory.{siteWords, rowStart, rowAt}
+use Rattle.row.specs.Row.{rowWidth}
 use Rattle.memory.specs.After.{boxesOf, RowsLent, BoxLent, RowSet, Playable, settingFor}
 use Rattle.memory.proofs.SizeLaws.{box-few, row-within}
 use Rattle.memory.proofs.PutLaws.{part-cut, part-put, row-set}
@@ -93,11 +96,15 @@ module _ (s : Setting) (xs place : List ℕ) (t : Turn) {p e : ℕ}
   size : RowSized (s .n) (s .j) (rowAt (s .j) xs (s .me))
   size = row-sized s (s .me) xs (ok .lent .me) (ok .lent .rows .sizes) (ok .lent .rows .words)
 
-  pub row-plays : Plays (s .n) (take (e - p) (drop p xs)) place t
+  pub row-plays : Plays (s .n) (s .j) (take (e - p) (drop p xs)) place t
   row-plays =
       let lent = ok .lent in
+      let ms = letterAt place .records in
       let f = box-says (ok .form) in
       let here = box-here s (s .me) xs (lent .me) in
+      let booked = row-formed s (rowAt (s .j) xs (s .me)) (row-by-form s xs lent) .booked in
+      let book = subst (λ (x : Box). BookFits (s .j) (x .records) ms (t .book)) (sym here)
+      (ok .book) in
       rw row
       (record {
         writes = record {
@@ -105,12 +112,17 @@ module _ (s : Setting) (xs place : List ℕ) (t : Turn) {p e : ℕ}
           words = size .words;
           loads = size .loads;
           count = count-few s (s .me) xs (lent .me) (lent .rows);
-          book = subst
-              (λ (x : Box). BookFits (s .j) (x .records) (letterAt place .records) (t .book))
-              (sym here) (ok .book);
+          book = book;
         };
+        room = refl;
+        boxes = size .boxes;
         five = f .places;
         above = λ k a m. unknown-above k a (f .peers k (omega arith, m));
+        fits = lent .rows .fits (s .me) (lent .me);
+        before = booked .numbers;
+        after = turn-numbered (s .n) (s .j) (s .me) (rowAt (s .j) xs (s .me)) ms t booked book
+            (subst (λ (x : Box). formBox (s .n) (s .j) (s .me) (turned x t ms) ≡ true) (sym here)
+            (ok .form));
       })
     where
       unknown-above : (k : ℕ) {last : ℕ} → s .n < k → Peer (s .n) (s .me) k last
@@ -118,7 +130,7 @@ module _ (s : Setting) (xs place : List ℕ) (t : Turn) {p e : ℕ}
       unknown-above k a (left e) = e
       unknown-above k a (right e) = absurd (omega (arith, e .0))
 
-  pub row-played : (q : List ℕ) → Played (s .n) (take (e - p) (drop p xs)) place t q
+  pub row-played : (q : List ℕ) → Played (s .n) (s .j) (take (e - p) (drop p xs)) place t q
       → RowSet s (s .me) (turned (boxesOf s xs (s .me)) t (letterAt place .records)) xs
       (splice xs p (e - p) q)
   row-played q done =
@@ -128,7 +140,7 @@ module _ (s : Setting) (xs place : List ℕ) (t : Turn) {p e : ℕ}
         box = done .box
             ∙ ap (λ (x : Box). turned x t (letterAt place .records))
             (box-at s (s .me) xs (lent .me) row);
-        fits = done .fits (s .j) (ap length row ∙ size .words);
+        fits = done .fits;
         words = done .words;
       })
 

@@ -15,7 +15,8 @@ use Rattle.laws.proofs.Logic.{In, and-both}
 use Rattle.laws.proofs.FormLaws.{FormedSizes, is-box, box-is, is-link}
 use Rattle.link.specs.Link.{placeWidth, linkWidth}
 use Rattle.link.specs.Holds.{LinkSizes}
-use Rattle.memory.specs.Memory.{rowWidth, siteWords, linksWords, rowStart, linkIndex}
+use Rattle.memory.specs.Memory.{siteWords, linksWords, rowStart, linkIndex}
+use Rattle.row.specs.Row.{rowWidth}
 use Rattle.memory.specs.Memory.{linkStart}
 
 -- ---- how many words

@@ -12,7 +12,7 @@ use Rattle.rules.specs.Sizes.{sizesForm}
 use Rattle.rules.specs.Box.{Box, Letter}
 use Rattle.rules.specs.Site.{Site, freshBox, isBox, isLink}
 use Rattle.rules.specs.Form.{form}
-use Rattle.row.specs.Row.{boxOf, rowFits, headWords}
+use Rattle.row.specs.Row.{boxOf, rowFits, rowWidth}
 use Rattle.link.specs.Link.{linkWidth, linkOf, linkFits}
 
 -- where the general words stand
@@ -34,10 +34,6 @@ presentAt = 4
 -- the rows stand behind these
 abbrev pub generalWords : ℕ
 generalWords = 5
-
--- a box's fields and the records' room
-abbrev pub rowWidth : ℕ → ℕ
-rowWidth J = headWords + J
 
 -- how many words a site of these sizes needs in each list
 abbrev pub siteWords : ℕ → ℕ → ℕ

@@ -58,8 +58,8 @@ fn play_row(site: &mut [u64], place: &[u64], s: Setting, t: Turn)
         (now (site .entry)) (now (site .exit)) ⌝ }
 {
     let start = places::row_start(s, s.me);
-    let end = start + places::row_width(s.j);
-    row::play(&mut site[start..end], place, s.n, t);
+    let end = start + row::row_width(s.j);
+    row::play(&mut site[start..end], place, s.n, s.j, t);
 }
 
 // Box me has taken its turn, by the mail in the place from p to q; where they are one, by none.
@@ -88,7 +88,7 @@ fn elect_row(site: &mut [u64], s: Setting, b: u32, c: u32)
         (now (site .entry)) (now (site .exit)) ⌝ }
 {
     let start = places::row_start(s, b);
-    let end = start + places::row_width(s.j);
+    let end = start + row::row_width(s.j);
     let known = Setting { me: b, ..s };
     row::elect(&mut site[start..end], known, c);
 }
@@ -115,8 +115,8 @@ fn fresh_row(site: &mut [u64], s: Setting, b: u32)
     ensures { λ _. ⌜ RowSet s b freshBox (now (site .entry)) (now (site .exit)) ⌝ }
 {
     let start = places::row_start(s, b);
-    let end = start + places::row_width(s.j);
-    row::fresh(&mut site[start..end]);
+    let end = start + row::row_width(s.j);
+    row::fresh(&mut site[start..end], s.j);
 }
 
 // Every box is fresh, whatever the words were.

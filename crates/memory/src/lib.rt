@@ -34,4 +34,3 @@ pub use places::link_start;
 pub use places::link_width;
 pub use places::row_of;
 pub use places::row_start;
-pub use places::row_width;

@@ -9,7 +9,6 @@ ghost use Rattle.rules.specs.Site.{isBox, isLink};
 ghost use Rattle.link.specs.Link.{linkWidth};
 ghost use Rattle.link.specs.Holds.{LinkSizes};
 ghost use Rattle.memory.specs.Memory.{
-  rowWidth,
   siteWords,
   linksWords,
   rowStart,
@@ -17,16 +16,11 @@ ghost use Rattle.memory.specs.Memory.{
   linkIndex,
   linkStart,
 };
+ghost use Rattle.row.specs.Row.{rowWidth};
 ghost use Rattle.memory.specs.After.{linkRow};
 ghost use Rattle.memory.specs.Parts.{wordsForm};
 use crate::general::GENERAL;
 use rules::model::Setting;
-
-pub fn row_width(j: u32) -> usize
-    ensures { λ r. ⌜ r ≡ rowWidth j ⌝ }
-{
-    row::HEAD + j as usize
-}
 
 // Where box b's row begins, and that it ends within the words of the site.
 pub fn row_start(s: Setting, b: u32) -> usize
@@ -35,7 +29,7 @@ pub fn row_start(s: Setting, b: u32) -> usize
     ensures { λ r.
         ⌜ (r ≡ rowStart (s .j) b) × (r + rowWidth (s .j) ≤ siteWords (s .n) (s .j)) ⌝ }
 {
-    let width = row_width(s.j);
+    let width = row::row_width(s.j);
     let before = (b - 1) as usize;
     GENERAL + words::row_at(before, width, s.n as usize)
 }
@@ -48,7 +42,7 @@ pub fn row_of(site: &[u64], s: Setting, b: u32) -> &[u64]
     ensures { λ r. ⌜ now r ≡ rowAt (s .j) (now (site .entry)) b ⌝ }
 {
     let start = row_start(s, b);
-    let end = start + row_width(s.j);
+    let end = start + row::row_width(s.j);
     &site[start..end]
 }
 
@@ -140,7 +134,7 @@ pub fn has_words(site: &[u64], links: &[u64], s: Setting) -> bool
     requires { ⌜ sizesForm (s .n) (s .j) (s .l) ≡ true ⌝ }
     ensures { λ r. ⌜ r ≡ wordsForm s (now (site .entry)) (now (links .entry)) ⌝ }
 {
-    let rows = s.n as usize * row_width(s.j);
+    let rows = s.n as usize * row::row_width(s.j);
     let pairs = link_count(s) * link_width(s.j, s.l);
     (GENERAL + rows <= site.len()) & (pairs <= links.len())
 }

@@ -5,19 +5,16 @@ use Prim.Native.Nat.{ℕ, _+_, _-_, _≤_, _<_}
 use native.Mathlib.Nat.{zero-add}
 use native.Mathlib.Numerals.{add-one}
 use native.Mathlib.Omega.{arith}
-use lib.ListN.{length, take, drop, getD, set, length-set, length-append, length-take, length-drop}
-use lib.Seq.{take-all, take-take, take-suc-set, drop-set-add}
+use lib.ListN.{length, take, drop, getD, set, length-set, length-take, length-drop}
+use lib.Seq.{take-all, take-take, take-suc-set, drop-set-add, drop-set-lt}
 use Rattle.words.specs.Rows.{part, splice}
 use Rattle.words.proofs.PartLaws.{length-part, length-splice, part-part, part-drop, part-splice}
-use Rattle.words.proofs.PartLaws.{drop-splice, take-splice-end}
+use Rattle.words.proofs.PartLaws.{part-above, drop-splice, take-splice-end}
 use Rattle.rules.specs.Box.{written}
 use Rattle.rules.specs.declared.model.Book.{Book}
-use Rattle.rules.specs.declared.model.Turn.{Turn}
 use Rattle.letter.specs.Place.{headWords as letterHead, countAt as letterCount}
-use Rattle.row.specs.Row.{wordsOf, headWords, countAt}
-use Rattle.row.specs.Lent.{recordsOf, moved, countAfter, CountFits, Writes, Wrote, Plays}
-use Rattle.row.specs.Lent.{Played}
-use Rattle.row.proofs.StoreLaws.{box-stored, fits-stored}
+use Rattle.row.specs.Row.{headWords, countAt, indexAt, indexWidth, rowWidth, indexOf}
+use Rattle.row.specs.Lent.{recordsOf, moved, countAfter, CountFits, Writes, Wrote}
 
 -- ---- parts
 
@@ -28,7 +25,8 @@ in-part xs a k l h =
     (omega arith, omega arith)
 
 -- The elements a + 1 to l.
-drop-take : (xs : List ℕ) (a l : ℕ) → a ≤ l → l ≤ length xs → drop a (take l xs) ≡ part xs a (l - a)
+pub drop-take : (xs : List ℕ) (a l : ℕ) → a ≤ l → l ≤ length xs
+    → drop a (take l xs) ≡ part xs a (l - a)
 drop-take xs a l h m =
     let long : length (drop a (take l xs)) ≤ l - a =
     simp (length-drop, length-take) (omega arith) in
@@ -62,15 +60,33 @@ module _ (r : List ℕ) (d a : ℕ) (le : d ≤ a) (room : headWords + a ≤ len
   moved-records =
       part-splice headWords (a - d) r (part r (headWords + d) (a - d)) (omega arith) long
 
+-- what is written before the index leaves it
+index-past : (J : ℕ) (r ys : List ℕ) (a k : ℕ) → headWords + a + k ≤ indexAt J
+    → length r ≡ rowWidth J → length ys ≡ k
+    → indexOf J (splice r (headWords + a) k ys) ≡ indexOf J r
+index-past J r ys a k h l e =
+    part-above (headWords + a) k (indexAt J) (indexWidth J) r ys h (omega arith) e
+
 module _ (r p : List ℕ) where
   pub keep-law : Wrote r p Book.Keep r
   unfolding written
-  keep-law = record { words = refl; records = refl }
+  keep-law = record { words = refl; index = λ J l. refl; records = refl }
+
+  -- .. of the records that move down
+  moved-index : (J d a : ℕ) → d ≤ a → a ≤ J → length r ≡ rowWidth J
+      → indexOf J (moved d a r) ≡ indexOf J r
+  moved-index J d a le few l =
+      part-above headWords (a - d) (indexAt J) (indexWidth J) r
+      (part r (headWords + d) (a - d)) (omega arith) (omega arith)
+      (length-part (headWords + d) (a - d) r (omega arith))
 
   -- A book that fits leaves the records within the row.
-  kept-room : {J a : ℕ} → length r ≡ headWords + J → getD r countAt 0 ≤ J
+  kept-few : {J a : ℕ} → getD r countAt 0 ≤ J → a ≤ length (recordsOf r) → a ≤ J
+  kept-few {J} {a} c h = omega (arith, in-part r headWords (getD r countAt 0) a h .0)
+
+  kept-room : {J a : ℕ} → length r ≡ rowWidth J → getD r countAt 0 ≤ J
       → a ≤ length (recordsOf r) → headWords + a ≤ length r
-  kept-room {J} {a} w c h = omega (arith, in-part r headWords (getD r countAt 0) a h .0)
+  kept-room {J} {a} w c h = omega (arith, kept-few {J = J} {a = a} c h)
 
   -- .. and what stays of the first a is what the book says.
   stays : (d a : ℕ) → d ≤ a → a ≤ length (recordsOf r) → headWords + a ≤ length r
@@ -96,6 +112,7 @@ module _ (r p : List ℕ) where
       rw e
       (record {
         words = moved-length r d c (room .0) (room .1);
+        index = λ J l. moved-index J d c (room .0) (omega (arith, w .count, w .words)) l;
         records =
             stays d c (room .0) whole (room .1)
             ∙ ap (drop d) (take-all c (recordsOf r) (few c));
@@ -124,6 +141,12 @@ module _ (r p : List ℕ) where
       rw e
       (record {
         words = length-set m (headWords + (a - d)) v ∙ same;
+        index = λ J l.
+            ap (take (indexWidth J))
+            (drop-set-lt (indexAt J) m (headWords + (a - d)) v
+            (omega (arith, w .book .2, w .words)))
+            ∙ moved-index J d a (room .0)
+            (omega (arith, w .words, kept-few {J = w .J} {a = a} (w .count) (w .book .1))) l;
         records =
             rw (
               add-one,
@@ -171,6 +194,10 @@ module _ (r p : List ℕ) where
       (record {
         words =
             length-splice (headWords + (a - d)) (e - b) m ys (rw same (z .room)) long ∙ same;
+        index = λ J l.
+            index-past J m ys (a - d) (e - b) (omega (arith, w .book .4, w .words)) (same ∙ l) long
+            ∙ moved-index J d a (z .stay)
+            (omega (arith, w .words, kept-few {J = w .J} {a = a} (w .count) (w .book .1))) l;
         records =
             rw (
               drop-splice headWords (a - d) (e - b) m ys fits,
@@ -180,7 +207,7 @@ module _ (r p : List ℕ) where
             );
       })
 
--- ---- what the code of `play` has written
+-- ---- how many there are then
 
 -- The new count has room ..
 pub after-fits : (r p : List ℕ) (b : Book) (w : Writes r p b)
@@ -197,21 +224,3 @@ count-fits r p (Book.Drop d) w = in-part r headWords (getD r countAt 0) d (w .bo
 count-fits r p (Book.Put d a v) w = (w .book .0, omega (arith, w .book .2, w .loads))
 count-fits r p (Book.Take d a b e) w =
     (w .book .0, omega (arith, w .book .2), omega (arith, w .book .4, w .loads))
-
--- The row holds the box after its turn.
-pub play-law : (n : ℕ) (r p : List ℕ) (t : Turn) → Plays n r p t → (count held : ℕ) (s q : List ℕ)
-    → count ≡ getD r countAt 0 → held ≡ countAfter (t .book) count → Wrote r p (t .book) s
-    → q ≡ wordsOf (t .next) held ++ drop headWords s → Played n r p t q
-play-law n r p t ok count held s q ec eh w eq =
-    let h = t .next in
-    let held-is : held ≡ countAfter (t .book) (getD r countAt 0) =
-    eh ∙ ap (countAfter (t .book)) ec in
-    let room : held ≤ ok .writes .J = rw held-is (after-fits r p (t .book) (ok .writes)) in
-    rw eq
-    (record {
-      box =
-          box-stored n h held (drop headWords s) (ok .five) (ok .above)
-          ∙ ap (λ (rs : List ℕ). record { head = h; records = rs }) (rw held-is (w .records));
-      words = simp (length-append, length-drop) (omega (arith, w .words, ok .writes .words));
-      fits = λ J e. fits-stored J h held (drop headWords s) (omega (arith, ok .writes .words));
-    })

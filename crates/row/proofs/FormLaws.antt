@@ -1,30 +1,56 @@
 -- What the form of a box's words says, and of a row: the words first, then the records.
 use mathlib.Core.Path.{_≡_, refl, sym, ap, _∙_}
-use mathlib.Core.Bool.{Bool, true, false, _&&_, and-true}
+use mathlib.Core.Bool.{Bool, true, false, _&&_, _||_}
 use mathlib.Core.List.{List, [], _∷_}
-use Prim.Native.Nat.{ℕ, _≤_}
+use Prim.Native.Nat.{ℕ, _+_, _≤_}
 use native.Mathlib.Omega.{arith}
-use borrow.Author.Tests.{leb-true, le-leb}
+use borrow.Author.Tests.{leb-true, eqb-true, le-leb}
+use lib.Dec.{eqb, ltb}
 use lib.ListN.{length, getD}
 use Rattle.words.proofs.PartLaws.{length-part}
 use Rattle.rules.specs.Every.{all, each, every}
 use Rattle.rules.specs.Sizes.{mostBoxes, mostNumber, mostPn, proper, recordForm}
 use Rattle.rules.specs.Sets.{setForm}
 use Rattle.rules.specs.Form.{firstForm, countForm, peerForm, formBox}
+use Rattle.index.specs.Index.{indexForm}
+use Rattle.index.specs.Lent.{Indexed}
+use Rattle.index.proofs.FormLaws.{form-indexed, indexed-form}
 use Rattle.values.specs.Counts.{heldCount}
 use Rattle.values.specs.Faults.{isWhole}
 use Rattle.values.specs.declared.Fault.{Fault}
 use Rattle.values.proofs.AllLaws.{all-at}
 use Rattle.values.proofs.FaultLaws.{then-passed, passed-then}
-use Rattle.values.proofs.CountLaws.{first-says, held-room, held-form}
+use Rattle.rules.proofs.BoundLaws.{first-of}
+use Rattle.values.proofs.CountLaws.{first-says, held-room, held-form, either-of}
 use Rattle.values.proofs.SetLaws.{set-fits}
 use Rattle.row.specs.Row.{headOf, boxOf, rowFits, rowForm, headWords, mostState, mostPhase}
 use Rattle.row.specs.Row.{flagAt, stateAt, phaseAt, pnAt, lastAt, firstAt, storedPnAt}
 use Rattle.row.specs.Row.{storedNumberAt, bestPnAt, bestNumberAt, answeredAt, acceptsAt}
 use Rattle.row.specs.Row.{heardAt, bestAt, waitingAt, agreeingAt, countAt}
-use Rattle.row.specs.Lent.{RowSized, RowReadable, recordsOf}
+use Rattle.row.specs.Row.{agreedOf, indexOf}
+use Rattle.row.specs.Lent.{RowSized, RowReadable, RowBooked, Numbered, recordsOf}
 use Rattle.row.specs.Faults.{numberTests, valueTests, peerTests, countTest, headFault}
 use Rattle.row.proofs.PeerLaws.{every-says, every-five, peer-fits}
+
+-- A first, a last and a count by form.
+pub numbered : (J first last count : ℕ) → firstForm first last ≡ true → last ≤ mostNumber
+    → countForm J first last count ≡ true → Numbered first last count
+unfolding countForm
+numbered J first last count f l c =
+    let says = first-says first last f in
+    let sum = first-of (eqb (first + count) (last + 1)
+    || (eqb (first + count) (last + 2) && ltb last mostNumber)) _ c in
+    record {
+      one = says .0;
+      order = says .1;
+      most = l;
+      held = either-of (eqb (first + count) (last + 1)) _ sum
+          (λ t. omega (arith, eqb-true (first + count) (last + 1) t))
+          (λ t. omega (
+            arith,
+            eqb-true (first + count) (last + 2) (first-of (eqb (first + count) (last + 2)) _ t),
+          ));
+    }
 
 -- every peer of the words of box b is by form
 abbrev pub peersFit : ℕ → ℕ → List ℕ → Bool
@@ -142,13 +168,23 @@ module _ (n J b : ℕ) (w : List ℕ) where
 pub fits-says : (J : ℕ) (r : List ℕ) → rowFits J r ≡ true
     → (getD r flagAt 0 ≤ 1) × (getD r stateAt 0 ≤ mostState)
     × (getD r phaseAt 0 ≤ mostPhase) × (getD r countAt 0 ≤ J)
+    × Indexed 0 (getD r firstAt 0) (agreedOf r) (indexOf J r)
 unfolding rowFits
 fits-says J r e = (
   leb-true _ _ (all-at 0 _ e),
   leb-true _ _ (all-at 1 _ e),
   leb-true _ _ (all-at 2 _ e),
   leb-true _ _ (all-at 3 _ e),
+  form-indexed _ _ _ (all-at 4 _ e),
 )
+
+-- .. and where it fits.
+pub says-fits : (J : ℕ) (r : List ℕ) → getD r flagAt 0 ≤ 1 → getD r stateAt 0 ≤ mostState
+    → getD r phaseAt 0 ≤ mostPhase → getD r countAt 0 ≤ J
+    → Indexed 0 (getD r firstAt 0) (agreedOf r) (indexOf J r) → rowFits J r ≡ true
+unfolding rowFits all
+says-fits J r f s p c h =
+    rw (le-leb _ _ f, le-leb _ _ s, le-leb _ _ p, le-leb _ _ c, indexed-form _ _ _ h)
 
 -- How many records a row holds whose count has room.
 pub count-held : (n J : ℕ) (r : List ℕ) → RowSized n J r → getD r countAt 0 ≤ J
@@ -174,6 +210,16 @@ readable n J b r z g = record {
       peer-fits n b r k a m i (every-says mostBoxes _ k (g .peers) a m);
 }
 
+-- .. as a book with its index.
+pub booked : (n J b : ℕ) (r : List ℕ) → RowSized n J r → HeadSays n J b r → RowBooked J r
+booked n J b r z g = record {
+  words = z .words;
+  loads = z .loads;
+  count = g .count;
+  numbers = numbered J (getD r firstAt 0) (getD r lastAt 0) (getD r countAt 0) (g .first) (g .last)
+      (g .counted);
+}
+
 -- What the form of a row says.
 pub record RowFormed (n J b : ℕ) (r : List ℕ) : Type 0 where
   pub fits : rowFits J r ≡ true
@@ -182,6 +228,8 @@ pub record RowFormed (n J b : ℕ) (r : List ℕ) : Type 0 where
   pub whole : headFault n J b r ≡ Fault.None
   pub says : HeadSays n J b r
   pub readable : RowReadable n r
+  pub booked : RowBooked J r
+  pub indexed : Indexed 0 (getD r firstAt 0) (agreedOf r) (indexOf J r)
 
 module _ (n J b : ℕ) (r : List ℕ) (z : RowSized n J r) where
   pub formed : rowForm n J b r ≡ true → RowFormed n J b r
@@ -219,10 +267,14 @@ module _ (n J b : ℕ) (r : List ℕ) (z : RowSized n J r) where
         whole = head-whole n J b r says;
         says = says;
         readable = readable n J b r z says;
+        booked = booked n J b r z says;
+        indexed = form-indexed _ _ _ (all-at 4 _ fits);
       }
 
   -- What the code of `is_by_form` has: no word is amiss ..
-  pub form-go : headFault n J b r ≡ Fault.None → each proper (recordsOf r) ≡ rowForm n J b r
+  pub form-go : headFault n J b r ≡ Fault.None
+      → (each proper (recordsOf r) && indexForm (getD r firstAt 0) (agreedOf r) (indexOf J r))
+      ≡ rowForm n J b r
   unfolding rowForm rowFits formBox all
   form-go e =
       let h = head-says n J b r e in
@@ -248,7 +300,14 @@ module _ (n J b : ℕ) (r : List ℕ) (z : RowSized n J r) where
         h .agreeing,
         h .peers,
       )
-      (simp and-true)
+      (both (each proper (recordsOf r))
+      (indexForm (getD r firstAt 0) (agreedOf r) (indexOf J r)))
+    where
+      both : (x y : Bool) → (x && y) ≡ (y && true && (true && (x && true && true)))
+      both true true = refl
+      both true false = refl
+      both false true = refl
+      both false false = refl
 
   -- .. or one is.
   pub form-stop : isWhole (headFault n J b r) ≡ false → false ≡ rowForm n J b r

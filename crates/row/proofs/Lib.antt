@@ -2,8 +2,12 @@
 pub mod NumberLaws
 pub mod PeerLaws
 pub mod FormLaws
+pub mod SameLaws
 pub mod StoreLaws
 pub mod BookLaws
+pub mod IndexLaws
+pub mod AfterLaws
 pub mod TurnLaws
 pub mod HeadLaws
+pub mod PlayLaws
 pub mod AgreedLaws

@@ -1,5 +1,5 @@
 -- A row that is stored holds the box that was stored.
-use mathlib.Core.Path.{_≡_, refl, sym, ap}
+use mathlib.Core.Path.{_≡_, refl, sym, ap, _∙_}
 use mathlib.Core.Bool.{Bool, true, false, cond}
 use mathlib.Core.List.{List, [], _∷_, _++_}
 use Prim.Native.Nat.{ℕ, _-_, _≤_, _<_}
@@ -7,11 +7,15 @@ use native.Mathlib.Omega.{arith}
 use borrow.Author.Tests.{leb-false, le-leb}
 use lib.Dec.{leb}
 use lib.ListN.{length, take, drop, getD}
+use lib.Seq.{drop-append-add, drop-drop}
 use Rattle.words.proofs.PartLaws.{gets-all}
 use Rattle.rules.specs.Every.{all}
 use Rattle.rules.specs.Sizes.{mostBoxes, unknown}
+use Rattle.rules.specs.Parts.{span}
+use Rattle.index.specs.Lent.{Indexed}
+use Rattle.index.proofs.FormLaws.{indexed-form}
 use Rattle.rules.specs.declared.model.BoxState.{BoxState}
-use Rattle.row.specs.Row.{boxOf, rowFits, wordsOf, headWords}
+use Rattle.row.specs.Row.{boxOf, rowFits, wordsOf, headWords, indexWidth, indexOf}
 use Rattle.row.proofs.NumberLaws.{flag-back, state-back, phase-back}
 use Rattle.row.proofs.NumberLaws.{flag-in, state-in, phase-in}
 
@@ -65,12 +69,27 @@ box-stored n h count rest five above = λ i. record {
   records = take count rest;
 }
 
--- Its words are by form where its records have room.
+-- Its words are by form where its records have room and the index is theirs.
 pub fits-stored : (J : ℕ) (h : BoxState) (count : ℕ) (rest : List ℕ) → count ≤ J
+    → Indexed 0 (h .kept .first) (take (span (h .kept .first) (h .kept .last)) (take count rest))
+    (indexOf J (wordsOf h count ++ rest))
     → rowFits J (wordsOf h count ++ rest) ≡ true
 unfolding rowFits all
-fits-stored J h count rest room =
-    rw (flag-in (h .leads), state-in (h .state), phase-in (h .phase), le-leb count J room)
+fits-stored J h count rest room ix =
+    rw (
+      flag-in (h .leads),
+      state-in (h .state),
+      phase-in (h .phase),
+      le-leb count J room,
+      indexed-form _ _ _ ix,
+    )
+
+-- The index stands where it stood.
+pub index-stored : (J : ℕ) (h : BoxState) (count : ℕ) (r : List ℕ)
+    → indexOf J (wordsOf h count ++ drop headWords r) ≡ indexOf J r
+index-stored J h count r =
+    ap (take (indexWidth J))
+    (drop-append-add (wordsOf h count) (drop headWords r) J ∙ drop-drop J headWords r)
 
 -- What the code of `store` has written is the head's words, and behind them what was there.
 pub store-law : (r : List ℕ) (h : BoxState) (held : ℕ) (ws : List ℕ) → ws ≡ wordsOf h held

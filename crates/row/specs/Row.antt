@@ -1,12 +1,15 @@
--- A box in words: its fields in the image's order, and then room for J records.
+-- A box in words: its fields in the image's order, room for J records, and the index of the agreed
+-- ones (Q-5).
 use Prim.Native.Nat.{ℕ, zero, suc, _+_}
 use mathlib.Core.Bool.{Bool, cond}
 use mathlib.Core.List.{List, [], _∷_}
 use lib.Dec.{leb, eqb}
-use lib.ListN.{getD}
+use lib.ListN.{take, getD}
 use Rattle.words.specs.Rows.{part}
+use Rattle.index.specs.Index.{nextsAt, indexForm}
 use Rattle.rules.specs.Every.{all}
 use Rattle.rules.specs.Sizes.{unknown}
+use Rattle.rules.specs.Parts.{span}
 use Rattle.rules.specs.Numbers.{flagNumber, stateNumber, phaseNumber}
 use Rattle.rules.specs.Box.{Box}
 use Rattle.rules.specs.Form.{formBox}
@@ -80,6 +83,17 @@ countAt = 21
 abbrev pub headWords : ℕ
 headWords = 22
 
+-- "Keep an index beside each box's records" (Q-5): it stands behind the room for J of them
+abbrev pub indexAt : ℕ → ℕ
+indexAt J = headWords + J
+
+-- its heads and tails, and a next word for each record
+abbrev pub indexWidth : ℕ → ℕ
+indexWidth J = nextsAt + J
+
+abbrev pub rowWidth : ℕ → ℕ
+rowWidth J = indexAt J + indexWidth J
+
 -- ---- what they say
 
 -- states 0 to this are by form
@@ -139,14 +153,24 @@ headOf n r = record {
 abbrev pub boxOf : ℕ → List ℕ → Box
 boxOf n r = record { head = headOf n r; records = part r headWords (getD r countAt 0) }
 
--- what the box does not show of its words: flag, state and phase have their numbers, and the
--- records have room
+-- the agreed records that it keeps
+abbrev pub agreedOf : List ℕ → List ℕ
+agreedOf r =
+    take (span (getD r firstAt 0) (getD r lastAt 0)) (part r headWords (getD r countAt 0))
+
+-- the words of its index
+abbrev pub indexOf : ℕ → List ℕ → List ℕ
+indexOf J r = part r (indexAt J) (indexWidth J)
+
+-- what the box does not show of its words: flag, state and phase have their numbers, the records
+-- have room, and the index is the one of the agreed records (Q-5)
 unfoldable pub rowFits : ℕ → List ℕ → Bool
 rowFits J r =
     all (leb (getD r flagAt 0) 1
     ∷ leb (getD r stateAt 0) mostState
     ∷ leb (getD r phaseAt 0) mostPhase
     ∷ leb (getD r countAt 0) J
+    ∷ indexForm (getD r firstAt 0) (agreedOf r) (indexOf J r)
     ∷ [])
 
 -- the row holds box b of n by form

@@ -27,6 +27,7 @@ use crate::STORED_NUMBER;
 use crate::STORED_PN;
 use crate::UNKNOWN;
 use crate::WAITING;
+use crate::indexed;
 use crate::records;
 use values::Fault;
 use values::Field;
@@ -105,14 +106,17 @@ pub fn head_fault(w: &[u64], n: u32, j: u32, b: u32) -> Fault
     number_fault(w, f)
 }
 
-// The row holds box b of n by form. What stands after its records is not read.
+// The row holds box b of n by form. What stands after its records and its index is not read.
 pub fn is_by_form(row: &[u64], n: u32, j: u32, b: u32) -> bool
     requires { ⌜ RowSized n j (now row) ⌝ }
     ensures { λ r. ⌜ r ≡ rowForm n j b (now (row .entry)) ⌝ }
 {
     let f = head_fault(row, n, j, b);
     match f {
-        Fault::None => values::all_proper(records(row)),
+        Fault::None => {
+            let proper = values::all_proper(records(row));
+            proper & indexed::is_indexed(row, j)
+        }
         Fault::At(_) => false,
     }
 }

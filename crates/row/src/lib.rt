@@ -1,10 +1,10 @@
-// One box in lent words: the words of its fields, and then room for its records.
+// One box in lent words: the words of its fields, room for its records, and their index.
 ghost use mathlib.Core.Path.{_≡_};
 ghost use mathlib.Core.List.{_++_};
 ghost use Prim.Native.Nat.{_+_, _-_, _≤_, _<_};
 ghost use lib.ListN.{length, getD, drop, set};
 ghost use Rattle.words.specs.Rows.{part, splice};
-ghost use Rattle.rules.specs.Sizes.{mostBoxes};
+ghost use Rattle.rules.specs.Sizes.{mostBoxes, mostLoads};
 ghost use Rattle.rules.specs.Numbers.{flagNumber};
 ghost use Rattle.rules.specs.Box.{own, mail, turnOf};
 ghost use Rattle.rules.specs.Site.{freshHead};
@@ -18,12 +18,14 @@ ghost use Rattle.row.specs.Row.{
   boxOf,
   headWords,
   countAt,
+  rowWidth,
   wordsOf,
 };
 ghost use Rattle.row.specs.Lent.{
   RowReadable,
   RowByForm,
   RowHolds,
+  FreshRow,
   PlaceByForm,
   recordsOf,
   countAfter,
@@ -49,10 +51,14 @@ use rules::parts;
 
 mod agreed;
 mod form;
+mod indexed;
 
 pub use agreed::is_agreed;
 pub use form::head_fault;
 pub use form::is_by_form;
+pub use indexed::build;
+pub use indexed::find;
+pub use indexed::row_width;
 
 // Where each field stands, in the image's order; the records stand behind the head.
 pub const FLAG: usize = 0;
@@ -267,12 +273,12 @@ fn fresh_head() -> BoxState
 }
 
 // A fresh box, whatever the words were.
-pub fn fresh(row: &mut [u64])
-    requires { ⌜ headWords ≤ length (now row) ⌝ }
-    ensures { λ _.
-        ⌜ now (row .exit) ≡ wordsOf freshHead 0 ++ drop headWords (now (row .entry)) ⌝ }
+pub fn fresh(row: &mut [u64], j: u32)
+    requires { ⌜ (length (now row) ≡ rowWidth j) × (j ≤ mostLoads) ⌝ }
+    ensures { λ _. ⌜ FreshRow j (now (row .entry)) (now (row .exit)) ⌝ }
 {
     store(row, fresh_head(), 0);
+    indexed::clear(row, j);
 }
 
 // The row holds the box when c is elected.
@@ -385,14 +391,16 @@ fn write(row: &mut [u64], place: &[u64], count: u32, b: Book)
 }
 
 // The row holds the box after its turn; the place holds the mail that it took.
-pub fn play(row: &mut [u64], place: &[u64], n: u32, t: Turn)
-    requires { ⌜ Plays n (now row) (now place) t ⌝ }
-    ensures { λ _. ⌜ Played n (now (row .entry)) (now (place .entry)) t (now (row .exit)) ⌝ }
+pub fn play(row: &mut [u64], place: &[u64], n: u32, j: u32, t: Turn)
+    requires { ⌜ Plays n j (now row) (now place) t ⌝ }
+    ensures { λ _. ⌜ Played n j (now (row .entry)) (now (place .entry)) t (now (row .exit)) ⌝ }
 {
     let book = t.book;
     let next = t.next;
     let count = values::number(row[COUNT]);
     let held = count_after(book, count);
+    let indexed = indexed::release(row, j, book, count, next.kept.first, next.kept.last);
     write(row, place, count, book);
     store(row, next, held);
+    indexed::enter_from(row, j, indexed);
 }

@@ -15,17 +15,20 @@ use Rattle.rules.specs.Form.{firstForm, countForm, peerForm, formBox, formLink,
 use Rattle.rules.specs.Needs.{ruled}
 use Rattle.rules.specs.Step.{byAnswer, elect, step}
 use Rattle.laws.proofs.Types.{Answer, Call, Refusal}
-use Rattle.row.specs.Row.{rowFits}
+use lib.ListN.{replicate}
+use Rattle.index.specs.Index.{firstOf, lastOf, table, headsOf, tailsOf, nextsOf, same, indexForm}
+use Rattle.row.specs.Row.{rowFits, indexWidth}
 use Rattle.memory.specs.Memory.{siteOf, roomy}
 use Rattle.site.specs.Entries.{stepOn}
 use Rattle.shut_out.specs.Engines.{Fits}
 
--- n, J, L, epoch, present; the row of box 1, with first 1; there is no link
+-- n, J, L, epoch, present; the row of box 1, with first 1, no record and none in its index; there
+-- is no link
 abbrev pub words : List ℕ
 words =
     1 ∷ 1 ∷ 1 ∷ 1 ∷ 1
     ∷ 0 ∷ 0 ∷ 0 ∷ 0 ∷ 0 ∷ 1 ∷ 0 ∷ 0 ∷ 0 ∷ 0 ∷ 0 ∷ 0 ∷ 0 ∷ 0 ∷ 0 ∷ 0
-    ∷ unknown ∷ unknown ∷ unknown ∷ unknown ∷ unknown ∷ 0 ∷ 0 ∷ []
+    ∷ unknown ∷ unknown ∷ unknown ∷ unknown ∷ unknown ∷ 0 ∷ 0 ∷ replicate (indexWidth 1) 0
 
 pub record Computed : Type 0 where
   pub elects : stepOn words [] (Call.Elect 1) .answer ≡ Answer.Done
@@ -38,7 +41,8 @@ pub record Computed : Type 0 where
 pub computed : Computed
 unfolding pick all each every tally ones onesIn sizesForm proper recordForm bit digit has setForm
     inState inPhase unless settled canRecover recover acted firstForm countForm peerForm formBox
-    formLink form ruled byAnswer elect step rowFits siteOf roomy stepOn
+    formLink form ruled byAnswer elect step rowFits siteOf roomy stepOn firstOf lastOf table headsOf
+    tailsOf nextsOf same indexForm
 computed = record {
   elects = refl;
   recovers = refl;

@@ -15,7 +15,8 @@ use Rattle.rules.specs.declared.model.Setting.{Setting}
 use Rattle.rules.specs.declared.model.Verdict.{Verdict}
 use Rattle.laws.proofs.Logic.{true≠false}
 use Rattle.laws.proofs.StepLaws.{changed}
-use Rattle.memory.specs.Memory.{rowWidth, pastSite, pastLinks, siteOf, readable, generalWords}
+use Rattle.memory.specs.Memory.{pastSite, pastLinks, siteOf, readable, generalWords}
+use Rattle.row.specs.Row.{rowWidth}
 use Rattle.memory.specs.Memory.{memoryForm}
 use Rattle.memory.specs.After.{settingAt, linksBy, RowsPut, LinksPut}
 use Rattle.memory.proofs.LentLaws.{form-readable, setting-same, readable-rows, readable-made}

@@ -17,7 +17,8 @@ use Rattle.rules.specs.Form.{form}
 use Rattle.laws.proofs.FormKept.{fresh-form}
 use Rattle.laws.proofs.FormLaws.{sizes-says}
 use Rattle.laws.proofs.SetLaws.{set-small, set-up, set-full}
-use Rattle.memory.specs.Memory.{rowWidth, siteWords, linksWords, boxIn, linkIn, siteOf, readable}
+use Rattle.memory.specs.Memory.{siteWords, linksWords, boxIn, linkIn, siteOf, readable}
+use Rattle.row.specs.Row.{rowWidth}
 use Rattle.memory.specs.Memory.{generalWords}
 use Rattle.memory.specs.Memory.{pastSite, pastLinks, memoryForm}
 use Rattle.memory.specs.After.{settingAt, RowsPut, LinksPut}

@@ -12,7 +12,8 @@ use Rattle.rules.specs.declared.model.Answer.{Answer}
 use Rattle.rules.specs.declared.model.Setting.{Setting}
 use Rattle.rules.specs.declared.model.Verdict.{Verdict}
 use Rattle.row.specs.Row.{boxOf}
-use Rattle.memory.specs.Memory.{rowWidth, rowAt, boxIn, linkIn, siteOf, readable, generalWords}
+use Rattle.memory.specs.Memory.{rowAt, boxIn, linkIn, siteOf, readable, generalWords}
+use Rattle.row.specs.Row.{rowWidth}
 use Rattle.memory.specs.After.{settingAt}
 use Rattle.memory.proofs.LentLaws.{readable-rows, readable-links, readable-made}
 use Rattle.site.specs.General.{generalPut, settingPut, withGeneral, Presented}

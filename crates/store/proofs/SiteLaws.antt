@@ -16,7 +16,8 @@ use Rattle.laws.proofs.FormLaws.{is-box, box-is}
 use Rattle.row.specs.Row.{boxOf, rowFits}
 use Rattle.link.specs.Link.{linkWidth, linkOf}
 use Rattle.link.specs.Holds.{Holds}
-use Rattle.memory.specs.Memory.{rowWidth, siteWords, linksWords, rowAt, linkAt, linkIndex, siteOf}
+use Rattle.memory.specs.Memory.{siteWords, linksWords, rowAt, linkAt, linkIndex, siteOf}
+use Rattle.row.specs.Row.{rowWidth}
 use Rattle.memory.specs.Memory.{epochAt, presentAt, generalWords}
 use Rattle.memory.specs.After.{settingAt, RowsLent, LinksLent}
 use Rattle.memory.proofs.LentLaws.{readable-made, form-both}

@@ -2,19 +2,25 @@
 use mathlib.Core.Path.{_≡_}
 use mathlib.Core.Bool.{true}
 use Prim.Native.Nat.{ℕ, _≤_}
-use mathlib.Core.List.{List}
+use mathlib.Core.List.{List, _++_}
 use lib.ListN.{length}
 use Rattle.rules.specs.Box.{Box, Letter}
 use Rattle.letter.specs.Place.{letterAt, placeFits}
 use Rattle.row.specs.Row.{boxOf, rowFits}
 use Rattle.memory.specs.Memory.{siteWords, linksWords, pastSite, pastLinks, siteOf, memoryForm}
 use Rattle.cells.specs.Cells.{Stands, Found}
+use Rattle.image.specs.Image.{boxWords}
 use Rattle.image.specs.Parts.{Listed, nIn, JIn, LIn, listed, listedBytes, GoodListed}
 
 -- the place p holds the letter y
 pub record HoldsLetter (J : ℕ) (p : List ℕ) (y : Letter) : Type 0 where
   pub letter : letterAt p ≡ y
   pub fits : placeFits J p ≡ true
+
+-- the row r begins with the words and the records of the box x; what follows is not looked at
+pub record HasBox (r : List ℕ) (x : Box) : Type 0 where
+  pub rest : List ℕ
+  pub words : r ≡ boxWords x ++ (x .records ++ rest)
 
 -- the row r holds the box x, one of n
 pub record HoldsBox (n J : ℕ) (r : List ℕ) (x : Box) : Type 0 where

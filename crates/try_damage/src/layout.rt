@@ -16,6 +16,9 @@ const ROW_HEAD: usize = 22;
 
 const PLACE_HEAD: usize = 6;
 
+// What stands in an index before the words beside the records.
+const NEXTS: usize = 128;
+
 const LINK_HEAD: usize = 2;
 
 fn get(words: &[u64], at: usize) -> usize {
@@ -36,9 +39,17 @@ fn many(k: usize, width: usize) -> usize {
     sum
 }
 
+// A box: its fields, its records, and their index.
+fn row_width(j: usize) -> usize {
+    wrapping_add_usize(
+        wrapping_add_usize(ROW_HEAD, j),
+        wrapping_add_usize(NEXTS, j),
+    )
+}
+
 // The general words, and a row for each box.
 fn site_end(n: usize, j: usize) -> usize {
-    wrapping_add_usize(GENERAL, many(n, wrapping_add_usize(ROW_HEAD, j)))
+    wrapping_add_usize(GENERAL, many(n, row_width(j)))
 }
 
 // A link of L places for each ordered pair of different boxes.

@@ -20,7 +20,7 @@ fn main() {
     let mut text = io::large_buffer();
     let mut image = [0u8; 2048];
     let mut back = [0u8; 2050];
-    let mut site = [0u64; 160];
+    let mut site = [0u64; 820];
     let mut links = [0u64; 1000];
     let n = io::read_full(STDIN_FILENO, &mut text);
     script::play(&text[..n], &mut image, &mut site, &mut links, &mut back);

@@ -10,9 +10,9 @@ use crate::spots::J;
 use crate::spots::L;
 use crate::spots::N;
 use crate::spots::PRESENT;
-use crate::spots::ROW_HEAD;
 use crate::spots::get;
 use crate::spots::row_at;
+use crate::spots::row_width;
 use own::Sent;
 use rules::model::Act;
 use rules::model::Answer;
@@ -59,7 +59,7 @@ fn row_end(a: usize, j: u32, most: usize) -> usize
     requires { ⌜ a ≤ most ⌝ }
     ensures { λ r. ⌜ (a ≤ r) × (r ≤ most) ⌝ }
 {
-    let width = ROW_HEAD + j as usize;
+    let width = row_width(j);
     if width < most - a {
         return a + width;
     }

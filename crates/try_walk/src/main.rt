@@ -3,12 +3,14 @@
 use libc::STDIN_FILENO;
 use spots::GENERAL;
 use spots::LINK_HEAD;
+use spots::NEXTS;
 use spots::PLACE_HEAD;
 use spots::ROW_HEAD;
 
 mod alone;
 mod decimals;
 mod engine;
+mod indexed;
 mod lent;
 mod script;
 mod see;
@@ -16,7 +18,7 @@ mod show;
 mod spots;
 
 // The largest site here has n = 5, J = 4,096 and L = 4: it and its copy fit a usual stack of 8 MB.
-const SITE: usize = GENERAL + 5 * (ROW_HEAD + 4096);
+const SITE: usize = GENERAL + 5 * (ROW_HEAD + 4096 + NEXTS + 4096);
 
 const PLACE: usize = PLACE_HEAD + 4096;
 

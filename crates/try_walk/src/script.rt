@@ -5,6 +5,7 @@ use crate::alone;
 use crate::decimals::Numbers;
 use crate::decimals::numbers_at;
 use crate::engine;
+use crate::indexed;
 use crate::lent;
 use crate::lent::Lent;
 use crate::see;
@@ -79,9 +80,14 @@ fn tell(t: Told, n: Numbers, z: Lent) -> Lent {
     }
 }
 
+// The index follows the other words, and not the other way round.
 fn put_row(z: Lent, site: &mut [u64], c: u64, k: u64, v: u64) {
-    let at = wrapping_add_usize(spots::row_at(z.j, c), k as usize);
-    spots::put(site, at, v);
+    let at = spots::row_at(z.j, c);
+    let k = k as usize;
+    spots::put(site, wrapping_add_usize(at, k), v);
+    if k < wrapping_add_usize(spots::ROW_HEAD, z.j as usize) {
+        indexed::build(site, at, z.j as usize);
+    }
 }
 
 fn put_link(z: Lent, links: &mut [u64], a: u64, b: u64, k: u64, v: u64) {
@@ -95,6 +101,7 @@ fn put_book(z: Lent, site: &mut [u64], c: u64, k: u64) {
     spots::put(site, wrapping_add_usize(at, spots::LAST), k);
     spots::put(site, wrapping_add_usize(at, spots::ROW_COUNT), k);
     spots::put_pairs(site, wrapping_add_usize(at, spots::ROW_HEAD), k as usize);
+    indexed::build(site, at, z.j as usize);
 }
 
 fn put_in(p: Put, n: Numbers, z: Lent, site: &mut [u64], links: &mut [u64], letter: &mut [u64]) {

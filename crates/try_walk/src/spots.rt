@@ -15,12 +15,19 @@ pub(crate) const PRESENT: usize = 4;
 
 pub(crate) const GENERAL: usize = 5;
 
-// A box's row: its last agreed number, its count of records, and its words before these.
+// A box's row: its last agreed number, its first, its count of records, and its words before these.
 pub(crate) const LAST: usize = 4;
+
+pub(crate) const FIRST: usize = 5;
 
 pub(crate) const ROW_COUNT: usize = 21;
 
 pub(crate) const ROW_HEAD: usize = 22;
+
+// Behind the room for records the index: its slots, and its words before those beside the records.
+pub(crate) const SLOTS: usize = 64;
+
+pub(crate) const NEXTS: usize = 128;
 
 // A place of a mail: its count of records, and its words before these.
 pub(crate) const PLACE_COUNT: usize = 5;
@@ -81,10 +88,15 @@ fn less_two(k: u64) -> usize {
     (k - 2) as usize
 }
 
+// The fields, room for the records, and their index.
+pub(crate) fn row_width(j: u32) -> usize {
+    let index = wrapping_add_usize(NEXTS, j as usize);
+    wrapping_add_usize(wrapping_add_usize(ROW_HEAD, j as usize), index)
+}
+
 // The row of box c: behind the general words and the rows of the boxes before it.
 pub(crate) fn row_at(j: u32, c: u64) -> usize {
-    let width = wrapping_add_usize(ROW_HEAD, j as usize);
-    wrapping_add_usize(GENERAL, many(less_one(c), width))
+    wrapping_add_usize(GENERAL, many(less_one(c), row_width(j)))
 }
 
 // The row of the link from a to b: the links of the senders before a, those of a to boxes before b.

@@ -10,6 +10,16 @@ add-w c =
     let start = c .before .before .before .before .before .before in
     omega (arith, c .size2 .ensures, start .pre .1 .loads)
 
+add-w-2 : tie.Need-add-w-2
+add-w-2 c =
+    let start = c .before .before .before .before .before .before in
+    omega (arith, c .size2 .ensures, start .pre .1 .loads)
+
+add-w-3 : tie.Need-add-w-3
+add-w-3 c =
+    let start = c .before .before .before .before .before .before in
+    omega (arith, c .size2 .ensures, start .pre .1 .loads)
+
 put-lasts-requires : tie.Need-put-lasts-requires
 put-lasts-requires c κs =
     let at-put-next = c .before .before .before in
@@ -38,5 +48,6 @@ returns c =
 pub put-done-spec : {M : Type 1} → statement M
 put-done-spec = tie.close (tie.spec
     (λ c. search needs) (λ c κs. search needs) (λ c. search needs) (λ c κs. search needs) add-w
+    add-w-2 add-w-3
     (λ c κs. search needs) (λ c. search needs) (λ c κs. search needs) put-lasts-requires
     (λ c κs. search needs) (λ c. search needs) returns)

@@ -1,7 +1,7 @@
 use borrow.Author.Needs.{needs}
 use mathlib.Core.Path.{ap}
 use Prim.Native.Nat.{ℕ, _+_}
-use Rattle.memory.specs.Memory.{rowWidth}
+use Rattle.row.specs.Row.{rowWidth}
 use Rattle.memory.proofs.PutLaws.{part-cut}
 use Rattle.memory.proofs.places.row_of.Statement.{statement}
 use Rattle.memory.proofs.places.row_of.Tie as tie

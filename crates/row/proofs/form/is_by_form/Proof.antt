@@ -1,10 +1,11 @@
 -- `row::form::is_by_form` meets its contract: the words first, and then the records.
 use borrow.Author.Needs.{needs}
 use mathlib.Core.Path.{sym, ap, _∙_}
+use mathlib.Core.Bool.{_&&_}
 use Rattle.rules.specs.Every.{each}
 use Rattle.rules.specs.Sizes.{proper}
 use Rattle.values.specs.Faults.{isWhole}
-use Rattle.row.proofs.FormLaws.{head-says, readable, form-go, form-stop}
+use Rattle.row.proofs.FormLaws.{head-says, readable, booked, form-go, form-stop}
 use Rattle.row.proofs.form.is_by_form.Statement.{statement}
 use Rattle.row.proofs.form.is_by_form.Tie as tie
 
@@ -14,12 +15,22 @@ records-requires c κs =
     let e = sym (c .before .before .head-fault .ensures) ∙ c .enum-told .given .1 in
     readable _ _ _ _ (s .pre) (head-says _ _ _ _ e) .room
 
-returns : tie.Need-returns
-returns c =
+is-indexed-requires : tie.Need-is-indexed-requires
+is-indexed-requires c κs =
     let told = c .before .before in
     let s = told .before .before .before .before in
     let e = sym (told .before .before .head-fault .ensures) ∙ told .enum-told .given .1 in
-    c .all-proper .ensures ∙ ap (each proper) (c .before .records .ensures)
+    booked _ _ _ _ (s .pre) (head-says _ _ _ _ e)
+
+returns : tie.Need-returns
+returns c =
+    let tested = c .before in
+    let told = tested .before .before in
+    let s = told .before .before .before .before in
+    let e = sym (told .before .before .head-fault .ensures) ∙ told .enum-told .given .1 in
+    (λ k.
+    (tested .all-proper .ensures ∙ ap (each proper) (tested .before .records .ensures)) k
+    && c .is-indexed .ensures k)
     ∙ form-go _ _ _ _ (s .pre) e
 
 returns-2 : tie.Need-returns-2
@@ -33,4 +44,4 @@ is-by-form-spec =
     tie.close
     (tie.spec
     (λ c κs. search needs) (λ c. search needs) records-requires (λ c κs. search needs)
-    (λ c. search needs) returns returns-2)
+    is-indexed-requires (λ c. search needs) returns returns-2)

@@ -1,42 +1,34 @@
--- `store::boxes::store_box` meets its contract: its words, and then the records behind them.
+-- `store::boxes::store_box` meets its contract: the box's words, and then its index.
+use mathlib.Core.Path.{_∙_}
 use borrow.Author.Needs.{needs}
-use native.Mathlib.Omega.{arith}
-use lib.ListN.{length}
-use Rattle.laws.proofs.FormLaws.{box-says}
-use Rattle.image.proofs.CutLaws.{box-groups-long}
-use Rattle.image.proofs.Lengths.{length-box}
-use Rattle.image.proofs.HeadedLaws.{headed-asks, headed-stored}
-use Rattle.image.proofs.BoxLaws.{box-headed}
-use Rattle.store.specs.Store.{HoldsBox}
-use Rattle.store.proofs.BoxLaws.{box-held}
+use Rattle.store.proofs.BoxLaws.{box-booked, box-held}
 use Rattle.store.proofs.boxes.store_box.Statement.{statement}
 use Rattle.store.proofs.boxes.store_box.Tie as tie
 
-get-headed-requires : tie.Need-get-headed-requires
-get-headed-requires c κs =
-    let groups = c .before .before .box-groups in
-    let start = c .before .before .before .before .before in
+build-requires : tie.Need-build-requires
+build-requires c κs =
+    let read = c .before .before .before in
+    let start = read .before .before .before .before in
     let a = start .args in
-    let few = start .pre .0 in
-    let wide = start .pre .1 .0 in
-    headed-asks (box-headed (a .n) (a .j) (few .0) (few .1)) (a .src .now) (a .at)
-    (groups .result) (length (a .row .now)) (groups .ensures .0)
-    (omega arith, omega (arith, wide), omega (arith, wide, few .1))
-    (λ x g. omega (arith, length-box (a .n) x (few .0), box-groups-long (a .n)))
-    (λ x g. omega (arith, box-says (g .1) .held .room, wide)) (start .pre .1 .1)
+    let there = start .pre .1 .1 in
+    let got = read .read-box .ensures (there .place) (there .found) in
+    box-booked (a .n) (a .j) (start .pre .0 .1) (there .found .thing) (there .found .good) _
+    (read .read-box .kept .1 .1 .1 .1 .0 ∙ start .pre .1 .0) (got .0)
 
 returns : tie.Need-returns
-returns c =
-    let named = c .before .before .before .before .before in
-    let start = named .before .before .before in
+returns c = λ q f.
+    let built = c .before .before in
+    let read = built .before .before .before .before in
+    let start = read .before .before .before .before in
     let a = start .args in
-    let few = start .pre .0 in
-    headed-stored (box-headed (a .n) (a .j) (few .0) (few .1)) (HoldsBox (a .n) (a .j))
-    (box-held (a .n) (a .j) (few .0)) (named .box-groups .result) (named .box-groups .ensures .0)
-    (c .before .before .get-headed .ensures)
+    let got = read .read-box .ensures q f in (
+      box-held (a .n) (a .j) (start .pre .0 .0) (f .thing) (f .good) _ (got .0) _
+          (built .build .ensures),
+      got .1,
+    )
 
 pub store-box-spec : {M : Type 1} → statement M
 store-box-spec =
     tie.close
     (tie.spec
-    (λ c κs. search needs) (λ c. search needs) get-headed-requires (λ c. search needs) returns)
+    (λ c κs. search needs) build-requires (λ c. search needs) returns)
