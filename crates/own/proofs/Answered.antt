@@ -1,10 +1,14 @@
 -- The contracts can be met: some words are what the entries of `own` may give back.
-use Prim.Native.Nat.{ℕ, _+_, _≤_}
+use Prim.Native.Nat.{ℕ, zero, suc, _+_, _≤_}
 use mathlib.Core.Path.{_≡_, refl, sym, subst}
 use mathlib.Core.Bool.{true, false, _&&_}
 use mathlib.Core.List.{List}
 use lib.Dec.{ltb}
-use lib.ListN.{length}
+use native.Mathlib.Numerals.{add-one}
+use native.Mathlib.Omega.{arith}
+use lib.ListN.{length, take, getD, length-append, length-drop}
+use lib.Seq.{length-take-le}
+use Rattle.index.specs.Lent.{Indexed}
 use Rattle.rules.specs.Answers.{isAccepted}
 use Rattle.rules.specs.Box.{own, mail, turnOf}
 use Rattle.rules.specs.Own.{OwnOutcome, toldNeeds}
@@ -15,10 +19,13 @@ use Rattle.laws.proofs.Types.{Act, Answer, Book, Out, Setting, Turn}
 use Rattle.laws.proofs.Logic.{Or, left, right, decide, same?}
 use Rattle.letter.specs.Place.{headWords as letterHead}
 use Rattle.letter.proofs.EncloseLaws.{enclose-law}
-use Rattle.row.specs.Row.{headWords}
-use Rattle.row.specs.Lent.{recordsOf, Writes, Wrote, Plays, Played}
-use Rattle.row.proofs.BookLaws.{keep-law, drop-law, put-law, take-law, play-law}
-use Rattle.row.proofs.HeadLaws.{elect-law}
+use Rattle.row.specs.Row.{firstAt, rowWidth, agreedOf, indexOf}
+use Rattle.row.specs.Lent.{RowBooked, Reindexed, recordsOf, Writes, Wrote, Plays, Played}
+use Rattle.row.proofs.BookLaws.{keep-law, drop-law, put-law, take-law}
+use Rattle.row.proofs.IndexLaws.{Entered, entered-some, entered-more, entered-all, clear-law}
+use Rattle.row.proofs.IndexLaws.{release-all}
+use Rattle.row.proofs.PlayLaws.{play-booked, play-writes, play-booked-again, play-index, play-law}
+use Rattle.row.proofs.HeadLaws.{fresh-law, elect-law}
 use Rattle.own.specs.declared.Judged.{Judged}
 use Rattle.own.specs.Entry.{ownBox, ownLetter, placeOf, rowReads, placeReads, actOn, mailOn}
 use Rattle.own.specs.Entry.{Owned, rowOf, freshOn, electedOn, Told}
@@ -41,10 +48,38 @@ wrote r p (Book.Drop d) w = (_, drop-law r p d _ w refl)
 wrote r p (Book.Put d a v) w = (_, put-law r p d a v _ w refl)
 wrote r p (Book.Take d a b e) w = (_, take-law r p d a b e _ w refl)
 
-played : (n : ℕ) (r p : List ℕ) (t : Turn) → Plays n r p t → (q : List ℕ) × Played n r p t q
-played n r p t ok =
-    let w = wrote r p (t .book) (ok .writes) in
-    (_, play-law n r p t ok _ _ (w .0) _ refl refl (w .1) refl)
+-- Of the agreed records, none of them in the index, the first i enter it, ..
+entered : (J : ℕ) (r : List ℕ) → RowBooked J r
+    → Indexed 0 (getD r firstAt 0) (take 0 (agreedOf r)) (indexOf J r)
+    → (i : ℕ) → i ≤ length (agreedOf r) → (q : List ℕ) × Entered J r i q
+entered J r ok none zero h = (r, entered-some J r ok 0 h none)
+entered J r ok none (suc i) h =
+    let l = entered J r ok none i (omega arith) in
+    subst (λ (m : ℕ). (q : List ℕ) × Entered J r m q) (add-one i) (
+      _,
+      entered-more J r ok i (getD r firstAt 0 + i) (l .0) (l .1) (omega arith) refl _ refl,
+    )
+
+-- .. and so all.
+all-entered : (J : ℕ) (r : List ℕ) → RowBooked J r
+    → Indexed 0 (getD r firstAt 0) (take 0 (agreedOf r)) (indexOf J r)
+    → (q : List ℕ) × Reindexed J 0 (getD r firstAt 0) (agreedOf r) r q
+all-entered J r ok none =
+    let n = length (agreedOf r) in
+    let l = entered J r ok none n (omega arith) in
+    (l .0, entered-all J r ok n (l .0) (l .1) (omega arith))
+
+-- All leave the index, the book is written, the head stored, and all that are agreed then enter it.
+played : (n J : ℕ) (r p : List ℕ) (t : Turn) → Plays n J r p t → (q : List ℕ) × Played n J r p t q
+played n J r p t ok =
+    let booked = play-booked n J r p t ok in
+    let out = release-all J r booked (t .book) (t .next .kept .first) (t .next .kept .last)
+    (ok .after .one) _ (clear-law J r (booked .words) _ refl) in
+    let w = wrote _ p (t .book) (play-writes n J r p t ok 0 _ out) in
+    let again = play-booked-again n J r p t ok 0 _ out (w .0) _ _ refl (w .1) refl in
+    let all = all-entered J _ again
+    (play-index n J r p t ok 0 _ out (w .0) _ _ refl (w .1) refl) in
+    (all .0, play-law n J r p t ok 0 _ out (w .0) _ _ refl (w .1) refl (all .0) (all .1))
 
 sends : (p : List ℕ) (o : Out) (rs : List ℕ) → Posts p o rs
     → (q : List ℕ) × (to : ℕ) × Posted p o rs q to
@@ -56,13 +91,14 @@ sends p (Out.To to m) rs h = go (same? to 0)
     go (right some) =
         (_, to, posted p rs m to _ some (enclose-law p m rs h _ _ _ _ refl refl refl refl))
 
-carries : (n : ℕ) (r p out : List ℕ) (t : Turn) → Carries n r p out t
-    → (r' : List ℕ) × (out' : List ℕ) × (to : ℕ) × Carried n r p out t r' out' to
-carries n r p out t ok =
-    let q = played n r p t (ok .plays) in
+carries : (n J : ℕ) (r p out : List ℕ) (t : Turn) → Carries n J r p out t
+    → (r' : List ℕ) × (out' : List ℕ) × (to : ℕ) × Carried n J r p out t r' out' to
+carries n J r p out t ok =
+    let q = played n J r p t (ok .plays) in
     let w = sends out (t .out) (recordsOf (q .0))
-    (subst (Posts out (t .out)) (sym (held-after n r p t (ok .plays) (q .0) (q .1))) (ok .posts)) in
-    (q .0, w .0, w .1, carried n r p t (ok .plays) (q .0) (q .1) out _ (w .0) (w .1) refl (w .2))
+    (subst (Posts out (t .out)) (sym (held-after n J r p t (ok .plays) (q .0) (q .1)))
+    (ok .posts)) in
+    (q .0, w .0, w .1, carried n J r p t (ok .plays) (q .0) (q .1) out _ (w .0) (w .1) refl (w .2))
 
 -- ---- the turn
 
@@ -92,16 +128,16 @@ concludes s r p out t ok = go (decide (isAccepted a))
       reads = still-there s r out;
     }
     go (left on) =
-        let c = carries (s .n) _ p _ t
-        (can-carry s r p out t a refl on ok (headWords + s .j) (letterHead + s .j) refl refl) in
+        let c = carries (s .n) (s .j) _ p _ t
+        (can-carry s r p out t a refl on ok (rowWidth (s .j)) (letterHead + s .j) refl refl) in
         record {
           row = _;
           place = _;
           answer = a;
           to = c .2;
-          owned = carried-out s r p out t a refl on ok (headWords + s .j) (letterHead + s .j) refl
+          owned = carried-out s r p out t a refl on ok (rowWidth (s .j)) (letterHead + s .j) refl
               refl (c .0) (c .1) (c .2) (c .3);
-          reads = reads-again s r p out t a refl on ok (headWords + s .j) (letterHead + s .j) refl
+          reads = reads-again s r p out t a refl on ok (rowWidth (s .j)) (letterHead + s .j) refl
               refl (c .0) (c .1) (c .2) (c .3);
         }
 
@@ -157,10 +193,17 @@ module _ (s : Setting) (r out : List ℕ) where
 
 -- ---- it is started, and told of an election
 
-pub fresh-given : (n J L : ℕ) (r : List ℕ) → sizesForm n J L ≡ true → headWords + J ≤ length r
+pub fresh-given : (n J L : ℕ) (r : List ℕ) → sizesForm n J L ≡ true → rowWidth J ≤ length r
     → (q : List ℕ) × Told n J (freshOn n J L r) r q Answer.Done
-fresh-given n J L r sizes long =
-    (_, made-fresh n J L r sizes long (headWords + J) refl _ refl)
+fresh-given n J L r sizes long = (
+  _,
+  made-fresh n J L r sizes long (rowWidth J) refl _
+      (λ m few. fresh-law m J (rowOf J r) words few _ _ refl
+      (clear-law J _ (simp (length-append, length-drop) (omega (arith, words))) _ refl)),
+)
+  where
+    words : length (rowOf J r) ≡ rowWidth J
+    words = length-take-le (rowWidth J) r long
 
 pub elected-given : (s : Setting) (r : List ℕ) (c : ℕ)
     → (q : List ℕ) × (a : Answer) × Told (s .n) (s .j) (electedOn s r c) r q a
@@ -174,7 +217,7 @@ elected-given s r c = go (judged s r noMail false (bothBoxes s r noMail c)) refl
         let lent = elect-lent s r noMail c h in (
           _,
           Answer.Done,
-          was-elected s r c g lent (headWords + s .j) refl _
+          was-elected s r c g lent (rowWidth (s .j)) refl _
               (elect-law s c (rowOf (s .j) r) (lent .by-form) _ _ _ _ refl refl refl refl),
         )
 

@@ -12,7 +12,7 @@ use Rattle.laws.proofs.Logic.{In}
 use Rattle.laws.proofs.FormLaws.{sizes-says, is-box, is-link}
 use Rattle.laws.proofs.TurnForm.{EventFits}
 use Rattle.letter.specs.Place.{letterAt, headWords as letterHead}
-use Rattle.row.specs.Row.{headWords}
+use Rattle.row.specs.Row.{rowWidth}
 use Rattle.row.specs.Lent.{RowByForm, PlaceByForm}
 use Rattle.own.specs.declared.Judged.{Judged}
 use Rattle.own.specs.Entry.{rowOf, placeOf, ownBox, ownLetter, rowReads, placeReads}
@@ -46,7 +46,7 @@ module _ {s : Setting} {r p : List ℕ} {mailed : Bool} {e : Event} {reads : Boo
   own-of : OwnRow s r
   own-of = own-row s r (ok .sizes) (ok .row)
 
-  pub row-long : headWords + s .j ≤ length r
+  pub row-long : rowWidth (s .j) ≤ length r
   row-long = own-of .long
 
   pub row-by-form : RowByForm s (rowOf (s .j) r)

@@ -1,20 +1,43 @@
 -- How firm the statement is: nothing else could satisfy it.
-use mathlib.Core.Path.{_≡_, refl, sym, ap, _∙_}
+use mathlib.Core.Path.{_≡_, refl, sym, ap, _∙_, subst}
 use mathlib.Core.Bool.{Bool, true, false, not, _&&_, _||_, cond}
 use mathlib.Core.List.{List}
 use Prim.Native.Nat.{ℕ, _+_}
-use lib.Dec.{ltb}
-use lib.ListN.{length}
+use lib.Dec.{leb, ltb}
+use lib.ListN.{length, take}
 use Rattle.rules.specs.Sizes.{sizesForm}
+use Rattle.rules.specs.Parts.{span}
 use Rattle.rules.specs.Box.{Box, Event, turnOf, brought}
 use Rattle.rules.specs.Own.{OwnOutcome, unmoved, ownTurn, ownStep}
 use Rattle.laws.proofs.Types.{Answer, Refusal, Setting, Turn}
-use Rattle.laws.proofs.Logic.{both-no}
+use Rattle.laws.proofs.Logic.{both-no, and-yes}
 use Rattle.laws.proofs.StepLaws.{by-needs}
 use Rattle.rules.specs.Answers.{isRefusal, isAccepted}
-use Rattle.row.specs.Row.{boxOf}
-use Rattle.own.specs.Entry.{rowOf, ownBox, buffered, ownOn, lettersIn, Owned, Told}
+use Rattle.index.specs.Lent.{Indexed}
+use Rattle.index.proofs.Once.{index-once}
+use Rattle.row.specs.Row.{boxOf, rowFits, rowWidth, indexOf}
+use Rattle.row.proofs.FormLaws.{fits-says}
+use Rattle.own.specs.Entry.{rowOf, ownBox, rowReads, buffered, ownOn, lettersIn, Owned, Told}
+use Rattle.own.specs.Lent.{StillReads}
+use Rattle.own.proofs.Room.{SameIndex}
 use Rattle.letter.specs.Place.{headWords as letterHead}
+
+-- ---- the index is the box's (Q-5)
+
+-- Rows that fit and hold the same box have the same index.
+pub one-index : (n J : ℕ) (r r' : List ℕ) → rowFits J r ≡ true → rowFits J r' ≡ true
+    → boxOf n r ≡ boxOf n r' → SameIndex J r r'
+one-index n J r r' f f' e =
+    index-once (fits-says J r f .4)
+    (subst (λ (x : Box). Indexed 0 (x .head .kept .first)
+    (take (span (x .head .kept .first) (x .head .kept .last)) (x .records)) (indexOf J r'))
+    (sym e) (fits-says J r' f' .4))
+
+read-fits : (J : ℕ) (r : List ℕ) → rowReads J r ≡ true → rowFits J (rowOf J r) ≡ true
+unfolding rowReads
+read-fits J r e = and-yes (leb (rowWidth J) (length r)) (rowFits J (rowOf J r)) e .1
+
+-- ---- one end of an outcome
 
 -- a row, a place, an answer and a set that show the same
 pub record Alike (s : Setting) (r out : List ℕ) (a : Answer) (to : ℕ)
@@ -83,6 +106,13 @@ module _ (s : Setting) (x : Box) (reads : Bool) (e : Event) {r out r₁ out₁ r
   pub same-place : to ≡ 0 → out₁ ≡ out₂
   same-place z = p .quiet z ∙ sym (q .quiet (sym (same-end .receivers) ∙ z))
 
+  -- A row that could be read has the same index too.
+  pub same-index : rowReads (s .j) r ≡ true → StillReads s r r₁ out₁ to → StillReads s r r₂ out₂ to'
+      → SameIndex (s .j) (rowOf (s .j) r₁) (rowOf (s .j) r₂)
+  same-index h k k' =
+      one-index (s .n) (s .j) _ _ (read-fits (s .j) r₁ (k .row h)) (read-fits (s .j) r₂ (k' .row h))
+      (same-end .box)
+
   pub same-words : isRefusal a ≡ true → (r₁ ≡ r₂) × (out₁ ≡ out₂)
   unfolding Silent
   same-words h = (
@@ -99,6 +129,11 @@ module _ (n J : ℕ) (o : OwnOutcome) {r r₁ r₂ : List ℕ} {a a' : Answer} (
 
   pub same-box : boxOf n (rowOf J r₁) ≡ boxOf n (rowOf J r₂)
   same-box = p .box ∙ sym (q .box)
+
+  pub told-index : isRefusal a ≡ false → SameIndex J (rowOf J r₁) (rowOf J r₂)
+  told-index h =
+      one-index n J _ _ (read-fits J r₁ (p .reads h))
+      (read-fits J r₂ (q .reads (rw (← same-answer) h))) same-box
 
   pub same-row : isRefusal a ≡ true → r₁ ≡ r₂
   same-row h = p .kept h ∙ sym (q .kept (rw (← same-answer) h))

@@ -4,7 +4,7 @@ use mathlib.Core.Bool.{Bool, true, false, _&&_, and-true, and-false, and-assoc}
 use mathlib.Core.List.{List, [], _∷_}
 use Prim.Native.Nat.{ℕ, _+_, _≤_, _<_}
 use lib.Dec.{leb}
-use lib.ListN.{length, getD}
+use lib.ListN.{length}
 use lib.Seq.{length-take-le}
 use borrow.Author.Tests.{leb-true, le-leb, lt-leb}
 use Rattle.rules.specs.Every.{all}
@@ -14,11 +14,11 @@ use Rattle.rules.specs.Box.{Event, own, mail}
 use Rattle.rules.specs.Form.{formBox}
 use Rattle.rules.specs.Own.{formEvent, formOwn}
 use Rattle.laws.proofs.Types.{Act, Setting}
-use Rattle.laws.proofs.Logic.{and-yes, passed, _&_, none, made}
+use Rattle.laws.proofs.Logic.{and-yes, _&_, none, made}
 use Rattle.laws.proofs.FormLaws.{FormedBox, FormedLetter, sizes-says, box-says, letter-says}
 use Rattle.letter.specs.Place.{placeForm, headWords as letterHead}
 use Rattle.letter.specs.Lent.{PlaceSized}
-use Rattle.row.specs.Row.{rowFits, rowForm, countAt, headWords}
+use Rattle.row.specs.Row.{rowForm, rowWidth}
 use Rattle.row.specs.Lent.{RowSized, RowByForm, PlaceByForm}
 use Rattle.own.specs.Entry.{rowOf, placeOf, ownBox, ownLetter, rowReads, placeReads}
 use Rattle.own.specs.Lent.{rowTest, placeTest, formTest}
@@ -44,11 +44,11 @@ module _ (w : ℕ) (ws : List ℕ) (fits form : Bool) where
       (leb-true w (length ws) (q .0), q .1, p .1)
 
 module _ (s : Setting) where
-  pub row-sized : (r : List ℕ) → sizesForm (s .n) (s .j) (s .l) ≡ true → headWords + s .j ≤ length r
+  pub row-sized : (r : List ℕ) → sizesForm (s .n) (s .j) (s .l) ≡ true → rowWidth (s .j) ≤ length r
       → RowSized (s .n) (s .j) (rowOf (s .j) r)
   row-sized r sizes h = let z = sizes-says sizes in
       record {
-        words = length-take-le (headWords + s .j) r h;
+        words = length-take-le (rowWidth (s .j)) r h;
         boxes = z .few-boxes;
         loads = z .few-loads;
       }
@@ -91,19 +91,17 @@ module _ (s : Setting) (r : List ℕ) where
 
 -- a box's own row by form
 pub record OwnRow (s : Setting) (r : List ℕ) : Type 0 where
-  pub long : headWords + s .j ≤ length r
-  pub count : getD (rowOf (s .j) r) countAt 0 ≤ s .j
+  pub long : rowWidth (s .j) ≤ length r
   pub box : FormedBox (s .n) (s .j) (s .me) (ownBox s r)
   pub by-form : s .me ≤ mostBoxes → RowByForm s (rowOf (s .j) r)
 
 pub own-row : (s : Setting) (r : List ℕ) → sizesForm (s .n) (s .j) (s .l) ≡ true
     → rowTest s r ≡ true → OwnRow s r
-unfolding rowReads rowFits rowForm
+unfolding rowReads rowForm
 own-row s r sizes e =
-    let p = tested (headWords + s .j) r _ _ e in
+    let p = tested (rowWidth (s .j)) r _ _ e in
     record {
       long = p .0;
-      count = leb-true (getD (rowOf (s .j) r) countAt 0) (s .j) (passed _ (p .1) .1 .1 .1 .0);
       box = box-says (p .2);
       by-form = λ me. record {
         size = row-sized s r sizes (p .0);

@@ -18,7 +18,7 @@ use Rattle.own.specs.Entry.{rowOf, placeOf, ownBox, rowReads, placeReads
 use Rattle.rules.specs.Answers.{isAccepted}
 use Rattle.own.specs.Entry.{buffered, Owned}
 use Rattle.own.specs.Lent.{Carries, Carried, Concludes, concluded, StillReads}
-use Rattle.row.specs.Row.{headWords}
+use Rattle.row.specs.Row.{rowWidth}
 
 -- Nothing has changed, and nothing is sent.
 pub nothing-done : (s : Setting) (r out : List ℕ) (o : OwnOutcome) (a : Answer)
@@ -121,9 +121,9 @@ module _ (s : Setting) (r p out : List ℕ) (t : Turn) (a : Answer)
     long = has-room s out (t .answer) a e h
 
     -- The code cuts the row at `end` and the place at `room`.
-    module _ (ok : Concludes s r p t) (end room : ℕ) (ee : end ≡ headWords + s .j)
+    module _ (ok : Concludes s r p t) (end room : ℕ) (ee : end ≡ rowWidth (s .j))
         (er : room ≡ letterHead + s .j) where
-      pub can-carry : Carries (s .n) (take end r) p (take room out) t
+      pub can-carry : Carries (s .n) (s .j) (take end r) p (take room out) t
       can-carry =
           rw (ee, er)
           (record {
@@ -132,18 +132,18 @@ module _ (s : Setting) (r p out : List ℕ) (t : Turn) (a : Answer)
           })
 
       module _ (q w : List ℕ) (to : ℕ)
-          (c : Carried (s .n) (take end r) p (take room out) t q w to) where
-        done : Carried (s .n) (rowOf (s .j) r) p (placeOf (s .j) out) t q w to
+          (c : Carried (s .n) (s .j) (take end r) p (take room out) t q w to) where
+        done : Carried (s .n) (s .j) (rowOf (s .j) r) p (placeOf (s .j) out) t q w to
         done = rw (ee, er) at c
 
         row-is : rowOf (s .j) (q ++ drop end r) ≡ q
-        row-is = rw ee (front-is (headWords + s .j) r q (ok .words) (done .played .words))
+        row-is = rw ee (front-is (rowWidth (s .j)) r q (ok .words) (done .played .words))
 
         place-is : placeOf (s .j) (w ++ drop room out) ≡ w
         place-is = rw er (front-is (letterHead + s .j) out w long (done .posted .words))
 
         row-words : length (q ++ drop end r) ≡ length r
-        row-words = rw ee (length-front r q (headWords + s .j) (done .played .words))
+        row-words = rw ee (length-front r q (rowWidth (s .j)) (done .played .words))
 
         place-words : length (w ++ drop room out) ≡ length out
         place-words = rw er (length-front out w (letterHead + s .j) (done .posted .words))
@@ -163,7 +163,7 @@ module _ (s : Setting) (r p out : List ℕ) (t : Turn) (a : Answer)
               letter = rw place-is (done .posted .letter);
               kept = λ f. absurd (both-no f (accepted-kept a h));
               quiet = λ z. rw er (front-back (letterHead + s .j) out w (done .posted .quiet z));
-              past-row = rw ee (front-past (headWords + s .j) r q (ok .words)
+              past-row = rw ee (front-past (rowWidth (s .j)) r q (ok .words)
                   (done .played .words));
               past-out = rw er (front-past (letterHead + s .j) out w long (done .posted .words));
               row-words = row-words;
@@ -174,9 +174,8 @@ module _ (s : Setting) (r p out : List ℕ) (t : Turn) (a : Answer)
         unfolding rowReads placeReads
         reads-again = record {
           row = λ f.
-              and-both (le-leb (headWords + s .j) _ (omega (arith, ok .words, row-words)))
-              (rw row-is (done .played .fits (s .j)
-              (length-take-le (headWords + s .j) r (ok .words))));
+              and-both (le-leb (rowWidth (s .j)) _ (omega (arith, ok .words, row-words)))
+              (rw row-is (done .played .fits));
           letter = λ f.
               and-both (le-leb (letterHead + s .j) _ (omega (arith, long, place-words)))
               (rw place-is (done .posted .fits f (s .j)

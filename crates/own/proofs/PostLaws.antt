@@ -4,14 +4,14 @@ use mathlib.Core.List.{List, [], _∷_}
 use Prim.Native.Nat.{ℕ, _+_, _≤_}
 use native.Mathlib.Omega.{arith}
 use lib.ListN.{length, getD}
-use borrow.Author.Tests.{leb-true, eq-eqb, ne-eqb}
+use borrow.Author.Tests.{eq-eqb, ne-eqb}
 use Rattle.rules.specs.Pick.{pick}
 use Rattle.rules.specs.Box.{Box, Letter}
 use Rattle.laws.proofs.Types.{Mail, Out, Turn}
-use Rattle.laws.proofs.Logic.{passed}
 use Rattle.letter.specs.Lent.{Enclosed}
-use Rattle.row.specs.Row.{rowFits, countAt, headWords}
+use Rattle.row.specs.Row.{countAt, headWords}
 use Rattle.row.specs.Lent.{recordsOf, Plays, Played}
+use Rattle.row.proofs.FormLaws.{fits-says}
 use Rattle.own.specs.Lent.{Posted, Carried, recordsAfter}
 
 module _ (p rs : List ℕ) where
@@ -45,20 +45,17 @@ module _ (p rs : List ℕ) where
       fits = λ s. e .fits;
     }
 
-module _ (n : ℕ) (r p : List ℕ) (t : Turn) (ok : Plays n r p t)
-    (q : List ℕ) (done : Played n r p t q) where
+module _ (n J : ℕ) (r p : List ℕ) (t : Turn) (ok : Plays n J r p t)
+    (q : List ℕ) (done : Played n J r p t q) where
   -- The records that the row then holds lie within it ..
   pub held-within : headWords + getD q countAt 0 ≤ length q
-  unfolding rowFits
   held-within =
-      let J = ok .writes .J in
-      let fits = passed _ (done .fits J (ok .writes .words)) in
       omega (
         arith,
-        leb-true
-            (getD q countAt 0) J (fits .1 .1 .1 .0),
+        fits-says J q (done .fits) .3,
         done .words,
         ok .writes .words,
+        ok .room,
       )
 
   -- .. and are those after the turn.
@@ -66,5 +63,5 @@ module _ (n : ℕ) (r p : List ℕ) (t : Turn) (ok : Plays n r p t)
   held-after = ap (λ (x : Box). x .records) (done .box)
 
   pub carried : (out rs w : List ℕ) (to : ℕ) → rs ≡ recordsOf q → Posted out (t .out) rs w to
-      → Carried n r p out t q w to
+      → Carried n J r p out t q w to
   carried out rs w to e h = record { played = done; posted = rw (← held-after, ← e) h }

@@ -1,22 +1,22 @@
 -- Unused room is not read: words that no box and no letter has change no outcome.
 use mathlib.Core.Path.{_≡_, refl, sym, ap, _∙_}
-use mathlib.Core.Bool.{Bool, true, false, not, _&&_, cond}
+use mathlib.Core.Bool.{Bool, true, false, not, _&&_}
 use mathlib.Core.List.{List, [], _∷_}
-use Prim.Native.Nat.{ℕ, suc, _+_, _≤_, _<_, min}
+use Prim.Native.Nat.{ℕ, suc, _+_, _<_, min}
 use native.Mathlib.Omega.{arith}
 use lib.Dec.{leb, ltb}
 use lib.ListN.{length, take, getD, length-take}
 use borrow.Author.Tests.{leb-true, leb-false, le-leb, lt-leb, lt-ltb, le-ltb}
-use Rattle.rules.specs.Sizes.{unknown}
+use Rattle.index.specs.Index.{slots, tailsAt, nextsAt, indexForm}
+use Rattle.rules.specs.Every.{all}
+use Rattle.rules.specs.Parts.{span}
 use Rattle.rules.specs.Box.{own, mail}
 use Rattle.laws.proofs.Types.{Act, Setting}
 use Rattle.letter.specs.Place as place
 use Rattle.letter.specs.Place.{kindOf, letterAt, placeFits, headWords as letterHead}
-use Rattle.row.specs.Row.{stateOf, phaseOf, flagOf, peerOf, boxOf, rowFits, headWords}
-use Rattle.row.specs.Row.{flagAt, stateAt, phaseAt, pnAt, lastAt, firstAt, storedPnAt}
-use Rattle.row.specs.Row.{storedNumberAt, bestPnAt, bestNumberAt, answeredAt, acceptsAt, heardAt}
-use Rattle.row.specs.Row.{bestAt, waitingAt, agreeingAt, beforePeers, peersAt, countAt}
-use Rattle.row.specs.Lent.{recordsOf}
+use Rattle.row.specs.Row.{boxOf, rowFits, rowWidth, mostState, mostPhase, agreedOf, indexOf}
+use Rattle.row.specs.Row.{flagAt, stateAt, phaseAt, lastAt, firstAt, peersAt}
+use Rattle.row.proofs.SameLaws.{SameRow, same-field, same-box, front-part}
 use Rattle.own.specs.Entry.{rowOf, placeOf, ownBox, ownLetter, rowReads, placeReads}
 use Rattle.own.specs.Entry.{buffered, ownOn, actOn, mailOn, freshOn, electedOn, holdsOn}
 
@@ -68,7 +68,7 @@ module _ (s : Setting) where
 
   -- of a row that becomes a fresh box's, only whether it is long enough, and the box that it held
   pub fresh-room : (r r' : List ℕ)
-      → leb (headWords + s .j) (length r) ≡ leb (headWords + s .j) (length r')
+      → leb (rowWidth (s .j)) (length r) ≡ leb (rowWidth (s .j)) (length r')
       → ownBox s r ≡ ownBox s r' → freshOn (s .n) (s .j) (s .l) r ≡ freshOn (s .n) (s .j) (s .l) r'
   unfolding freshOn
   fresh-room r r' long e = rw (long, e)
@@ -84,56 +84,62 @@ module _ (s : Setting) where
 
 -- ---- the words that are read
 
--- of a row: the fields, the lasts of n peers, the count of records and the records held
-pub record SameRow (n : ℕ) (r r' : List ℕ) : Type 0 where
-  pub fields : (k : ℕ) → k < peersAt → getD r k 0 ≡ getD r' k 0
-  pub peers : (k : ℕ) → k ≤ n → getD r (beforePeers + k) 0 ≡ getD r' (beforePeers + k) 0
-  pub count : getD r countAt 0 ≡ getD r' countAt 0
-  pub records : recordsOf r ≡ recordsOf r'
+-- Words that agree on the first w are both enough for them, or neither.
+pub enough : (w : ℕ) (xs ys : List ℕ) → take w xs ≡ take w ys
+    → leb w (length xs) ≡ leb w (length ys)
+enough w xs ys e = go (leb w (length xs)) refl
+  where
+    as-many : min w (length xs) ≡ min w (length ys)
+    as-many = sym (length-take w xs) ∙ ap length e ∙ length-take w ys
 
-module _ (n : ℕ) (r r' : List ℕ) (e : SameRow n r r') where
-  field : (k : ℕ) → leb (suc k) peersAt ≡ true → getD r k 0 ≡ getD r' k 0
-  field k h = e .fields k (leb-true (suc k) peersAt h)
+    go : (t : Bool) → leb w (length xs) ≡ t → t ≡ leb w (length ys)
+    go true h = sym (le-leb w (length ys) (omega (arith, leb-true w (length xs) h, as-many)))
+    go false h = sym (lt-leb w (length ys) (omega (arith, leb-false w (length xs) h, as-many)))
 
-  peer : (k : ℕ) → peerOf n r k ≡ peerOf n r' k
-  peer k = go (leb k n) refl
-    where
-      go : (t : Bool) → leb k n ≡ t
-          → cond t (getD r (beforePeers + k) 0) unknown
-          ≡ cond t (getD r' (beforePeers + k) 0) unknown
-      go true h = e .peers k (leb-true k n h)
-      go false h = refl
+-- of an index: the heads, the tails and a next word for each agreed record
+abbrev pub SameIndex : ℕ → List ℕ → List ℕ → Type 0
+SameIndex J r r' =
+    take (nextsAt + length (agreedOf r)) (indexOf J r)
+    ≡ take (nextsAt + length (agreedOf r)) (indexOf J r')
 
-  same-box : boxOf n r ≡ boxOf n r'
-  same-box = λ i. record {
-    head = record {
-      leads = flagOf (field flagAt refl i);
-      state = stateOf (field stateAt refl i);
-      phase = phaseOf (field phaseAt refl i);
-      kept = record {
-        pn = field pnAt refl i;
-        last = field lastAt refl i;
-        first = field firstAt refl i;
-        stored = record { pn = field storedPnAt refl i; number = field storedNumberAt refl i };
-      };
-      best = record {
-        pn = field bestPnAt refl i;
-        number = field bestNumberAt refl i;
-        value = field bestAt refl i;
-      };
-      answered = field answeredAt refl i;
-      accepts = field acceptsAt refl i;
-      heard = field heardAt refl i;
-      waiting = field waitingAt refl i;
-      agreeing = field agreeingAt refl i;
-      peers = peer 1 i ∷ peer 2 i ∷ peer 3 i ∷ peer 4 i ∷ peer 5 i ∷ [];
-    };
-    records = e .records i;
-  }
+-- of a row: the words of its box, and of its index
+pub record SameWords (n J : ℕ) (r r' : List ℕ) : Type 0 where
+  pub box : SameRow n r r'
+  pub index : SameIndex J r r'
 
-  same-fits : (J : ℕ) → rowFits J r ≡ rowFits J r'
-  unfolding rowFits
-  same-fits J = rw (field flagAt refl, field stateAt refl, field phaseAt refl, e .count)
+same-index : (k : ℕ) (rs xs ys : List ℕ)
+    → take (nextsAt + length rs) xs ≡ take (nextsAt + length rs) ys
+    → indexForm k rs xs ≡ indexForm k rs ys
+unfolding indexForm
+same-index k rs xs ys e =
+    let w = nextsAt + length rs in
+    rw (
+      enough w xs ys e,
+      front-part w xs ys e 0 slots (omega arith),
+      front-part w xs ys e tailsAt slots (omega arith),
+      front-part w xs ys e nextsAt (length rs) (omega arith),
+    )
+
+same-fits : (n J : ℕ) (r r' : List ℕ) → SameWords n J r r' → rowFits J r ≡ rowFits J r'
+unfolding rowFits
+same-fits n J r r' e = λ i.
+    all (leb (field flagAt refl i) 1
+    ∷ leb (field stateAt refl i) mostState
+    ∷ leb (field phaseAt refl i) mostPhase
+    ∷ leb (e .box .count i) J
+    ∷ index i
+    ∷ [])
+  where
+    field : (k : ℕ) → leb (suc k) peersAt ≡ true → getD r k 0 ≡ getD r' k 0
+    field = same-field n r r' (e .box)
+
+    index : indexForm (getD r firstAt 0) (agreedOf r) (indexOf J r)
+        ≡ indexForm (getD r' firstAt 0) (agreedOf r') (indexOf J r')
+    index =
+        same-index (getD r firstAt 0) (agreedOf r) (indexOf J r) (indexOf J r') (e .index)
+        ∙ (λ i. indexForm (field firstAt refl i)
+        (take (span (field firstAt refl i) (field lastAt refl i)) (e .box .records i))
+        (indexOf J r'))
 
 -- of a place: the fields, the count of records and the records held
 pub record SamePlace (p p' : List ℕ) : Type 0 where
@@ -162,12 +168,12 @@ module _ (p p' : List ℕ) (e : SamePlace p p') where
 
 module _ (s : Setting) where
   pub used-row : (r r' : List ℕ)
-      → leb (headWords + s .j) (length r) ≡ leb (headWords + s .j) (length r')
-      → SameRow (s .n) (rowOf (s .j) r) (rowOf (s .j) r') → RowsAlike s r r'
+      → leb (rowWidth (s .j)) (length r) ≡ leb (rowWidth (s .j)) (length r')
+      → SameWords (s .n) (s .j) (rowOf (s .j) r) (rowOf (s .j) r') → RowsAlike s r r'
   unfolding rowReads
   used-row r r' long e = record {
-    reads = rw (long, same-fits (s .n) (rowOf (s .j) r) (rowOf (s .j) r') e (s .j));
-    box = same-box (s .n) (rowOf (s .j) r) (rowOf (s .j) r') e;
+    reads = rw (long, same-fits (s .n) (s .j) (rowOf (s .j) r) (rowOf (s .j) r') e);
+    box = same-box (s .n) (rowOf (s .j) r) (rowOf (s .j) r') (e .box);
   }
 
   pub used-place : (p p' : List ℕ) → AsLong s p p'
@@ -180,23 +186,11 @@ module _ (s : Setting) where
 
 -- ---- what follows the first words is not read
 
--- Words that agree on the first w are both enough for them, or neither.
-pub enough : (w : ℕ) (xs ys : List ℕ) → take w xs ≡ take w ys
-    → leb w (length xs) ≡ leb w (length ys)
-enough w xs ys e = go (leb w (length xs)) refl
-  where
-    as-many : min w (length xs) ≡ min w (length ys)
-    as-many = sym (length-take w xs) ∙ ap length e ∙ length-take w ys
-
-    go : (t : Bool) → leb w (length xs) ≡ t → t ≡ leb w (length ys)
-    go true h = sym (le-leb w (length ys) (omega (arith, leb-true w (length xs) h, as-many)))
-    go false h = sym (lt-leb w (length ys) (omega (arith, leb-false w (length xs) h, as-many)))
-
 module _ (s : Setting) where
   pub first-row : (r r' : List ℕ) → rowOf (s .j) r ≡ rowOf (s .j) r' → RowsAlike s r r'
   unfolding rowReads
   first-row r r' e = record {
-    reads = rw (enough (headWords + s .j) r r' e, e);
+    reads = rw (enough (rowWidth (s .j)) r r' e, e);
     box = ap (boxOf (s .n)) e;
   }
 

@@ -2,25 +2,24 @@
 use mathlib.Core.Path.{_≡_, refl, sym, ap, _∙_}
 use mathlib.Core.Bool.{Bool, true, false, not, _&&_, _||_, cond}
 use mathlib.Core.List.{List, [], _∷_, _++_}
-use Prim.Native.Nat.{ℕ, _+_, _≤_, _<_}
+use Prim.Native.Nat.{ℕ, _≤_, _<_}
 use native.Mathlib.Omega.{arith}
 use lib.Dec.{leb}
 use lib.ListN.{length, take, drop}
-use lib.Seq.{length-take-le, length-front}
+use lib.Seq.{length-front}
 use borrow.Author.Tests.{le-leb, lt-leb}
 use Rattle.rules.specs.Sizes.{mostBoxes, sizesForm}
 use Rattle.rules.specs.Needs.{need, ruled}
 use Rattle.rules.specs.Box.{Box}
-use Rattle.rules.specs.Site.{freshHead, freshBox, isBox}
+use Rattle.rules.specs.Site.{freshBox, isBox}
 use Rattle.rules.specs.Step.{agreedAs}
 use Rattle.rules.specs.Own.{OwnOutcome, unmoved, ownFresh, ownElected, ownHolds}
 use Rattle.rules.specs.Own.{electedBox, toldNeeds}
 use Rattle.laws.proofs.Types.{Answer, Refusal, Setting}
 use Rattle.laws.proofs.Logic.{both-no, and-yes, and-both}
 use Rattle.laws.proofs.FormLaws.{sizes-says, is-box}
-use Rattle.row.specs.Row.{boxOf, wordsOf, headWords}
-use Rattle.row.specs.Lent.{RowHolds}
-use Rattle.row.proofs.HeadLaws.{fresh-law}
+use Rattle.row.specs.Row.{boxOf, rowWidth}
+use Rattle.row.specs.Lent.{RowHolds, FreshRow}
 use Rattle.own.specs.declared.Judged.{Judged}
 use Rattle.own.specs.Entry.{rowOf, ownBox, rowReads, freshOn, electedOn, holdsOn, Told}
 use Rattle.own.specs.Lent.{judged, RowLent, electedBy}
@@ -42,23 +41,23 @@ module _ (n J : ℕ) (r : List ℕ) (o : OwnOutcome) where
   }
 
   -- The first words of the row, which the code cuts at `end`, hold the box x.
-  module _ (x : Box) (e : o ≡ unmoved x Answer.Done) (long : headWords + J ≤ length r)
-      (end : ℕ) (ee : end ≡ headWords + J) (q : List ℕ) where
+  module _ (x : Box) (e : o ≡ unmoved x Answer.Done) (long : rowWidth J ≤ length r)
+      (end : ℕ) (ee : end ≡ rowWidth J) (q : List ℕ) where
     pub row-told : RowHolds n J x (rowOf J r) q → Told n J o r (q ++ drop end r) Answer.Done
     unfolding rowReads
     row-told holds =
         let here : rowOf J (q ++ drop end r) ≡ q =
-        rw ee (front-is (headWords + J) r q long (holds .words)) in
+        rw ee (front-is (rowWidth J) r q long (holds .words)) in
         let as-long : length (q ++ drop end r) ≡ length r =
-        rw ee (length-front r q (headWords + J) (holds .words)) in
+        rw ee (length-front r q (rowWidth J) (holds .words)) in
         record {
           answer = ap (λ (u : OwnOutcome). u .answer) (sym e);
           box = rw here (holds .box) ∙ ap (λ (u : OwnOutcome). u .next) (sym e);
           kept = λ h. absurd (both-no h refl);
           reads = λ h.
-              and-both (le-leb (headWords + J) _ (omega (arith, long, as-long)))
+              and-both (le-leb (rowWidth J) _ (omega (arith, long, as-long)))
               (rw here (holds .fits));
-          past-row = rw ee (front-past (headWords + J) r q long (holds .words));
+          past-row = rw ee (front-past (rowWidth J) r q long (holds .words));
           row-words = as-long;
         }
 
@@ -80,32 +79,32 @@ module _ (n J L : ℕ) (r : List ℕ) where
 
   fresh-is : freshOn n J L r
       ≡ cond (sizesForm n J L)
-      (cond (leb (headWords + J) (length r)) (unmoved freshBox Answer.Done)
+      (cond (leb (rowWidth J) (length r)) (unmoved freshBox Answer.Done)
       (unmoved x (Answer.Refused Refusal.Buffer)))
       (unmoved x (Answer.Refused Refusal.Sizes))
   unfolding freshOn ownFresh
   fresh-is =
       started (λ why. unmoved x (Answer.Refused why)) (unmoved freshBox Answer.Done)
-      (sizesForm n J L) (leb (headWords + J) (length r))
+      (sizesForm n J L) (leb (rowWidth J) (length r))
 
   pub bad-sizes : sizesForm n J L ≡ false → Told n J (freshOn n J L r) r r
       (Answer.Refused Refusal.Sizes)
   bad-sizes e = untold n J r _ Refusal.Sizes (fresh-is ∙ rw e refl)
 
   module _ (e : sizesForm n J L ≡ true) where
-    pub too-short : length r < headWords + J → Told n J (freshOn n J L r) r r
+    pub too-short : length r < rowWidth J → Told n J (freshOn n J L r) r r
         (Answer.Refused Refusal.Buffer)
     too-short h =
         untold n J r _ Refusal.Buffer
-        (fresh-is ∙ rw (e, lt-leb (headWords + J) (length r) h) refl)
+        (fresh-is ∙ rw (e, lt-leb (rowWidth J) (length r) h) refl)
 
-    pub made-fresh : (long : headWords + J ≤ length r) (end : ℕ) (ee : end ≡ headWords + J)
-        (q : List ℕ) → q ≡ wordsOf freshHead 0 ++ drop headWords (take end r)
+    pub made-fresh : (long : rowWidth J ≤ length r) (end : ℕ) (ee : end ≡ rowWidth J)
+        (q : List ℕ) → FreshRow J (take end r) q
         → Told n J (freshOn n J L r) r (q ++ drop end r) Answer.Done
-    made-fresh long end ee q eq =
-        row-told n J r _ freshBox (fresh-is ∙ rw (e, le-leb (headWords + J) (length r) long) refl)
+    made-fresh long end ee q made =
+        row-told n J r _ freshBox (fresh-is ∙ rw (e, le-leb (rowWidth J) (length r) long) refl)
         long end ee q
-        (fresh-law n J (rowOf J r) (length-take-le (headWords + J) r long) q (rw ee at eq))
+        ((rw ee at made) n (sizes-says e .few-boxes))
 
 -- ---- it is told of an election, and asked
 
@@ -128,7 +127,7 @@ module _ (s : Setting) (r : List ℕ) (c : ℕ) where
   not-elected {why} h = untold (s .n) (s .j) r outcome why (comes h)
 
   pub was-elected : ruled Judged.Refused (toldNeeds s c) Judged.Passed ≡ Judged.Passed
-      → RowLent s r → (end : ℕ) → end ≡ headWords + s .j → (q : List ℕ)
+      → RowLent s r → (end : ℕ) → end ≡ rowWidth (s .j) → (q : List ℕ)
       → RowHolds (s .n) (s .j) (electedBox s c (boxOf (s .n) (take end r))) (take end r) q
       → Told (s .n) (s .j) outcome r (q ++ drop end r) Answer.Done
   was-elected h lent end ee q holds =

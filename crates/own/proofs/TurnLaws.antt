@@ -1,12 +1,11 @@
 -- A turn of a box by form can be carried out: its row can take it, and any place of the site what
 -- it sends.
 use mathlib.Core.Bool.{true, false}
-use mathlib.Core.Path.{_≡_, subst}
+use mathlib.Core.Path.{_≡_, refl, subst}
 use mathlib.Core.List.{List}
 use Prim.Native.Nat.{ℕ, _+_, _-_, _≤_, _<_}
 use native.Mathlib.Omega.{arith}
 use lib.ListN.{length, take, getD, length-take, List·getD-eq-default}
-use lib.Seq.{length-take-le}
 use lib.Dec.{ltb}
 use borrow.Author.Tests.{ltb-true, ltb-false}
 use Rattle.rules.specs.Sizes.{mostBoxes, unknown, sizesForm}
@@ -16,14 +15,15 @@ use Rattle.rules.specs.Box.{Box, Event, enclosed, turnOf, brought}
 use Rattle.laws.proofs.Types.{Kind, Out, Setting}
 use Rattle.laws.proofs.Logic.{Or, left, right, In, All, All-head, decide}
 use Rattle.laws.proofs.FormLaws.{Proper, proper-some, Peer, FormedBox, FormedKind}
-use Rattle.laws.proofs.FormLaws.{sizes-says}
+use Rattle.laws.proofs.FormLaws.{sizes-says, box-made}
 use Rattle.laws.proofs.TurnForm.{OutFits, Fits, EventFits, turn-fits}
 use Rattle.letter.specs.Place.{letterAt, headWords as letterHead}
 use Rattle.letter.specs.Lent.{enclosedFrom, enclosedCount}
-use Rattle.own.specs.Entry.{ownBox}
+use Rattle.row.proofs.TurnLaws.{row-formed}
+use Rattle.row.proofs.AfterLaws.{turn-numbered}
+use Rattle.own.specs.Entry.{rowOf, ownBox}
 use Rattle.own.specs.Lent.{Posts, Concludes}
 use Rattle.own.proofs.FormLaws.{OwnRow}
-use Rattle.row.specs.Row.{headWords}
 
 -- ---- the row
 
@@ -96,18 +96,26 @@ concludes s r p e sizes own me present fits same =
     let t = turnOf s x e in
     let f = subst (λ (ms : List ℕ). Fits (s .n) (s .j) (s .me) x ms t) same
     (turn-fits s x e (own .box) (z .few-boxes) me present fits) in
+    let row = rowOf (s .j) r in
+    let held = row-formed s row (own .by-form (omega (arith, me .1, z .few-boxes))) in
     record {
       words = own .long;
       plays = record {
         writes = record {
           J = s .j;
-          words = length-take-le (headWords + s .j) r (own .long);
+          words = held .booked .words;
           loads = z .few-loads;
-          count = own .count;
+          count = held .booked .count;
           book = f .book;
         };
+        room = refl;
+        boxes = z .few-boxes;
         five = f .box .places;
         above = peers-above (f .box);
+        fits = held .fits;
+        before = held .booked .numbers;
+        after = turn-numbered (s .n) (s .j) (s .me) row (letterAt p .records) t (held .booked)
+            (f .book) (box-made (f .box));
       };
       posts = posts (s .n) (s .j) (t .out) _ (f .out);
     }

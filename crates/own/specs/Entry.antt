@@ -17,11 +17,11 @@ use Rattle.rules.specs.declared.model.Refusal.{Refusal}
 use Rattle.rules.specs.declared.model.Setting.{Setting}
 use Rattle.rules.specs.declared.model.Unheard.{Unheard}
 use Rattle.letter.specs.Place.{letterAt, placeFits, headWords as letterHead}
-use Rattle.row.specs.Row.{boxOf, rowFits, headWords}
+use Rattle.row.specs.Row.{boxOf, rowFits, rowWidth}
 
 -- the words of a box's row and of a letter's place; what follows them is unused room
 abbrev pub rowOf : ℕ → List ℕ → List ℕ
-rowOf J r = take (headWords + J) r
+rowOf J r = take (rowWidth J) r
 
 abbrev pub placeOf : ℕ → List ℕ → List ℕ
 placeOf J p = take (letterHead + J) p
@@ -35,7 +35,7 @@ ownLetter s p = letterAt (placeOf (s .j) p)
 
 -- the words can be read: there are enough of them, and they fit
 unfoldable pub rowReads : ℕ → List ℕ → Bool
-rowReads J r = leb (headWords + J) (length r) && rowFits J (rowOf J r)
+rowReads J r = leb (rowWidth J) (length r) && rowFits J (rowOf J r)
 
 unfoldable pub placeReads : ℕ → List ℕ → Bool
 placeReads J p = leb (letterHead + J) (length p) && placeFits J (placeOf J p)
@@ -73,7 +73,7 @@ unheardOn s r =
 -- a fresh box in the words of a row, whatever they were: 12 where they are too few, after 13
 unfoldable pub freshOn : ℕ → ℕ → ℕ → List ℕ → OwnOutcome
 freshOn n J L r =
-    cond (leb (headWords + J) (length r) || not (sizesForm n J L))
+    cond (leb (rowWidth J) (length r) || not (sizesForm n J L))
     (ownFresh n J L (boxOf n (rowOf J r)))
     (unmoved (boxOf n (rowOf J r)) (Answer.Refused Refusal.Buffer))
 
@@ -103,7 +103,7 @@ pub record Owned (s : Setting) (o : OwnOutcome) (r out r' out' : List ℕ) (a : 
   pub letter : lettersIn s to out' ≡ o .letters
   pub kept : isRefusal a ≡ true → r' ≡ r
   pub quiet : to ≡ 0 → out' ≡ out
-  pub past-row : drop (headWords + s .j) r' ≡ drop (headWords + s .j) r
+  pub past-row : drop (rowWidth (s .j)) r' ≡ drop (rowWidth (s .j)) r
   pub past-out : drop (letterHead + s .j) out' ≡ drop (letterHead + s .j) out
   pub row-words : length r' ≡ length r
   pub out-words : length out' ≡ length out
@@ -115,5 +115,5 @@ pub record Told (n J : ℕ) (o : OwnOutcome) (r r' : List ℕ) (a : Answer) : Ty
   pub box : boxOf n (rowOf J r') ≡ o .next
   pub kept : isRefusal a ≡ true → r' ≡ r
   pub reads : isRefusal a ≡ false → rowReads J r' ≡ true
-  pub past-row : drop (headWords + J) r' ≡ drop (headWords + J) r
+  pub past-row : drop (rowWidth J) r' ≡ drop (rowWidth J) r
   pub row-words : length r' ≡ length r

@@ -19,7 +19,7 @@ use Rattle.rules.specs.declared.model.Setting.{Setting}
 use Rattle.rules.specs.declared.model.Turn.{Turn}
 use Rattle.letter.specs.Place.{letterAt, placeFits, headWords as letterHead}
 use Rattle.letter.specs.Lent.{Encloses}
-use Rattle.row.specs.Row.{boxOf, headWords}
+use Rattle.row.specs.Row.{boxOf, rowWidth}
 use Rattle.row.specs.Lent.{RowByForm, Plays, Played}
 use Rattle.own.specs.declared.Judged.{Judged}
 use Rattle.own.specs.Entry.{rowOf, ownBox, ownLetter, rowReads, placeReads, buffered}
@@ -53,7 +53,7 @@ judged s r p mailed numbers =
 
 -- a box's own row r is by form: it can be told of an election, and asked
 pub record RowLent (s : Setting) (r : List ℕ) : Type 0 where
-  pub words : headWords + s .j ≤ length r
+  pub words : rowWidth (s .j) ≤ length r
   pub by-form : RowByForm s (rowOf (s .j) r)
 
 -- what an election of c makes of the box x then
@@ -80,19 +80,20 @@ abbrev pub recordsAfter : ℕ → List ℕ → List ℕ → Turn → List ℕ
 recordsAfter n r p t = turned (boxOf n r) t (letterAt p .records) .records
 
 -- the row r can take the turn t, and the place out what it sends
-pub record Carries (n : ℕ) (r p out : List ℕ) (t : Turn) : Type 0 where
-  pub plays : Plays n r p t
+pub record Carries (n J : ℕ) (r p out : List ℕ) (t : Turn) : Type 0 where
+  pub plays : Plays n J r p t
   pub posts : Posts out (t .out) (recordsAfter n r p t)
 
 -- they have become r' and out'
-pub record Carried (n : ℕ) (r p out : List ℕ) (t : Turn) (r' out' : List ℕ) (to : ℕ) : Type 0 where
-  pub played : Played n r p t r'
+pub record Carried (n J : ℕ) (r p out : List ℕ) (t : Turn) (r' out' : List ℕ) (to : ℕ)
+    : Type 0 where
+  pub played : Played n J r p t r'
   pub posted : Posted out (t .out) (recordsAfter n r p t) out' to
 
 -- a box's own row r can take the turn t, and any place of the site what it sends
 pub record Concludes (s : Setting) (r p : List ℕ) (t : Turn) : Type 0 where
-  pub words : headWords + s .j ≤ length r
-  pub plays : Plays (s .n) (rowOf (s .j) r) p t
+  pub words : rowWidth (s .j) ≤ length r
+  pub plays : Plays (s .n) (s .j) (rowOf (s .j) r) p t
   pub posts : (q : List ℕ) → length q ≡ letterHead + s .j
       → Posts q (t .out) (recordsAfter (s .n) (rowOf (s .j) r) p t)
 

@@ -7,6 +7,7 @@ ghost use lib.ListN.{length, take};
 ghost use Rattle.rules.specs.Sizes.{sizesForm};
 ghost use Rattle.rules.specs.Answers.{isAccepted};
 ghost use Rattle.letter.specs.Place.{headWords};
+ghost use Rattle.row.specs.Row.{rowWidth};
 ghost use Rattle.own.specs.Entry.{actOn, mailOn, unheardOn, Owned};
 ghost use Rattle.own.specs.Lent.{
   rowTest,
@@ -65,13 +66,22 @@ fn are_sizes(s: Setting) -> bool
     ranges::are_sizes(s.n as u64, s.j as u64, s.l as u64)
 }
 
-// The words of a row or of a place; what follows them is unused room.
-fn used(words: &[u64], head: usize, j: u32) -> &[u64]
-    requires { ⌜ head + j ≤ length (now words) ⌝ }
-    ensures { λ r. ⌜ now r ≡ take (head + j) (now (words .entry)) ⌝ }
+// The words of a row; what follows them is unused room.
+fn used_row(row: &[u64], j: u32) -> &[u64]
+    requires { ⌜ rowWidth j ≤ length (now row) ⌝ }
+    ensures { λ r. ⌜ now r ≡ take (rowWidth j) (now (row .entry)) ⌝ }
 {
-    let end = head + j as usize;
-    &words[0..end]
+    let end = row::row_width(j);
+    &row[0..end]
+}
+
+// .. and of a place.
+fn used_place(place: &[u64], j: u32) -> &[u64]
+    requires { ⌜ headWords + j ≤ length (now place) ⌝ }
+    ensures { λ r. ⌜ now r ≡ take (headWords + j) (now (place .entry)) ⌝ }
+{
+    let end = letter::HEAD + j as usize;
+    &place[0..end]
 }
 
 // The row can be read, and its box is by form.
@@ -79,10 +89,10 @@ fn is_row(row: &[u64], s: Setting) -> bool
     requires { ⌜ sizesForm (s .n) (s .j) (s .l) ≡ true ⌝ }
     ensures { λ r. ⌜ r ≡ rowTest s (now (row .entry)) ⌝ }
 {
-    if row.len() < row::HEAD + s.j as usize {
+    if row.len() < row::row_width(s.j) {
         return false;
     }
-    row::is_by_form(used(row, row::HEAD, s.j), s.n, s.j, s.me)
+    row::is_by_form(used_row(row, s.j), s.n, s.j, s.me)
 }
 
 // The place can be read, and its letter is by form.
@@ -93,7 +103,7 @@ fn is_letter(letter: &[u64], s: Setting) -> bool
     if letter.len() < letter::HEAD + s.j as usize {
         return false;
     }
-    letter::is_by_form(used(letter, letter::HEAD, s.j), s.j)
+    letter::is_by_form(used_place(letter, s.j), s.j)
 }
 
 // By form, of what concerns the box alone; `mailed` says whether a letter came.
@@ -160,13 +170,13 @@ fn send(out: &mut [u64], o: Out, records: &[u64]) -> u32
 }
 
 // The row takes the turn, and the place what it sends.
-fn carry_out(row: &mut [u64], letter: &[u64], out: &mut [u64], n: u32, t: Turn) -> u32
-    requires { ⌜ Carries n (now row) (now letter) (now out) t ⌝ }
+fn carry_out(row: &mut [u64], letter: &[u64], out: &mut [u64], n: u32, j: u32, t: Turn) -> u32
+    requires { ⌜ Carries n j (now row) (now letter) (now out) t ⌝ }
     ensures { λ r.
-        ⌜ Carried n (now (row .entry)) (now (letter .entry)) (now (out .entry)) t
+        ⌜ Carried n j (now (row .entry)) (now (letter .entry)) (now (out .entry)) t
         (now (row .exit)) (now (out .exit)) r ⌝ }
 {
-    row::play(row, letter, n, t);
+    row::play(row, letter, n, j, t);
     let o = t.out;
     send(out, o, row::records(row))
 }
@@ -188,9 +198,9 @@ fn conclude(row: &mut [u64], letter: &[u64], out: &mut [u64], s: Setting, t: Tur
             to: 0,
         };
     }
-    let end = row::HEAD + s.j as usize;
+    let end = row::row_width(s.j);
     let room = letter::HEAD + s.j as usize;
-    let to = carry_out(&mut row[0..end], letter, &mut out[0..room], s.n, t);
+    let to = carry_out(&mut row[0..end], letter, &mut out[0..room], s.n, s.j, t);
     Sent {
         answer: answer,
         to: to,
@@ -210,7 +220,7 @@ pub fn act(row: &mut [u64], out: &mut [u64], s: Setting, a: Act) -> Sent
     match came {
         Judged::Refused(why) => refused(why),
         Judged::Passed => {
-            let t = row::act_turn(used(row, row::HEAD, s.j), s, a);
+            let t = row::act_turn(used_row(row, s.j), s, a);
             conclude(row, &nothing, out, s, t)
         }
     }
@@ -225,7 +235,7 @@ pub fn unheard(row: &[u64], s: Setting) -> Unheard
     match came {
         Judged::Refused(why) => Unheard::Refused(why),
         Judged::Passed => {
-            let head = row::load(used(row, row::HEAD, s.j), s.n);
+            let head = row::load(used_row(row, s.j), s.n);
             head.unheard(s)
         }
     }
@@ -243,8 +253,8 @@ pub fn mail(row: &mut [u64], letter: &[u64], out: &mut [u64], s: Setting, sender
     match came {
         Judged::Refused(why) => refused(why),
         Judged::Passed => {
-            let read = used(letter, letter::HEAD, s.j);
-            let t = row::mail_turn(used(row, row::HEAD, s.j), read, s, sender);
+            let read = used_place(letter, s.j);
+            let t = row::mail_turn(used_row(row, s.j), read, s, sender);
             conclude(row, read, out, s, t)
         }
     }

@@ -9,7 +9,7 @@ ghost use Rattle.own.specs.Entry.{ownBox, freshOn, electedOn, holdsOn, T
 ghost use Rattle.own.specs.Lent.{RowLent, electedBy};
 use crate::Judged;
 use crate::judge;
-use crate::used;
+use crate::used_row;
 use rules::model::Answer;
 use rules::model::Refusal;
 use rules::model::Setting;
@@ -21,14 +21,14 @@ pub fn fresh(row: &mut [u64], n: u32, j: u32, l: u32) -> Answer
     ensures { λ r.
         ⌜ Told n j (freshOn n j l (now (row .entry))) (now (row .entry)) (now (row .exit)) r ⌝ }
 {
-    let end = row::HEAD + j as usize;
+    let end = row::row_width(j);
     if !ranges::are_sizes(n as u64, j as u64, l as u64) {
         return Answer::Refused(Refusal::Sizes);
     }
     if row.len() < end {
         return Answer::Refused(Refusal::Buffer);
     }
-    row::fresh(&mut row[0..end]);
+    row::fresh(&mut row[0..end], j);
     Answer::Done
 }
 
@@ -62,7 +62,7 @@ fn elect(row: &mut [u64], s: Setting, c: u32) -> Answer
     match came {
         Judged::Refused(why) => Answer::Refused(why),
         Judged::Passed => {
-            let end = row::HEAD + s.j as usize;
+            let end = row::row_width(s.j);
             row::elect(&mut row[0..end], s, c);
             Answer::Done
         }
@@ -103,7 +103,7 @@ pub fn holds(row: &[u64], s: Setting, k: u32, left: u32, right: u32) -> Answer
     match came {
         Judged::Refused(why) => Answer::Refused(why),
         Judged::Passed => {
-            let read = used(row, row::HEAD, s.j);
+            let read = used_row(row, s.j);
             if_true(row::is_agreed(read, s, k, left, right))
         }
     }

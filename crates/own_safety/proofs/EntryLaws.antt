@@ -15,7 +15,7 @@ use Rattle.rules.specs.Site.{freshBox}
 use Rattle.laws.proofs.Types.{Answer, Refusal, Setting}
 use Rattle.laws.proofs.Logic.{true≠false}
 use Rattle.letter.specs.Place.{headWords as letterHead}
-use Rattle.row.specs.Row.{boxOf, headWords}
+use Rattle.row.specs.Row.{boxOf, rowWidth}
 use Rattle.own.specs.Entry.{rowOf, ownBox, rowReads, buffered, ownOn, freshOn, electedOn, holdsOn}
 
 module _ (s : Setting) where
@@ -54,4 +54,4 @@ pub fresh-on : (n J L : ℕ) (r : List ℕ) → freshOn n J L r .answer ≡ Answ
     → (sizesForm n J L ≡ true) × (freshOn n J L r .next ≡ freshBox)
 unfolding freshOn ownFresh ruled
 fresh-on n J L r e =
-    started (boxOf n (rowOf J r)) (leb (headWords + J) (length r)) (sizesForm n J L) e
+    started (boxOf n (rowOf J r)) (leb (rowWidth J) (length r)) (sizesForm n J L) e

@@ -13,7 +13,7 @@ use Rattle.laws.proofs.Types.{Answer, Call}
 use Rattle.laws.proofs.Logic.{In, All, All-head, All-tail, All-twice, and-both}
 use Rattle.laws.proofs.FormLaws.{sizes-says}
 use Rattle.letter.specs.Place.{letterAt, headWords as letterHead}
-use Rattle.row.specs.Row.{headWords}
+use Rattle.row.specs.Row.{rowWidth}
 use Rattle.own.specs.Entry.{placeOf, placeReads, actOn, mailOn, freshOn, electedOn}
 use Rattle.own.specs.Entry as entry
 use Rattle.own.proofs.Answered.{Given, act-given, mail-given, fresh-given, elected-given}
@@ -216,11 +216,11 @@ pub record Alive (n J L : ℕ) (ds : List Call) (v : Yard) : Type 0 where
 
 module _ (n J L : ℕ) (sizes : sizesForm n J L ≡ true) where
   abbrev blank : List ℕ
-  blank = replicate (headWords + J) 0
+  blank = replicate (rowWidth J) 0
 
   made : (q : List ℕ) × entry.Told n J (freshOn n J L blank) blank q Answer.Done
   made = fresh-given n J L blank sizes
-      (omega (arith, length-replicate {A = ℕ} (headWords + J) 0))
+      (omega (arith, length-replicate {A = ℕ} (rowWidth J) 0))
 
   pub alive : {ds : List Call} {v : Yard} → Lived n J L ds v → Alive n J L ds v
   alive yard.began = record {

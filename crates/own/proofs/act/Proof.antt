@@ -49,7 +49,7 @@ passed c = clear (act-asks _ _ _ _) (sym (came (c .before .before)) ∙ c .enum-
 -- Its turn.
 turn : (c : tie.After-act-turn) → let a = start (c .before .before .before .before .before) .args in
     c .act-turn .result ≡ turnOf (a .s) (ownBox (a .s) (a .row .now)) (own (a .a))
-turn c = rw (c .before .used .ensures) at (c .act-turn .ensures)
+turn c = rw (c .before .used-row .ensures) at (c .act-turn .ensures)
 
 conclude-requires : tie.Need-conclude-requires
 conclude-requires c κs =
@@ -74,6 +74,6 @@ act-spec =
     (tie.spec
     (λ c. search needs) (λ c κs. search needs) (λ c κs. search needs) (λ c. search needs)
     (λ c κs. search needs) (λ c. search needs) (λ c κs. row-long (passed (c .before)))
-    (λ c κs. rw (c .used .ensures) (row-by-form (passed (c .before .before))))
+    (λ c κs. rw (c .used-row .ensures) (row-by-form (passed (c .before .before))))
     (λ c. search needs) conclude-requires (λ c. search needs) returns (λ c. search needs)
     (λ c. search needs) returns-2)

@@ -8,13 +8,13 @@ records-requires : tie.Need-records-requires
 records-requires c κs =
     let played = c .before .before .before .before in
     let ok = played .before .before .before .before .before .pre in
-    held-within _ _ _ _ (ok .plays) _ (played .play .ensures)
+    held-within _ _ _ _ _ (ok .plays) _ (played .play .ensures)
 
 send-requires : tie.Need-send-requires
 send-requires c κs =
     let played = c .before .before .before .before .before in
     let ok = played .before .before .before .before .before .pre in
-    rw (c .records .ensures, held-after _ _ _ _ (ok .plays) _ (played .play .ensures)) (ok .posts)
+    rw (c .records .ensures, held-after _ _ _ _ _ (ok .plays) _ (played .play .ensures)) (ok .posts)
 
 returns : tie.Need-returns
 returns c =
@@ -22,7 +22,7 @@ returns c =
     let read = sent .before in
     let played = read .before .before .before .before .before in
     let ok = played .before .before .before .before .before .pre in
-    carried _ _ _ _ (ok .plays) _ (played .play .ensures) _ _ _ _
+    carried _ _ _ _ _ (ok .plays) _ (played .play .ensures) _ _ _ _
     (read .records .ensures) (sent .send .ensures)
 
 pub carry-out-spec : {M : Type 1} → statement M

@@ -1,5 +1,5 @@
 -- Nothing is done, or the turn is carried out.
-use mathlib.Core.Path.{_≡_}
+use mathlib.Core.Path.{_≡_, _∙_}
 use mathlib.Core.Bool.{true}
 use native.Mathlib.Nat.{sub-zero}
 use borrow.Author.Needs.{needs}
@@ -35,25 +35,27 @@ carry-out-requires c κs =
     let answered = on .before .before in
     let start = answered .before .before .before .before in
     can-carry _ _ _ _ _ _ (answered .answer-in .ensures) (goes-on on) (start .pre)
-    _ _ (sub-zero _) (sub-zero _)
+    _ _ (sub-zero _ ∙ c .before .before .before .row-width .ensures) (sub-zero _)
 
 returns-2 : tie.Need-returns-2
 returns-2 c =
     let carried = c .before .before .before .before in
-    let on = carried .before .before .before .before .before in
+    let cut = carried .before .before .before .before in
+    let on = cut .before in
     let answered = on .before .before in
-    let start = answered .before .before .before .before in (
+    let start = answered .before .before .before .before in
+    let end = sub-zero _ ∙ cut .row-width .ensures in (
       carried-out _ _ _ _ _ _ (answered .answer-in .ensures) (goes-on on) (start .pre)
-          _ _ (sub-zero _) (sub-zero _) _ _ _ (carried .carry-out .ensures),
+          _ _ end (sub-zero _) _ _ _ (carried .carry-out .ensures),
       reads-again _ _ _ _ _ _ (answered .answer-in .ensures) (goes-on on) (start .pre)
-          _ _ (sub-zero _) (sub-zero _) _ _ _ (carried .carry-out .ensures),
+          _ _ end (sub-zero _) _ _ _ (carried .carry-out .ensures),
     )
 
 pub conclude-spec : {M : Type 1} → statement M
 conclude-spec =
     tie.close
     (tie.spec
-    (λ c κs. search needs) (λ c κs. search needs) returns (λ c. search needs) (λ c. search needs)
+    (λ c κs. search needs) (λ c κs. search needs) returns (λ c κs. search needs)
     (λ c. search needs) (λ c. search needs) (λ c. search needs) (λ c. search needs)
     (λ c. search needs) (λ c. search needs) (λ c. search needs) part-carry-out-end-2
     carry-out-requires (λ c. search needs) (λ c. search needs) returns-2)

@@ -15,7 +15,7 @@ returns c =
 is-by-form-requires : tie.Need-is-by-form-requires
 is-by-form-requires c κs =
     let start = c .before .before .before .before in
-    rw (c .used .ensures)
+    rw (c .used-place .ensures)
     (place-sized (start .args .s) (start .args .letter .now) (start .pre) (c .before .if1 .left))
 
 returns-2 : tie.Need-returns-2
@@ -24,7 +24,7 @@ returns-2 c =
     let long = c .before .before in
     let a = long .before .before .before .args in
     long-tested (letterHead + a .s .j) (a .letter .now) _ _ (long .if1 .left)
-    (rw (c .before .used .ensures) at (c .is-by-form .ensures))
+    (rw (c .before .used-place .ensures) at (c .is-by-form .ensures))
 
 pub is-letter-spec : {M : Type 1} → statement M
 is-letter-spec =

@@ -30,7 +30,8 @@ passed c = clear (mail-asks _ _ _ _) (sym (came (c .before .before)) ∙ c .enum
 mail-turn-requires : tie.Need-mail-turn-requires
 mail-turn-requires c κs =
     let ok = passed (c .before .before .before) in
-    rw (c .used2 .ensures, c .before .before .used .ensures) (row-by-form ok, place-by-form ok)
+    rw (c .used-row .ensures, c .before .before .used-place .ensures)
+    (row-by-form ok, place-by-form ok)
 
 -- Its turn.
 turn : (c : tie.After-mail-turn) →
@@ -39,14 +40,14 @@ turn : (c : tie.After-mail-turn) →
     ≡ turnOf (a .s) (ownBox (a .s) (a .row .now))
     (mail (a .sender) (ownLetter (a .s) (a .letter .now)))
 turn c =
-    rw (c .before .used2 .ensures, c .before .before .before .used .ensures)
+    rw (c .before .used-row .ensures, c .before .before .before .used-place .ensures)
     at (c .mail-turn .ensures)
 
 conclude-requires : tie.Need-conclude-requires
 conclude-requires c κs =
     let turned = c .before .before in
     let on = turned .before .before .before .before in
-    rw (turned .before .before .before .used .ensures)
+    rw (turned .before .before .before .used-place .ensures)
     (turn-concludes (passed on) _ refl (turn turned) (mail-fits (passed on)))
 
 returns-2 : tie.Need-returns-2
@@ -56,7 +57,7 @@ returns-2 c =
     let read = turned .before .before .before in
     let a = start (read .before .before .before) .args in (
       turn-owned (passed (read .before)) (placeOf (a .s .j) (a .letter .now)) refl (turn turned)
-          (rw (read .used .ensures) at (concluded .conclude .ensures .0)),
+          (rw (read .used-place .ensures) at (concluded .conclude .ensures .0)),
       concluded .conclude .ensures .1,
     )
 

@@ -26,7 +26,7 @@ passed c = clear (act-asks _ _ _ _) (sym (came (c .before .before)) ∙ c .enum-
 
 load-requires : tie.Need-load-requires
 load-requires c κs =
-    rw (c .used .ensures) (row-formed _ _ (row-by-form (passed (c .before))) .readable)
+    rw (c .used-row .ensures) (row-formed _ _ (row-by-form (passed (c .before))) .readable)
 
 returns-2 : tie.Need-returns-2
 returns-2 c =
@@ -34,7 +34,7 @@ returns-2 c =
     let read = loaded .before in
     let on = read .before in
     c .unheard .ensures
-    ∙ rw (loaded .load .ensures, read .used .ensures)
+    ∙ rw (loaded .load .ensures, read .used-row .ensures)
     (unheard-found _ _ _ (sym (came (on .before .before)) ∙ on .enum-told .given .1))
 
 pub unheard-spec : {M : Type 1} → statement M

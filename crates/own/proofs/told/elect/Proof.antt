@@ -17,22 +17,23 @@ returns c =
 
 elect-requires : tie.Need-elect-requires
 elect-requires c κs =
-    rw sub-zero (start (c .before .before .before .before) .pre .0 .by-form)
+    rw (sub-zero, c .before .row-width .ensures)
+    (start (c .before .before .before .before) .pre .0 .by-form)
 
 returns-2 : tie.Need-returns-2
 returns-2 c =
     let elected = c .before .before in
-    let on = elected .before .before .before in
+    let cut = elected .before .before in
+    let on = cut .before in
     let judged = on .before .before in
     let a = start judged .args in
     was-elected (a .s) _ (a .c) (sym (judged .judge-election .ensures) ∙ on .enum-told .given .1)
-    (start judged .pre .0) _ (sub-zero _) _ (elected .elect .ensures)
+    (start judged .pre .0) _ (sub-zero _ ∙ cut .row-width .ensures) _ (elected .elect .ensures)
 
 pub elect-spec : {M : Type 1} → statement M
 elect-spec =
     tie.close
     (tie.spec
-    (λ c κs. search needs) (λ c. search needs) (λ c. search needs) (λ c. search needs)
-    (λ c. search needs) (λ c. search needs) (λ c. search needs)
-    (λ c. start (c .before .before .before) .pre .0 .words) elect-requires returns
+    (λ c κs. search needs) (λ c. search needs) (λ c. search needs) (λ c κs. search needs)
+    (λ c. search needs) (λ c. search needs) (λ c. search needs) elect-requires returns
     (λ c. search needs) returns-2)

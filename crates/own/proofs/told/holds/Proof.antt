@@ -36,7 +36,7 @@ returns-2 c =
     let answered = c .before in
     let read = answered .before in
     c .if-true .ensures
-    ∙ rw (answered .is-agreed .ensures, read .used .ensures)
+    ∙ rw (answered .is-agreed .ensures, read .used-row .ensures)
     (holds-found _ _ noMail _ _ _ (passed (read .before)))
 
 pub holds-spec : {M : Type 1} → statement M
@@ -45,5 +45,5 @@ holds-spec =
     (tie.spec
     (λ c. search needs) (λ c κs. search needs) (λ c κs. search needs) (λ c. search needs)
     (λ c. search needs) (λ c κs. lent c .words)
-    (λ c κs. rw (c .used .ensures) (lent (c .before) .by-form)) (λ c κs. search needs)
+    (λ c κs. rw (c .used-row .ensures) (lent (c .before) .by-form)) (λ c κs. search needs)
     returns returns-2)
