@@ -1,14 +1,15 @@
 -- A line is parted at its first space: that is where the image's hex ends.
 use Prim.Native.Nat.{ℕ, suc, _+_, _≤_, _<_}
 use mathlib.Core.Path.{_≡_, refl, ap, sym, _∙_, subst}
-use mathlib.Core.Bool.{Bool, true, false}
+use mathlib.Core.Bool.{Bool, true, false, _||_}
 use mathlib.Core.List.{List, [], _∷_, _++_}
 use native.Mathlib.Omega.{arith}
-use lib.Dec.{eqb}
+use lib.Dec.{eqb, ltb}
 use lib.ListN.{length, take, drop, getD, length-append, length-drop}
 use lib.Seq.{take-length, take-all, take-append-seam, drop-append-add, split-at}
-use borrow.Author.Tests.{eqb-true, eq-eqb, ne-eqb}
+use borrow.Author.Tests.{eqb-true, eq-eqb, ne-eqb, ltb-false}
 use Rattle.bytes.specs.Bytes.{slice, indexAfter, indexOf}
+use Rattle.rules.specs.Pick.{pick-true, pick-false}
 use Rattle.laws.proofs.Logic.{both-no}
 use Rattle.hex.specs.Hex.{hexOf, smalls, Bytes, HexIs, read, long, bad}
 use Rattle.hex.specs.declared.Hexed.{Hexed}
@@ -16,11 +17,13 @@ use Rattle.hex.proofs.Once.{no-space}
 use Rattle.lines.specs.Printed.{readable}
 use Rattle.lines.specs.Read.{readLine, readOne}
 use Rattle.lines.specs.declared.Line.{Line}
+use Rattle.lines.specs.declared.One.{One}
 use Rattle.print.specs.Bytes.{bytes}
 use Rattle.answer.specs.declared.ask.Asked.{Asked}
 use Rattle.answer.specs.declared.reply.Ask.{Ask}
 use Rattle.answer.specs.Replies.{served}
-use Rattle.answer.specs.Asks.{runRead, askRead, askOf, Asks, askedOf}
+use Rattle.answer.specs.Asks.{runRead, findOf, secondSpace, findRead, askRead, askOf}
+use Rattle.answer.specs.Asks.{Asks, askedOf}
 use Rattle.answer.specs.Asks.{AskIs, asks, asks-long, asks-nothing}
 
 -- ---- the first place of a byte
@@ -151,6 +154,38 @@ line-asked t {l} k r e f =
     same (Line.Holds c m left right) g = refl
     same Line.Unreadable g = absurd (both-no g refl)
 
-pub run-asked : (t : List ℕ) {l : Line} → l ≡ readLine t → l ≡ Line.Unreadable
-    → runRead (readOne (bytes "run ") t) ≡ askOf t
-run-asked t e f = ap (λ (j : Line). askRead j t) (sym f ∙ e)
+pub run-asked : (t : List ℕ) {l : Line} {o : One} {other r : Ask} → l ≡ readLine t
+    → l ≡ Line.Unreadable → o ≡ readOne (bytes "run ") t → other ≡ findRead t
+    → r ≡ runRead o other → r ≡ askOf t
+run-asked t e f g h q =
+    q ∙ (λ i. runRead (g i) (h i)) ∙ ap (λ (j : Line). askRead j t) (sym f ∙ e)
+
+-- ---- the word `find` and two numbers
+
+pub find-not : (t : List ℕ) → (ltb (length t) 5 || ltb 64 (length t)) ≡ true
+    → Ask.Line Line.Unreadable ≡ findRead t
+unfolding findRead
+find-not t e = sym (pick-true _ _ _ e)
+
+-- what is not too short has the word's bytes
+pub word-within : (t : List ℕ) → (ltb (length t) 5 || ltb 64 (length t)) ≡ false → 5 ≤ length t
+word-within t n = go (ltb (length t) 5) refl n
+  where
+    go : (b : Bool) → ltb (length t) 5 ≡ b → (b || ltb 64 (length t)) ≡ false → 5 ≤ length t
+    go true e h = absurd (both-no refl h)
+    go false e h = ltb-false (length t) 5 e
+
+-- the parts of the text come as their own bytes
+pub find-asked : (t : List ℕ) (e k m : ℕ) {c left : One} {r : Ask}
+    → (ltb (length t) 5 || ltb 64 (length t)) ≡ false
+    → e ≡ 5 + indexOf 32 (slice 5 (length t) t) → k ≡ e → length t ≤ m + e
+    → c ≡ readOne (bytes "find ") (take k t) → left ≡ readOne (bytes " ") (take m (drop e t))
+    → r ≡ findOf c left → r ≡ findRead t
+unfolding findRead slice
+find-asked t e k m n at ke all p q s =
+    let place : e ≡ secondSpace t =
+    at ∙ ap (λ (l : List ℕ). 5 + indexOf 32 (drop 5 l)) (take-length t) in
+    let first = p ∙ ap (λ (i : ℕ). readOne (bytes "find ") (take i t)) (ke ∙ place) in
+    let second = q ∙ ap (readOne (bytes " "))
+    (take-all m (drop e t) (omega (arith, length-drop e t)) ∙ ap (λ (i : ℕ). drop i t) place) in
+    s ∙ (λ i. findOf (first i) (second i)) ∙ sym (pick-false _ _ _ n)

@@ -9,7 +9,7 @@ use lib.Seq.{length-take-le, take-append-seam}
 use Rattle.rules.specs.Numbers.{answerNumber}
 use Rattle.rules.specs.Sizes.{sizesForm}
 use Rattle.rules.specs.Site.{Site, Outcome, fresh}
-use Rattle.rules.specs.Step.{did, refused}
+use Rattle.rules.specs.Step.{did}
 use Rattle.rules.specs.Answers.{isRefusal}
 use Rattle.rules.specs.declared.model.Answer.{Answer}
 use Rattle.rules.specs.declared.model.Refusal.{Refusal}
@@ -30,7 +30,7 @@ use Rattle.answer.specs.declared.reply.Ask.{Ask}
 use Rattle.answer.specs.declared.reply.Reply.{Reply}
 use Rattle.answer.specs.declared.call.Came.{Came}
 use Rattle.answer.specs.declared.tell.Told.{Told}
-use Rattle.answer.specs.Replies.{served, outcomeOf, refuses}
+use Rattle.answer.specs.Replies.{served, outcomeOf, unchanged}
 use Rattle.answer.specs.Calls.{refusal, Holds, fits, no-room, Comes, unserved, none}
 use Rattle.answer.specs.Calls.{few-words, some, no-sizes, no-words, made, front, CallIs}
 use Rattle.answer.specs.Calls.{too-long, called, FreshIs, comes, Serves, PutIs, put, not-put}
@@ -77,8 +77,8 @@ module _ (l : Ask) (xs ls xs' ls' : List ℕ) {a : Reply} (s : Serves l xs ls xs
       (s .site)
       (subst (λ (b : Reply). PutIs b (imageOf (siteOf xs' ls')) o c p) (s .answer) w)
 
-  -- a refused call leaves the site, and so its image
-  pub put-refused : (o : List ℕ) (n : ℕ) → refuses a ≡ true → n ≤ length o
+  -- what leaves the site leaves its image
+  pub put-refused : (o : List ℕ) (n : ℕ) → unchanged a ≡ true → n ≤ length o
       → imageOf (siteOf xs ls) ≡ take n o
       → PutIs (outcomeOf (siteOf xs ls) l .answer) (imageOf (outcomeOf (siteOf xs ls) l .next)) o
       (Came.Answered a n) o

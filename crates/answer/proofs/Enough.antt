@@ -2,16 +2,17 @@
 -- longer than any site's, and `call_on_image`, `fresh_image` and `unheard_on_image` never do.
 use Prim.Native.Nat.{ℕ, _≤_, _<_}
 use mathlib.Core.Path.{_≡_, refl, ap, sym, _∙_}
-use mathlib.Core.Bool.{true}
+use mathlib.Core.Bool.{true, _||_}
 use mathlib.Core.List.{List, []}
 use native.Mathlib.Omega.{arith}
-use lib.ListN.{length}
+use lib.Dec.{ltb}
+use lib.ListN.{length, take, drop}
 use borrow.Author.Tests.{le-leb}
 use Rattle.rules.specs.Site.{Site, fresh}
 use Rattle.rules.specs.Form.{form}
 use Rattle.rules.specs.declared.model.Call.{Call}
 use Rattle.rules.specs.declared.model.Refusal.{Refusal}
-use Rattle.laws.proofs.Logic.{and-both, both-no}
+use Rattle.laws.proofs.Logic.{and-both, both-no, pick-elim}
 use Rattle.laws.proofs.FormLaws.{FormedSizes, form-says, sizes-says}
 use Rattle.laws.proofs.FormKept.{step-keeps-form, fresh-form}
 use Rattle.memory.specs.Memory.{siteWords, linksWords, enough}
@@ -31,7 +32,7 @@ use Rattle.answer.specs.declared.call.Came.{Came}
 use Rattle.answer.specs.declared.reply.Ask.{Ask}
 use Rattle.answer.specs.declared.tell.Told.{Told}
 use Rattle.answer.specs.declared.unheard.Seen.{Seen}
-use Rattle.answer.specs.Asks.{Asks, runRead, askRead, askOf}
+use Rattle.answer.specs.Asks.{Asks, runRead, findOf, secondSpace, findRead, askRead, askOf}
 use Rattle.answer.specs.Calls.{refusal, HoldsNone, no-room, Comes, few-words, some}
 use Rattle.answer.specs.Calls.{FreshComes, no-words, made, CallIs, too-long, called, FreshIs}
 use Rattle.answer.specs.Calls.{comes}
@@ -59,6 +60,7 @@ next-form s (Ask.Line (Line.Call d)) r e = step-keeps-form s d (call-fits d r) e
 next-form s (Ask.Line (Line.Holds c k left right)) r e = e
 next-form s (Ask.Line Line.Unreadable) r e = e
 next-form s (Ask.Run steps) r e = run-form s steps e
+next-form s (Ask.Find c left) r e = e
 
 pub comes-ample : {im xs ls after : List ℕ} {l : Ask} {m : ℕ} → askInRange l ≡ true
     → Ample m (length xs) (length ls) → Comes im l xs ls m Came.Short after → ⊥
@@ -92,14 +94,31 @@ unheard-ample {xs = xs} {ls} lent (few-seen s f e w) =
 
 -- ---- a line
 
+-- what is no line of a trace is not read as one
+no-line : (t : List ℕ) (l : Line) → readable l ≡ true → findRead t ≡ Ask.Line l → ⊥
+unfolding findRead
+no-line t l h f =
+    pick-elim (λ (a : Ask). a ≡ Ask.Line l → ⊥) (ltb (length t) 5 || ltb 64 (length t))
+    (λ e. none)
+    (λ e. found (readOne (bytes "find ") (take (secondSpace t) t))
+    (readOne (bytes " ") (drop (secondSpace t) t)))
+    f
+  where
+    none : Ask.Line Line.Unreadable ≡ Ask.Line l → ⊥
+    none g = let k : Line.Unreadable ≡ l = cc in both-no h (ap readable (sym k))
+
+    found : (c left : One) → findOf c left ≡ Ask.Line l → ⊥
+    found (One.Number c) (One.Number left) g = let z : _≡_ {A = ℕ} 0 1 = cc in omega arith
+    found (One.Number c) One.Unreadable g = none g
+    found One.Unreadable left g = none g
+
 -- a line is asked what its text says, in numbers of 32 bits
 line-range : (t : List ℕ) (l : Line) → readable l ≡ true → askOf t ≡ Ask.Line l → inRange l ≡ true
 line-range t l h e = exact t l h .0 (go (readLine t) refl e) .1
   where
-    no-run : (o : One) → runRead o ≡ Ask.Line l → ⊥
+    no-run : (o : One) → runRead o (findRead t) ≡ Ask.Line l → ⊥
     no-run (One.Number steps) f = let z : _≡_ {A = ℕ} 0 1 = cc in omega arith
-    no-run One.Unreadable f =
-        let k : Line.Unreadable ≡ l = cc in both-no h (ap readable (sym k))
+    no-run One.Unreadable f = no-line t l h f
 
     same : {k : Line} → Ask.Line k ≡ Ask.Line l → k ≡ l
     same f = cc
@@ -112,6 +131,7 @@ line-range t l h e = exact t l h .0 (go (readLine t) refl e) .1
 
 asks-range : {line im : List ℕ} {l : Ask} → Asks line im l → askInRange l ≡ true
 asks-range {l = Ask.Run steps} a = refl
+asks-range {l = Ask.Find c left} a = refl
 asks-range {l = Ask.Line (Line.Site n J L)} a = absurd (both-no (a .served) refl)
 asks-range {l = Ask.Line Line.Unreadable} a = absurd (both-no (a .served) refl)
 asks-range {l = Ask.Line (Line.Call d)} a = line-range (a .call) (Line.Call d) refl (a .says)

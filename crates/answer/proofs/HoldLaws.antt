@@ -12,7 +12,7 @@ use lib.Seq.{take-all, take-append-add, length-take-le}
 use lib.Seq.{paste, paste-suc}
 use borrow.Author.Tests.{ltb-true, ltb-false, lt-ltb}
 use Rattle.rules.specs.Pick.{pick-true}
-use Rattle.laws.proofs.Logic.{both-no, or-left}
+use Rattle.laws.proofs.Logic.{both-no, or-left, or-right}
 use Rattle.hex.specs.Hex.{hexOf}
 use Rattle.hex.proofs.HexLaws.{digits-length, smalls-length}
 use Rattle.lines.specs.Read.{readLine}
@@ -22,7 +22,7 @@ use Rattle.lines.specs.Read.{readOne}
 use Rattle.print.specs.Bytes.{bytes}
 use Rattle.answer.specs.declared.reply.Ask.{Ask}
 use Rattle.answer.specs.Replies.{served}
-use Rattle.answer.specs.Asks.{Asks, runRead, askRead, askOf}
+use Rattle.answer.specs.Asks.{Asks, runRead, findRead, askRead, askOf}
 use Rattle.answer.specs.Hold.{heldFor, kept, KeepIs}
 
 -- as many as there are, or k
@@ -94,10 +94,14 @@ long-one : (w s : List ℕ) → 64 < length s → readOne w s ≡ One.Unreadable
 unfolding readOne
 long-one w s h = pick-true _ _ _ (or-left _ (lt-ltb 64 (length s) h))
 
+long-find : (s : List ℕ) → 64 < length s → findRead s ≡ Ask.Line Line.Unreadable
+unfolding findRead
+long-find s h = pick-true _ _ _ (or-right (ltb (length s) 5) (lt-ltb 64 (length s) h))
+
 long-call : (s : List ℕ) → 64 < length s → askOf s ≡ Ask.Line Line.Unreadable
 long-call s h =
     ap (λ (k : Line). askRead k s) (long-line s h)
-    ∙ ap runRead (long-one (bytes "run ") s h)
+    ∙ ap (λ (o : One). runRead o (findRead s)) (long-one (bytes "run ") s h) ∙ long-find s h
 
 -- a line that asks of an image of at most m bytes has fewer bytes than are kept
 pub asks-short : (m : ℕ) {line im : List ℕ} {l : Ask} → 1 ≤ m → Asks line im l → length im ≤ m

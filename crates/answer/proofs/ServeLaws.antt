@@ -12,6 +12,8 @@ use Rattle.memory.specs.Memory.{siteOf, memoryForm}
 use Rattle.site.specs.Entries.{FormedStep}
 use Rattle.lines.specs.declared.Line.{Line}
 use Rattle.wait.specs.declared.model.Run.{Run}
+use Rattle.find.specs.Find.{find}
+use Rattle.find.specs.declared.Found.{Found}
 use Rattle.until.specs.Until.{noneUsed, FormedRun}
 use Rattle.answer.specs.declared.reply.Ask.{Ask}
 use Rattle.answer.specs.declared.reply.Reply.{Reply}
@@ -57,7 +59,7 @@ unasked {xs} {ls} {l = Line.Unreadable} e s f =
 unasked {l = Line.Call d} e s f = absurd (both-no refl s)
 unasked {l = Line.Holds c k left right} e s f = absurd (both-no refl s)
 
--- what is asked is a line of a trace, or a run
+-- what is asked is a line of a trace, a run, or which load has a frame
 pub of-line : {xs ls xs' ls' : List ℕ} {l : Ask} {k : Line} {a : Answer} → l ≡ Ask.Line k
     → Serves (Ask.Line k) xs ls xs' ls' (Reply.Answer a)
     → Serves l xs ls xs' ls' (Reply.Answer a)
@@ -78,3 +80,14 @@ of-run {xs} {ls} {xs'} {ls'} {r = r} e s =
     none-used (Run.Ran used) h = absurd (both-no h refl)
     none-used (Run.Stopped why used) h = absurd (both-no h refl)
     none-used (Run.Refused why) h = refl
+
+pub of-find : {xs ls : List ℕ} {l : Ask} {c left : ℕ} {w : Found} → l ≡ Ask.Find c left
+    → memoryForm xs ls ≡ true → w ≡ find (siteOf xs ls) c left
+    → Serves l xs ls xs ls (Reply.Found w)
+of-find {xs} {ls} {w = w} e f h =
+    subst (λ (m : Ask). Serves m xs ls xs ls (Reply.Found w)) (sym e) (record {
+      answer = ap Reply.Found h;
+      site = refl;
+      kept = λ r. (refl, refl);
+      form = f;
+    })

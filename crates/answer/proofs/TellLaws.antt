@@ -15,11 +15,12 @@ use Rattle.print.specs.Text.{Wrote}
 use Rattle.print.proofs.WriteLaws.{spelled, at-most}
 use Rattle.hex.specs.Hex.{hexOf}
 use Rattle.wait.specs.declared.model.Run.{Run}
+use Rattle.find.specs.declared.Found.{Found}
 use Rattle.answer.specs.declared.call.Came.{Came}
 use Rattle.answer.specs.declared.reply.Reply.{Reply}
 use Rattle.answer.specs.declared.tell.Told.{Told}
 use Rattle.answer.specs.Calls.{within, imageIn}
-use Rattle.answer.specs.Text.{causeWord, wordOf, answerText, runText, replyText}
+use Rattle.answer.specs.Text.{causeWord, wordOf, answerText, runText, foundText, replyText}
 use Rattle.answer.specs.Says.{textRoom, TellIs, told, short}
 
 -- ---- words
@@ -58,6 +59,10 @@ image-text a im e =
 pub run-wrote : {r q : Run} (im : List ℕ) {m i j : ℕ} {o p : List ℕ} → r ≡ q
     → Wrote m o p i j (runText q im) → Wrote m o p i j (runText r im)
 run-wrote im e w = spelled (ap (λ (k : Run). runText k im) (sym e)) w
+
+pub found-wrote : {w v : Found} {i j : ℕ} {o p : List ℕ} → w ≡ v
+    → Wrote 38 o p i j (foundText v) → Wrote 38 o p i j (foundText w)
+found-wrote e h = spelled (ap foundText (sym e)) h
 
 pub reply-wrote : {r q : Reply} (im : List ℕ) {m i j : ℕ} {o p : List ℕ} → r ≡ q
     → Wrote m o p i j (replyText q im) → Wrote m o p i j (replyText r im)

@@ -16,7 +16,7 @@ use Rattle.reader.specs.Reader.{enoughFor}
 use Rattle.answer.specs.declared.call.Came.{Came}
 use Rattle.answer.specs.declared.reply.Ask.{Ask}
 use Rattle.answer.specs.declared.reply.Reply.{Reply}
-use Rattle.answer.specs.Replies.{served, outcomeOf, refuses}
+use Rattle.answer.specs.Replies.{served, outcomeOf, unchanged}
 
 -- a line that is refused
 abbrev pub refusal : Refusal → Reply
@@ -88,7 +88,7 @@ pub data FreshIs (n J L : ℕ) (xs ls o : List ℕ) : Came → List ℕ → Type
 pub record Serves (l : Ask) (xs ls xs' ls' : List ℕ) (a : Reply) : Type 0 where
   pub answer : a ≡ outcomeOf (siteOf xs ls) l .answer
   pub site : siteOf xs' ls' ≡ outcomeOf (siteOf xs ls) l .next
-  pub kept : refuses a ≡ true → (xs' ≡ xs) × (ls' ≡ ls)
+  pub kept : unchanged a ≡ true → (xs' ≡ xs) × (ls' ≡ ls)
   pub form : memoryForm xs' ls' ≡ true
 
 -- the image im after the answer a was put into the buffer o

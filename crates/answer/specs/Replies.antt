@@ -1,5 +1,5 @@
--- What is asked of a site, and what comes of it by the paper's rules: a line of a trace, or a run
--- (Q-9).
+-- What is asked of a site, and what comes of it by the paper's rules: a line of a trace, a run
+-- (Q-9), or which load has a frame (Q-5).
 use mathlib.Core.Bool.{Bool, true, false}
 use Rattle.rules.specs.Answers.{isRefusal}
 use Rattle.rules.specs.Site.{Site, Outcome}
@@ -7,6 +7,7 @@ use Rattle.rules.specs.Step.{step, holds, refused}
 use Rattle.rules.specs.declared.model.Refusal.{Refusal}
 use Rattle.wait.specs.Run.{runOf}
 use Rattle.wait.specs.declared.model.Run.{Run}
+use Rattle.find.specs.Find.{find}
 use Rattle.lines.specs.Printed.{inRange}
 use Rattle.lines.specs.declared.Line.{Line}
 use Rattle.answer.specs.declared.reply.Ask.{Ask}
@@ -22,11 +23,13 @@ servedLine Line.Unreadable = false
 abbrev pub served : Ask → Bool
 served (Ask.Line l) = servedLine l
 served (Ask.Run steps) = true
+served (Ask.Find c left) = true
 
 -- its numbers are of 32 bits
 abbrev pub askInRange : Ask → Bool
 askInRange (Ask.Line l) = inRange l
 askInRange (Ask.Run steps) = true
+askInRange (Ask.Find c left) = true
 
 -- what is replied, and the site that it leaves
 pub record Replied : Type 0 where
@@ -49,6 +52,7 @@ outcomeOf s (Ask.Run steps) = record {
   answer = Reply.Run (runOf s steps .answer);
   next = runOf s steps .next;
 }
+outcomeOf s (Ask.Find c left) = record { answer = Reply.Found (find s c left); next = s }
 
 abbrev pub runRefused : Run → Bool
 runRefused (Run.Ran used) = false
@@ -56,6 +60,7 @@ runRefused (Run.Stopped why used) = false
 runRefused (Run.Refused why) = true
 
 -- the site stays as it was
-abbrev pub refuses : Reply → Bool
-refuses (Reply.Answer a) = isRefusal a
-refuses (Reply.Run r) = runRefused r
+abbrev pub unchanged : Reply → Bool
+unchanged (Reply.Answer a) = isRefusal a
+unchanged (Reply.Run r) = runRefused r
+unchanged (Reply.Found w) = true

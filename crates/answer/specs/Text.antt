@@ -11,6 +11,7 @@ use Rattle.print.specs.Bytes.{bytes}
 use Rattle.print.specs.Decimal.{decimal}
 use Rattle.hex.specs.Hex.{hexOf}
 use Rattle.wait.specs.declared.model.Run.{Run}
+use Rattle.find.specs.declared.Found.{Found}
 use Rattle.answer.specs.declared.reply.Reply.{Reply}
 
 abbrev pub causeWord : Cause → List ℕ
@@ -41,6 +42,13 @@ runText (Run.Stopped why used) im =
     bytes "stopped " ++ (decimal (refusalNumber why) ++ (32 ∷ usedText used im))
 runText (Run.Refused why) im = answerText (Answer.Refused why) im
 
+-- "`found NUMBER`, `none` or `refused N`" (Q-5): no image, for it stays
+unfoldable pub foundText : Found → List ℕ
+foundText (Found.Number k) = bytes "found " ++ (decimal k ++ (10 ∷ []))
+foundText Found.None = bytes "none" ++ (10 ∷ [])
+foundText (Found.Refused why) = answerText (Answer.Refused why) []
+
 abbrev pub replyText : Reply → List ℕ → List ℕ
 replyText (Reply.Answer a) im = answerText a im
 replyText (Reply.Run r) im = runText r im
+replyText (Reply.Found w) im = foundText w

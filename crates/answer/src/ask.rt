@@ -1,6 +1,7 @@
-// What a line asks: an image in hex, one space, and a call or a holds line, or a run.
+// What a line asks: an image in hex, one space, and a call or a holds line, or a run, or which load
+// has a frame.
 ghost use mathlib.Core.Path.{_≡_};
-ghost use Rattle.answer.specs.Asks.{runRead, askOf, askedOf, AskIs};
+ghost use Rattle.answer.specs.Asks.{runRead, findAt, findOf, findRead, askOf, askedOf, AskIs};
 ghost use Rattle.answer.specs.Replies.{servedLine, served};
 use crate::reply::Ask;
 use hex::Hexed;
@@ -32,17 +33,50 @@ pub(crate) fn serves(l: Ask) -> bool
     match l {
         Ask::Line(k) => serves_line(k),
         Ask::Run(_) => true,
+        Ask::Find(_, _) => true,
     }
 }
 
-// A text that is no line of a trace.
-fn run_of(t: One) -> Ask
-    ensures { λ r. ⌜ r ≡ runRead t ⌝ }
+// A text that is no line of a trace: where it is no run, it asks something else.
+fn run_or(t: One, other: Ask) -> Ask
+    ensures { λ r. ⌜ r ≡ runRead t other ⌝ }
 {
     match t {
         One::Number(steps) => Ask::Run(steps),
+        One::Unreadable => other,
+    }
+}
+
+fn find_at(c: u32, left: One) -> Ask
+    ensures { λ r. ⌜ r ≡ findAt c left ⌝ }
+{
+    match left {
+        One::Number(k) => Ask::Find(c, k),
         One::Unreadable => Ask::Line(Line::Unreadable),
     }
+}
+
+fn find_of(c: One, left: One) -> Ask
+    ensures { λ r. ⌜ r ≡ findOf c left ⌝ }
+{
+    match c {
+        One::Number(k) => find_at(k, left),
+        One::Unreadable => Ask::Line(Line::Unreadable),
+    }
+}
+
+// The word `find` and two numbers: the second is parted from the first by the text's second space.
+fn read_find(text: &[u8]) -> Ask
+    ensures { λ r. ⌜ r ≡ findRead (now (text .entry)) ⌝ }
+{
+    let n = text.len();
+    if (n < 5) | (64 < n) {
+        return Ask::Line(Line::Unreadable);
+    }
+    let e = bytes::scan::find(text, 5, n, 32);
+    let c = lines::read_one(b"find ", &text[0..e]);
+    let left = lines::read_one(b" ", &text[e..n]);
+    find_of(c, left)
 }
 
 pub fn read_ask(text: &[u8]) -> Ask
@@ -53,7 +87,10 @@ pub fn read_ask(text: &[u8]) -> Ask
         Line::Site(_, _, _) => Ask::Line(l),
         Line::Call(_) => Ask::Line(l),
         Line::Holds(_, _, _, _) => Ask::Line(l),
-        Line::Unreadable => run_of(lines::read_one(b"run ", text)),
+        Line::Unreadable => {
+            let run = lines::read_one(b"run ", text);
+            run_or(run, read_find(text))
+        }
     }
 }
 

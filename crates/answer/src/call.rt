@@ -49,7 +49,7 @@ fn call_formed(l: Ask, n: usize, image: &mut [u8], site: &mut [u64], links: &mut
         (now (image .entry)) r (now (image .exit)) ⌝ }
 {
     let a = serve::serve(site, links, l);
-    if reply::is_refusal(a) {
+    if reply::is_unchanged(a) {
         return Came::Answered(a, n);
     }
     put(a, image, site, links)

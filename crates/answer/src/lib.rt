@@ -1,5 +1,6 @@
 // A stored image and what is asked of it, as a line of text: the image in hex and a call or a
-// run, answered by a line with the answer and the image after it.
+// run, answered by a line with the answer and the image after it; or which load has a frame,
+// answered by its number.
 ghost use mathlib.Core.Path.{_≡_};
 ghost use Prim.Native.Nat.{_≤_};
 ghost use lib.ListN.{length, take};

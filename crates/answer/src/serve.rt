@@ -34,5 +34,6 @@ pub(crate) fn serve(site: &mut [u64], links: &mut [u64], l: Ask) -> Reply
     match l {
         Ask::Line(k) => Reply::Answer(serve_line(site, links, k)),
         Ask::Run(steps) => Reply::Run(until::run_formed(site, links, steps)),
+        Ask::Find(c, left) => Reply::Found(find::find_formed(site, links, c, left)),
     }
 }

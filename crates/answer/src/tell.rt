@@ -8,12 +8,14 @@ ghost use Rattle.rules.specs.Answers.{isRefusal};
 ghost use Rattle.print.specs.Text.{Wrote};
 ghost use Rattle.rules.specs.declared.model.Answer.{Answer};
 ghost use Rattle.wait.specs.declared.model.Run.{Run};
+ghost use Rattle.find.specs.declared.Found.{Found};
 ghost use Rattle.answer.specs.Text.{causeWord, wordOf, answerText};
-ghost use Rattle.answer.specs.Text.{usedText, runText, replyText};
+ghost use Rattle.answer.specs.Text.{usedText, runText, foundText, replyText};
 ghost use Rattle.answer.specs.Calls.{within, imageIn};
 ghost use Rattle.answer.specs.Says.{textRoom, TellIs};
 use crate::call::Came;
 use crate::reply::Reply;
+use find::Found;
 use rules::answers;
 use rules::model::Answer;
 use rules::model::Cause;
@@ -148,6 +150,37 @@ fn put_run(out: &mut [u8], r: Run, image: &[u8]) -> usize
     }
 }
 
+fn put_number(out: &mut [u8], k: u32) -> usize
+    requires { ⌜ 38 ≤ length (now out) ⌝ }
+    ensures { λ r.
+        ⌜ Wrote 38 (now (out .entry)) (now (out .exit)) 0 r (foundText (Found.Number k)) ⌝ }
+{
+    let p = print::put_bytes(out, 0, b"found ");
+    let p = print::put_decimal(out, p, k as u64);
+    print::put_byte(out, p, 10)
+}
+
+fn put_none(out: &mut [u8]) -> usize
+    requires { ⌜ 38 ≤ length (now out) ⌝ }
+    ensures { λ r.
+        ⌜ Wrote 38 (now (out .entry)) (now (out .exit)) 0 r (foundText Found.None) ⌝ }
+{
+    let p = print::put_bytes(out, 0, b"none");
+    print::put_byte(out, p, 10)
+}
+
+// The line of a load that was asked for, at the front of out.
+pub fn put_found(out: &mut [u8], w: Found) -> usize
+    requires { ⌜ 38 ≤ length (now out) ⌝ }
+    ensures { λ r. ⌜ Wrote 38 (now (out .entry)) (now (out .exit)) 0 r (foundText w) ⌝ }
+{
+    match w {
+        Found::Number(k) => put_number(out, k),
+        Found::None => put_none(out),
+        Found::Refused(why) => put_refusal(out, Answer::Refused(why)),
+    }
+}
+
 fn put_reply(out: &mut [u8], r: Reply, image: &[u8]) -> usize
     requires { ⌜ textRoom (length (now image)) ≤ length (now out) ⌝ }
     ensures { λ q.
@@ -157,6 +190,7 @@ fn put_reply(out: &mut [u8], r: Reply, image: &[u8]) -> usize
     match r {
         Reply::Answer(a) => put_answer(out, a, image),
         Reply::Run(k) => put_run(out, k, image),
+        Reply::Found(w) => put_found(out, w),
     }
 }
 

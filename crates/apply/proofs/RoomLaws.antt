@@ -1,16 +1,17 @@
 -- What the buffers have room for, and where the larger ones are asked for.
 use Prim.Native.Nat.{ℕ, _≤_, _<_}
 use mathlib.Core.Path.{_≡_, refl, ap, sym, subst, _∙_}
-use mathlib.Core.Bool.{Bool, true, false}
+use mathlib.Core.Bool.{Bool, true, false, _||_}
 use mathlib.Core.List.{List}
 use native.Mathlib.Omega.{arith}
-use lib.ListN.{length}
-use Rattle.laws.proofs.Logic.{true≠false}
+use lib.Dec.{ltb}
+use lib.ListN.{length, take, drop}
+use Rattle.laws.proofs.Logic.{true≠false, pick-elim}
 use Rattle.answer.specs.declared.call.Came.{Came}
 use Rattle.answer.specs.declared.reply.Ask.{Ask}
 use Rattle.answer.specs.declared.tell.Told.{Told}
 use Rattle.answer.specs.declared.unheard.Seen.{Seen}
-use Rattle.answer.specs.Asks.{runRead, askRead, askOf}
+use Rattle.answer.specs.Asks.{runRead, findOf, secondSpace, findRead, askRead, askOf}
 use Rattle.answer.specs.Replies.{askInRange}
 use Rattle.answer.specs.Calls.{CallIs, FreshIs}
 use Rattle.answer.specs.Says.{AnswerIs}
@@ -125,13 +126,26 @@ unheard-fits {c} {im = im} {xs} {ls} w e a =
 pub job-call : {j : Job} {l : Ask} → JobFits j → j ≡ Job.Call l → askInRange l ≡ true
 job-call h e = subst (λ (j : Job). JobFits j) e h
 
+find-range : (t : List ℕ) → askInRange (findRead t) ≡ true
+unfolding findRead
+find-range t =
+    pick-elim (λ (a : Ask). askInRange a ≡ true) (ltb (length t) 5 || ltb 64 (length t))
+    (λ e. none-out)
+    (λ e. found (readOne (bytes "find ") (take (secondSpace t) t))
+    (readOne (bytes " ") (drop (secondSpace t) t)))
+  where
+    found : (c left : One) → askInRange (findOf c left) ≡ true
+    found (One.Number c) (One.Number left) = refl
+    found (One.Number c) One.Unreadable = none-out
+    found One.Unreadable left = none-out
+
 -- what was read has numbers in range
 pub ask-range : (s : List ℕ) {l : Ask} → l ≡ askOf s → askInRange l ≡ true
 ask-range s {l} e = ap askInRange e ∙ go (readLine s) refl
   where
-    ran : (o : One) → askInRange (runRead o) ≡ true
+    ran : (o : One) → askInRange (runRead o (findRead s)) ≡ true
     ran (One.Number steps) = refl
-    ran One.Unreadable = none-out
+    ran One.Unreadable = find-range s
 
     go : (k : Line) → readLine s ≡ k → askInRange (askRead k s) ≡ true
     go (Line.Site n J L) q = read-range s (sym q)

@@ -37,7 +37,9 @@ const LINK: usize = 2 + 16 * (letter::HEAD + 4096);
 
 const ALL_LINKS: usize = 5 * 4 * LINK;
 
-const SITE: usize = memory::GENERAL + 5 * (row::HEAD + 4096);
+const ROW: usize = row::HEAD + 4096 + (index::NEXTS + 4096);
+
+const SITE: usize = memory::GENERAL + 5 * ROW;
 
 // What goes on in the larger set: the lines of the input, a call on an image, or a run on one, step
 // by step.

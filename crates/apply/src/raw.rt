@@ -1,5 +1,5 @@
 // One call or run on one image, both raw: the image in and out, the call as an argument. In place
-// of a call it may be asked which boxes have not answered a lease.
+// of a call it may be asked which boxes have not answered a lease, or which load has a frame.
 ghost use mathlib.Core.Path.{_≡_};
 ghost use mathlib.Core.Bool.{true};
 ghost use Prim.Native.Nat.{_≤_, _<_};
@@ -23,6 +23,8 @@ use answer::call::Came;
 use answer::hold;
 use answer::reply::Ask;
 use answer::reply::Reply;
+use answer::tell as told;
+use find::Found;
 use libc::STDIN_FILENO;
 use libc::STDOUT_FILENO;
 use lines::Line;
@@ -107,10 +109,26 @@ fn tell_run(r: Run, image: &[u8], text: &[u8]) -> u8 {
     }
 }
 
+// The load goes to standard output in place of an image.
+fn tell_line(w: Found, text: &[u8]) -> u8 {
+    let mut out = [0u8; 38];
+    let n = told::put_found(&mut out, w);
+    tell(Answer::Done, &out[0..n], text)
+}
+
+fn tell_found(w: Found, text: &[u8]) -> u8 {
+    match w {
+        Found::Number(_) => tell_line(w, text),
+        Found::None => tell_line(w, text),
+        Found::Refused(why) => tell(Answer::Refused(why), b"", text),
+    }
+}
+
 fn tell_reply(r: Reply, image: &[u8], text: &[u8]) -> u8 {
     match r {
         Reply::Answer(a) => tell(a, image, text),
         Reply::Run(k) => tell_run(k, image, text),
+        Reply::Found(w) => tell_found(w, text),
     }
 }
 
@@ -181,7 +199,7 @@ fn refuse_unreadable(text: &[u8]) -> Done
     Done::Status(1)
 }
 
-// A text that is no line of a trace and no run.
+// A text that is no line of a trace, no run, and asks for no frame.
 fn ask_in(n: usize, text: &[u8], image: &mut [u8], site: &mut [u64], links: &mut [u64]) -> Done
     ensures { λ r.
         ⌜ OnLarger (λ k. Ample (length (now (image .entry))) (length (now (site .entry)))
@@ -234,6 +252,7 @@ fn call_in(
     match l {
         Ask::Line(k) => line_in(k, n, text, image, site, links),
         Ask::Run(_) => call_on_input(l, n, text, image, site, links),
+        Ask::Find(_, _) => call_on_input(l, n, text, image, site, links),
     }
 }
 

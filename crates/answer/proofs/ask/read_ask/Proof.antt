@@ -1,5 +1,4 @@
-use mathlib.Core.Path.{refl, ap, _∙_}
-use Rattle.answer.specs.Asks.{runRead}
+use mathlib.Core.Path.{refl}
 use Rattle.answer.proofs.AskLaws.{line-asked, run-asked}
 use borrow.Author.Needs.{needs}
 use Rattle.answer.proofs.ask.read_ask.Statement.{statement}
@@ -16,10 +15,11 @@ returns-3 c = line-asked _ _ refl (c .before .before .read-line .ensures) (c .en
 
 returns-4 : tie.Need-returns-4
 returns-4 c =
-    let at-one = c .before in
+    let at-find = c .before in
+    let at-one = at-find .before in
     let at-told = at-one .before .before in
-    c .run-of .ensures ∙ ap runRead (at-one .read-one .ensures)
-    ∙ run-asked _ (at-told .before .before .read-line .ensures) (at-told .enum-told4 .given .1)
+    run-asked _ (at-told .before .before .read-line .ensures) (at-told .enum-told4 .given .1)
+    (at-one .read-one .ensures) (at-find .read-find .ensures) (c .run-or .ensures)
 
 pub read-ask-spec : {M : Type 1} → statement M
 read-ask-spec =
@@ -27,4 +27,5 @@ read-ask-spec =
     (tie.spec
     (λ c κs. search needs) (λ c. search needs) (λ c. search needs) (λ c. search needs)
     (λ c. search needs) (λ c. search needs) (λ c κs. search needs) (λ c κs. search needs)
+    (λ c κs. search needs)
     returns returns-2 returns-3 returns-4)

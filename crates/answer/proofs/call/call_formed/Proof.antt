@@ -10,7 +10,7 @@ returns c =
     let start = at-serve .before .before .before .before .before .before in
     put-refused (start .args .l) (start .args .site .now) (start .args .links .now)
     (at-serve .serve .last .0) (at-serve .serve .last .1 .0) (at-serve .serve .ensures) _ _
-    (sym (c .before .is-refusal .ensures) ∙ c .if1 .taken) (start .pre .1 .0) (start .pre .1 .1)
+    (sym (c .before .is-unchanged .ensures) ∙ c .if1 .taken) (start .pre .1 .0) (start .pre .1 .1)
 
 put-requires : tie.Need-put-requires
 put-requires c κs =

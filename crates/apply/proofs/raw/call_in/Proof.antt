@@ -11,5 +11,7 @@ line-in-requires c κs =
 pub call-in-spec : {M : Type 1} → statement M
 call-in-spec = tie.close (tie.spec
     (λ c. search needs) line-in-requires (λ c. search needs) (λ c κs. search needs)
+    (λ c. search needs) (λ c κs. search needs)
+    (λ c. search needs) (λ c. search needs) (λ c. search needs) (λ c. search needs)
     (λ c. search needs) (λ c. search needs) (λ c. search needs) (λ c. search needs)
     (λ c. search needs) (λ c. search needs) (λ c. search needs) (λ c. search needs))

@@ -1,0 +1,3 @@
+-- What the contracts of `find` cite.
+pub mod Find
+pub mod Smallest
