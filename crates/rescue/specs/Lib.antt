@@ -1,0 +1,2 @@
+-- What the contracts of `rescue` cite.
+pub mod Filled

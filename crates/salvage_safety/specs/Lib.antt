@@ -1,0 +1,3 @@
+-- What is stated of undamaged images.
+pub mod Undamaged
+pub mod Kept
