@@ -1,0 +1,1 @@
+-- The functions of `publish` are safe and end.

@@ -1,0 +1,1 @@
+-- What the contracts of `publish` cite: nothing of its own.
