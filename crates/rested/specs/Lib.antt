@@ -1,0 +1,2 @@
+-- What the step `rest` promises over lent words.
+pub mod Rested
