@@ -41,7 +41,7 @@ module _ (s : Site) (c : ℕ) (f : Formed s) (h : In c (s .n))
 
 module _ (xs ls : List ℕ) (f : memoryForm xs ls ≡ true) {g : Setting} (all : g ≡ settingAt xs 0)
     {c : ℕ} (found : c ≡ leaderIn g xs) where
-  leader-is : c ≡ leaderOf (siteOf xs ls)
+  pub leader-is : c ≡ leaderOf (siteOf xs ls)
   unfolding leaderOf siteOf
   leader-is = found ∙ ap (λ (t : Setting). leaderIn t xs) all
 

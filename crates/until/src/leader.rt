@@ -2,7 +2,7 @@
 ghost use mathlib.Core.Path.{_≡_};
 ghost use mathlib.Core.Bool.{true};
 ghost use Rattle.rules.specs.Site.{isBox};
-ghost use Rattle.wait.specs.Run.{isPossible, leaderTurn};
+ghost use Rattle.wait.specs.Run.{isPossible, leaderOf, leaderTurn};
 ghost use Rattle.memory.specs.Memory.{siteOf, memoryForm};
 ghost use Rattle.memory.specs.After.{boxesOf, RowsLent};
 ghost use Rattle.until.specs.Turns.{leaderIn, actIn, callIn};
@@ -36,6 +36,15 @@ fn leader(site: &[u64], s: Setting) -> u32
         }
     }
     0
+}
+
+// The box that leads by words by form, 0 where none does.
+pub fn leader_formed(site: &[u64], links: &[u64]) -> u32
+    requires { ⌜ memoryForm (now site) (now links) ≡ true ⌝ }
+    ensures { λ r. ⌜ r ≡ leaderOf (siteOf (now (site .entry)) (now (links .entry))) ⌝ }
+{
+    let s = memory::setting_of(site, 0);
+    leader(site, s)
 }
 
 fn phase(site: &[u64], s: Setting) -> Phase

@@ -8,3 +8,4 @@ mod turns;
 pub use entries::next_turn;
 pub use entries::run;
 pub use entries::run_formed;
+pub use leader::leader_formed;

@@ -1,0 +1,6 @@
+-- What the contracts of `desk` cite.
+pub mod Sides
+pub mod Near
+pub mod Desk
+pub mod Offer
+pub mod Told

@@ -1,0 +1,2 @@
+-- Lent slices keep their lengths.
+pub mod SameLaws

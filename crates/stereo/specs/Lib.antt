@@ -1,0 +1,1 @@
+-- The program cites nothing of its own.
