@@ -52,6 +52,10 @@ enum {
     JOURNAL_LINK = 8,      /* a mail would go onto a full link */
     JOURNAL_BUFFER = 12,   /* too few words or bytes are lent */
     JOURNAL_UNTRUE = 14,   /* a holds line that is untrue, or of a load no longer kept */
+    JOURNAL_WAITS = 19,    /* journal_desk_..: that side already waits with this number */
+    JOURNAL_FULL = 20,     /* journal_desk_..: that side is full */
+    JOURNAL_AWAY = 23,     /* journal_desk_..: the named frame does not wait */
+    JOURNAL_FAR = 21,      /* journal_desk_pair: no waiting right frame is near enough */
     JOURNAL_DIFFERS = 22,  /* journal_longer: a number that both lists hold differs */
     /* 9 is no longer given and stays unused: a number given back is not given anew. */
     /* A mail that was handed over. */
@@ -68,8 +72,10 @@ enum {
 #define JOURNAL_RUN_STACK 8192
 
 /* The words of an array, as constants: for sizes within their ranges the same as the two functions
- * below. A row is one box, a place is one letter. */
-#define JOURNAL_ROW_WORDS(J) (22 + (J))
+ * below. A row is one box: its 22 fields, room for J records, and the index of the agreed ones by
+ * their left frame, 128 words and one for each record. A place is one letter. */
+#define JOURNAL_INDEX_WORDS(J) (128 + (J))
+#define JOURNAL_ROW_WORDS(J) (22 + (J) + JOURNAL_INDEX_WORDS(J))
 #define JOURNAL_PLACE_WORDS(J) (6 + (J))
 #define JOURNAL_SITE_WORDS(n, J) (5 + (n) * JOURNAL_ROW_WORDS(J))
 #define JOURNAL_LINKS_WORDS(n, J, L) ((n) * ((n) - 1) * (2 + (L) * JOURNAL_PLACE_WORDS(J)))
@@ -145,6 +151,18 @@ uint32_t journal_deliver(uint64_t *site, size_t site_words, uint64_t *links, siz
 uint32_t journal_holds(const uint64_t *site, size_t site_words, const uint64_t *links,
                        size_t links_words, uint32_t c, uint32_t k, uint32_t left, uint32_t right);
 
+/* Which load has this frame? 0 where box c, a left frame and the words are in order: then *number is
+ * the smallest number that is agreed at box c, is kept there and has this left frame, or 0 where none
+ * has. The box may be absent and the epoch odd; the record at last + 1 is not agreed. 1, 2; 10 for
+ * frame 0; a refused call leaves *number. It reads the index that stands beside the box's records
+ * and not the whole book; words whose index is not that of their records are not by form (1).
+ *
+ *     uint32_t number;
+ *     if (journal_find(site, s, links, l, 1, 71, &number) == JOURNAL_DONE && number)
+ *         printf("frame 71 is load %u\n", number); */
+uint32_t journal_find(const uint64_t *site, size_t site_words, const uint64_t *links,
+                      size_t links_words, uint32_t c, uint32_t left, uint32_t *number);
+
 /* Which boxes are silent? 0 where a lease of leader c is out: since ready or finish, and until it
  * proposes or the epoch becomes odd. Then *set has the present boxes that have not answered it, box
  * k as the value 2^(k-1): 0 where all have. 3 where none is out; 1, 2; a refused call leaves *set.
@@ -155,6 +173,12 @@ uint32_t journal_holds(const uint64_t *site, size_t site_words, const uint64_t *
  *             if (set >> (k - 1) & 1) printf("box %u is silent\n", k); */
 uint32_t journal_unheard(const uint64_t *site, size_t site_words, const uint64_t *links,
                          size_t links_words, uint32_t c, uint32_t *set);
+
+/* AT REST: in an odd epoch every box becomes as a fresh one, but for what outlives a stop, and all
+ * mail under way is gone. Epoch, present boxes, promises, loads and records stay. It is proved that
+ * no later call and no question gets another answer for it, but a lose or a repeat before the next
+ * elect. Answers 0; 1, and 3 in an even epoch. */
+uint32_t journal_rest(uint64_t *site, size_t site_words, uint64_t *links, size_t links_words);
 
 /* THE RUN after an election: how soon is the scale usable? While any link holds mail its head is
  * handed over, of the first such link by sender and then receiver; otherwise the leader takes its
@@ -203,6 +227,27 @@ uint32_t journal_agreed(const uint64_t *site, size_t site_words, const uint64_t 
                         size_t *count);
 uint32_t journal_longer(const uint64_t *first, size_t first_words, const uint64_t *second,
                         size_t second_words);
+
+/* THE PAIRING DESK, for the stereo gate. `desk` is 64 words, 32 for the left and 32 for the right
+ * frames that wait, each frame * 2^32 + tick; a word with frame 0 is a free place. Any 64 words are a
+ * desk: 64 zeros are an empty one. Fewer are refused with 12, before all else; words past them stay.
+ *
+ * left, right: gives in a frame of that side with its shutter tick. 12, 10, 19, 20. Left 7 and right 7
+ * are different frames.
+ *
+ * withdraw: takes a waiting frame from the desk. 12, 10, 23.
+ *
+ * pair: names a waiting left frame. The waiting right frame of smallest difference, at most 40 ticks
+ * round the wrap, the lower frame number on a tie, is offered with it to the leader of the site. 0:
+ * the offer was accepted, the pair has left the desk, and *right is the right frame. 12, 10, 23, 21,
+ * then the engine's: 1, and 3 where no box leads or the leader cannot take the offer. A refused call
+ * leaves desk, site, links and *right. */
+uint32_t journal_desk_left(uint64_t *desk, size_t desk_words, uint32_t frame, uint32_t tick);
+uint32_t journal_desk_right(uint64_t *desk, size_t desk_words, uint32_t frame, uint32_t tick);
+uint32_t journal_desk_withdraw_left(uint64_t *desk, size_t desk_words, uint32_t frame);
+uint32_t journal_desk_withdraw_right(uint64_t *desk, size_t desk_words, uint32_t frame);
+uint32_t journal_desk_pair(uint64_t *desk, size_t desk_words, uint64_t *site, size_t site_words,
+                           uint64_t *links, size_t links_words, uint32_t left, uint32_t *right);
 
 /* A BOX BY ITSELF, for a program that runs one box and carries its mails by other means. These may
  * lose mail and hand it over more than once, but none after the next election; they neither alter

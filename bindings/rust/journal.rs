@@ -25,6 +25,14 @@ pub enum Refusal {
     Link = 8,
     Buffer = 12,
     Untrue = 14,
+    /// Of `Desk` alone: that side already waits with this number.
+    Waits = 19,
+    /// Of `Desk` alone: that side is full.
+    Full = 20,
+    /// Of `Desk` alone: the named frame does not wait.
+    Away = 23,
+    /// Of `Desk::pair` alone: no waiting right frame is near enough.
+    Far = 21,
     /// Of `longer` alone: a number that both lists hold differs.
     Differs = 22,
 }
@@ -60,7 +68,7 @@ impl fmt::Display for Refusal {
 
 impl std::error::Error for Refusal {}
 
-const REFUSALS: [Refusal; 13] = [
+const REFUSALS: [Refusal; 17] = [
     Refusal::Sizes,
     Refusal::Form,
     Refusal::Box,
@@ -73,6 +81,10 @@ const REFUSALS: [Refusal; 13] = [
     Refusal::Link,
     Refusal::Buffer,
     Refusal::Untrue,
+    Refusal::Waits,
+    Refusal::Full,
+    Refusal::Away,
+    Refusal::Far,
     Refusal::Differs,
 ];
 
@@ -168,6 +180,15 @@ mod c {
             left: u32,
             right: u32,
         ) -> u32;
+        pub fn journal_find(
+            s: *const u64,
+            sn: usize,
+            l: *const u64,
+            ln: usize,
+            c: u32,
+            left: u32,
+            number: *mut u32,
+        ) -> u32;
         pub fn journal_unheard(
             s: *const u64,
             sn: usize,
@@ -176,6 +197,7 @@ mod c {
             c: u32,
             set: *mut u32,
         ) -> u32;
+        pub fn journal_rest(s: *mut u64, sn: usize, l: *mut u64, ln: usize) -> u32;
         pub fn journal_run(
             s: *mut u64,
             sn: usize,
@@ -199,6 +221,20 @@ mod c {
             first_words: usize,
             second: *const u64,
             second_words: usize,
+        ) -> u32;
+        pub fn journal_desk_left(d: *mut u64, dn: usize, frame: u32, tick: u32) -> u32;
+        pub fn journal_desk_right(d: *mut u64, dn: usize, frame: u32, tick: u32) -> u32;
+        pub fn journal_desk_withdraw_left(d: *mut u64, dn: usize, frame: u32) -> u32;
+        pub fn journal_desk_withdraw_right(d: *mut u64, dn: usize, frame: u32) -> u32;
+        pub fn journal_desk_pair(
+            d: *mut u64,
+            dn: usize,
+            s: *mut u64,
+            sn: usize,
+            l: *mut u64,
+            ln: usize,
+            left: u32,
+            right: *mut u32,
         ) -> u32;
         pub fn journal_image_length(
             s: *const u64,
@@ -507,6 +543,8 @@ calls! {
     repeat = journal_repeat(a, b) -> (), done;
     /// The head of the link from a to b is handed over.
     deliver = journal_deliver(a, b) -> Mail, mailed;
+    /// In an odd epoch every box becomes as a fresh one, but for what outlives a stop.
+    rest = journal_rest() -> (), done;
 }
 
 impl<'a> Site<'a> {
@@ -547,6 +585,25 @@ impl<'a> Site<'a> {
                 right,
             )
         })
+    }
+
+    /// The smallest number that is agreed at box c, is kept there and has this left frame; `None`
+    /// where none has. `Err(Frame)` for frame 0.
+    pub fn find(&self, c: u32, left: u32) -> Result<Option<u32>, Refusal> {
+        let mut number = 0;
+        // SAFETY: two slices, each with its own length, that are only read, and a number.
+        done(unsafe {
+            c::journal_find(
+                self.site.as_ptr(),
+                self.site.len(),
+                self.links.as_ptr(),
+                self.links.len(),
+                c,
+                left,
+                &mut number,
+            )
+        })?;
+        Ok((number != 0).then_some(number))
     }
 
     /// The set of present boxes that have not answered the lease of leader c (box k as 2^(k−1)).
@@ -629,6 +686,69 @@ impl Site<'_> {
             Some(why) => Ok(Run::Stopped(refusal(why), used)),
             None => done(number).map(|()| Run::Ran(used)),
         }
+    }
+}
+
+/// The pairing desk of the stereo gate in 64 lent words, where left and right frames wait with their
+/// shutter ticks. Any 64 words are a desk, 64 zeros an empty one; with fewer every call is refused
+/// with `Buffer`.
+pub struct Desk<'a> {
+    words: &'a mut [u64],
+}
+
+impl<'a> Desk<'a> {
+    /// The desk of these words, with the frames that wait in them.
+    pub fn of(words: &'a mut [u64]) -> Self {
+        Desk { words }
+    }
+
+    /// Gives in a left frame.
+    pub fn left(&mut self, frame: u32, tick: u32) -> Result<(), Refusal> {
+        // SAFETY: a slice with its own length; so in the next three.
+        done(unsafe {
+            c::journal_desk_left(self.words.as_mut_ptr(), self.words.len(), frame, tick)
+        })
+    }
+
+    /// Gives in a right frame. Left 7 and right 7 are different frames.
+    pub fn right(&mut self, frame: u32, tick: u32) -> Result<(), Refusal> {
+        done(unsafe {
+            c::journal_desk_right(self.words.as_mut_ptr(), self.words.len(), frame, tick)
+        })
+    }
+
+    /// Takes a waiting left frame from the desk.
+    pub fn withdraw_left(&mut self, frame: u32) -> Result<(), Refusal> {
+        done(unsafe {
+            c::journal_desk_withdraw_left(self.words.as_mut_ptr(), self.words.len(), frame)
+        })
+    }
+
+    /// Takes a waiting right frame from the desk.
+    pub fn withdraw_right(&mut self, frame: u32) -> Result<(), Refusal> {
+        done(unsafe {
+            c::journal_desk_withdraw_right(self.words.as_mut_ptr(), self.words.len(), frame)
+        })
+    }
+
+    /// Offers a waiting left frame to the site's leader with the nearest waiting right frame, whose
+    /// number is the answer. The pair leaves the desk only so: a refused one stays.
+    pub fn pair(&mut self, site: &mut Site<'_>, left: u32) -> Result<u32, Refusal> {
+        let mut right = 0;
+        // SAFETY: three slices, each with its own length, and a number, that do not overlap.
+        done(unsafe {
+            c::journal_desk_pair(
+                self.words.as_mut_ptr(),
+                self.words.len(),
+                site.site.as_mut_ptr(),
+                site.site.len(),
+                site.links.as_mut_ptr(),
+                site.links.len(),
+                left,
+                &mut right,
+            )
+        })?;
+        Ok(right)
     }
 }
 

@@ -2,13 +2,61 @@
 mod journal;
 use journal::*;
 
+/// The desk, and a site of one box, which is active when it is elected.
+fn desk() {
+    let z = Sizes {
+        boxes: 1,
+        loads: 1,
+        mails: 1,
+    };
+    let (site_words, links_words) = z.words().unwrap();
+    let (mut site, mut links) = (vec![0u64; site_words], vec![0u64; links_words]);
+    let mut s = Site::fresh(&mut site, &mut links, z).unwrap();
+    let mut words = [0u64; 64];
+    let mut d = Desk::of(&mut words[1..]);
+    assert_eq!(d.left(0, 0), Err(Refusal::Buffer));
+    assert_eq!(d.right(0, 0), Err(Refusal::Buffer));
+    assert_eq!(d.withdraw_left(0), Err(Refusal::Buffer));
+    assert_eq!(d.withdraw_right(0), Err(Refusal::Buffer));
+    assert_eq!(d.pair(&mut s, 0), Err(Refusal::Buffer));
+    let mut d = Desk::of(&mut words);
+    assert_eq!(d.left(0, 0), Err(Refusal::Frame));
+    assert_eq!(d.pair(&mut s, 7), Err(Refusal::Away));
+    d.left(7, u32::MAX).unwrap();
+    assert_eq!(d.left(7, 1), Err(Refusal::Waits));
+    d.right(7, 40).unwrap();
+    assert_eq!(d.pair(&mut s, 7), Err(Refusal::Far));
+    d.withdraw_right(7).unwrap();
+    assert_eq!(d.withdraw_right(7), Err(Refusal::Away));
+    d.right(9, 39).unwrap();
+    d.right(8, u32::MAX - 40).unwrap();
+    assert_eq!(
+        d.pair(&mut Site::of(&mut [], &mut []), 7),
+        Err(Refusal::Form)
+    );
+    assert_eq!(d.pair(&mut s, 7), Err(Refusal::Condition));
+    s.elect(1).unwrap();
+    assert_eq!(d.pair(&mut s, 7), Ok(8));
+    assert_eq!(d.withdraw_left(7), Err(Refusal::Away));
+    d.left(7, 0).unwrap();
+    assert_eq!(d.pair(&mut s, 7), Err(Refusal::Condition));
+    d.withdraw_left(7).unwrap();
+    s.propose(1).unwrap();
+    s.agree(1).unwrap();
+    s.holds(1, 1, 7, 8).unwrap();
+    for frame in 10..41 {
+        d.right(frame, 0).unwrap();
+    }
+    assert_eq!(d.right(7, 0), Err(Refusal::Full));
+}
+
 fn main() {
     let z = Sizes {
         boxes: 2,
         loads: 16,
         mails: 8,
     };
-    assert_eq!(z.words(), Some((81, 356)));
+    assert_eq!(z.words(), Some((369, 356)));
     assert_eq!(
         Sizes {
             boxes: 1,
@@ -16,7 +64,7 @@ fn main() {
             mails: 16
         }
         .words(),
-        Some((4123, 0))
+        Some((8347, 0))
     );
     assert_eq!(Sizes { boxes: 6, ..z }.words(), None);
     let largest = Sizes {
@@ -27,7 +75,7 @@ fn main() {
     assert_eq!(z.image_most(), Some(2928));
     assert_eq!(largest.image_most(), Some(10_657_940));
     assert_eq!(Sizes { loads: 0, ..z }.image_most(), None);
-    let (mut site, mut links) = (vec![0u64; 81], vec![0u64; 356]);
+    let (mut site, mut links) = (vec![0u64; 369], vec![0u64; 356]);
     assert_eq!(Site::of(&mut site, &mut links).elect(1), Err(Refusal::Form));
     assert_eq!(Site::of(&mut [], &mut []).elect(1), Err(Refusal::Form));
     assert_eq!(
@@ -68,7 +116,12 @@ fn main() {
     s.propose(1).unwrap();
     assert_eq!(s.deliver(1, 2), Ok(Mail::Taken));
     assert_eq!(s.deliver(2, 1), Ok(Mail::Taken));
+    assert_eq!(s.find(1, 71), Ok(None));
     s.agree(1).unwrap();
+    assert_eq!(s.find(1, 71), Ok(Some(1)));
+    assert_eq!(s.find(2, 71), Ok(None));
+    assert_eq!(s.find(1, 0), Err(Refusal::Frame));
+    assert_eq!(s.find(3, 71), Err(Refusal::Box));
     s.finish(1).unwrap();
     assert_eq!(s.holds(2, 1, 71, 72), Err(Refusal::Untrue));
     s.lose(1, 2).unwrap();
@@ -107,15 +160,20 @@ fn main() {
     assert_eq!(s.run(200), Ok(Run::Ran(5)));
     assert_eq!(s.run(200), Ok(Run::Ran(0)));
     s.holds(2, 1, 71, 72).unwrap();
+    assert_eq!(s.rest(), Err(Refusal::Condition));
     s.timeout(1).unwrap();
+    s.rest().unwrap();
+    s.holds(2, 1, 71, 72).unwrap();
     s.elect(2).unwrap();
     drop(s);
-    let promise = std::mem::replace(&mut site[5 + 38 + 3], 999_999_902);
+    let promise = std::mem::replace(&mut site[5 + 182 + 3], 999_999_902);
     let mut s = Site::of(&mut site, &mut links);
     assert_eq!(s.run(200), Ok(Run::Stopped(Refusal::NewPn, 0)));
     drop(s);
-    site[5 + 38 + 3] = promise;
+    site[5 + 182 + 3] = promise;
     assert_eq!(Site::of(&mut [], &mut []).run(200), Err(Refusal::Form));
+
+    desk();
 
     let s = Site::of(&mut site, &mut links);
     let length = s.image_length().unwrap();
@@ -123,7 +181,7 @@ fn main() {
     assert_eq!(s.write(&mut image[..length - 1]), Err(Refusal::Buffer));
     assert_eq!(s.write(&mut image), Ok(length));
     assert_eq!(image[length], 7);
-    let (mut site, mut links) = (vec![0u64; 81], vec![0u64; 356]);
+    let (mut site, mut links) = (vec![0u64; 369], vec![0u64; 356]);
     assert_eq!(
         Site::read(&image, &mut site, &mut links).err(),
         Some(Refusal::Form)
@@ -150,7 +208,7 @@ fn main() {
     assert_eq!(body(&again, 0), Err(Refusal::Condition));
     assert_eq!(body(&again, 5), Err(Refusal::Condition));
 
-    let (mut row, mut peer) = ([7u64; 26], [9u64; 26]);
+    let (mut row, mut peer) = ([7u64; 158], [9u64; 158]);
     let (mut letter, mut out) = ([0u64; 10], [0u64; 10]);
     let sizes = Sizes {
         boxes: 2,
@@ -242,7 +300,13 @@ fn main() {
         own_mail(&mut peer, &letter, &mut out, other, 1),
         Ok((Mail::Discarded(Cause::Place), 0))
     );
-    row[4] = 2; // load 2 counts as agreed
+    row[4] = 2; // load 2 counts as agreed, but is not in the index
+    assert_eq!(
+        own_act(&mut row, &mut out, own, Act::Trim(2)),
+        Err(Refusal::Form)
+    );
+    // the only load of frames 9, 73, ..
+    (row[26 + 9], row[26 + 64 + 9], row[26 + 128 + 1]) = (2, 2, 0);
     assert_eq!(
         own_act(&mut row, &mut out, own, Act::Trim(3)),
         Err(Refusal::Condition)

@@ -8,7 +8,7 @@ enum {
     PHASE = 2,
     LAST = 4,
     FIRST = 5,
-    WAITING = JOURNAL_ROW_WORDS(0) - 8,
+    WAITING = 14,
     AGREEING,
     PEERS,
     COUNT = PEERS + 5,

@@ -5,6 +5,8 @@
 #include <stdlib.h>
 #include <string.h>
 
+#include "index.h"
+
 /* Proved: longest-of-all and longest-of-traces, crates/image/proofs/LongestLaws.antt. */
 _Static_assert(JOURNAL_IMAGE_MOST(5, 4096, 16) == 10657940, "the longest image of all");
 _Static_assert(JOURNAL_IMAGE_MOST(5, 32, 8) == 46740, "the longest image of a trace's site");
@@ -27,6 +29,7 @@ static void book(uint64_t *records) {
 static void fill_box(uint64_t *row) {
     row[4] = row[21] = j; /* last, and how many are held */
     book(row + 22);
+    put_index(row, j);
 }
 
 static void fill_link(uint64_t *link) {

@@ -7,6 +7,8 @@
 #include <stdlib.h>
 #include <string.h>
 
+#include "index.h"
+
 enum { GUARD = 8 }; /* words behind each array */
 static const uint64_t GUARDED = 0x5ca1ab1e0ddba115u;
 
@@ -109,6 +111,15 @@ static void settle_own(int line, const char *what, uint32_t got, uint32_t want, 
         check(__LINE__, "the silent boxes", set, boxes);                                           \
         check(__LINE__, "site stays", stays(site, 0) && stays(links, 0), 1);                       \
     } while (0)
+/* Which load has a frame: a question leaves every word, and where it is refused the number too. */
+#define FIND(want, c, left, load)                                                                  \
+    do {                                                                                           \
+        uint32_t number = 77;                                                                      \
+        keep(site), keep(links);                                                                   \
+        check(__LINE__, "find " #c " " #left, journal_find(ON, c, left, &number), want);           \
+        check(__LINE__, "the load", number, load);                                                 \
+        check(__LINE__, "site stays", stays(site, 0) && stays(links, 0), 1);                       \
+    } while (0)
 /* A run: where it is refused, and where no step is used, every word stays, and where it is refused
  * the number behind `used` too. */
 #define RUN(want, steps, count)                                                                    \
@@ -161,7 +172,7 @@ static void short_arrays(void) {
     SITE(JOURNAL_FORM, journal_elect(ON, 1)); /* words of 0 are no site */
     SITE(JOURNAL_DONE, journal_fresh(ON, 3, 4, 2));
     for (int i = 0; i < 4; i++) {
-        site.lent = i == 0 ? 82 : i == 2 ? 0 : 83;
+        site.lent = i == 2 ? 0 : JOURNAL_SITE_WORDS(3, 4) - (i == 0);
         links.lent = i == 1 ? 131 : i == 3 ? 0 : 132;
         SITE(JOURNAL_BUFFER, journal_fresh(ON, 3, 4, 2));
         SITE(JOURNAL_SIZES, journal_fresh(ON, 3, 4, 17));
@@ -173,8 +184,9 @@ static void short_arrays(void) {
         SILENT(JOURNAL_FORM, 9, 77);
         RUN(JOURNAL_FORM, 200, 77);
         SITE(JOURNAL_FORM, journal_holds(ON, 9, 0, 0, 0));
+        FIND(JOURNAL_FORM, 9, 0, 77);
     }
-    site.lent = 83, links.lent = 132;
+    site.lent = JOURNAL_SITE_WORDS(3, 4), links.lent = JOURNAL_LINKS_WORDS(3, 4, 2);
     SITE(JOURNAL_DONE, journal_elect(ON, 1));
     release_site();
 }
@@ -272,13 +284,38 @@ static void each_call(void) {
     site.words[3] = 1000000;
     SITE(JOURNAL_EPOCH, journal_timeout(ON, 1));
     SITE(JOURNAL_EPOCH, journal_stop(ON, 1));
-    site.words[5 + 23 + 3] = 999999902; /* the promise of box 2, who leads */
+    site.words[5 + JOURNAL_ROW_WORDS(1) + 3] = 999999902; /* the promise of box 2, who leads */
     SITE(JOURNAL_NEW_PN, journal_recover(ON, 2));
-    site.words[5 + 23 + 3] = 999999901;
+    site.words[5 + JOURNAL_ROW_WORDS(1) + 3] = 999999901;
     SITE(JOURNAL_DONE, journal_recover(ON, 2));
-    WORD(site, 5 + 23 + 3, 999999902);
-    site.words[5 + 23 + 1] = UINT64_MAX; /* its state */
+    WORD(site, 5 + JOURNAL_ROW_WORDS(1) + 3, 999999902);
+    site.words[5 + JOURNAL_ROW_WORDS(1) + 1] = UINT64_MAX; /* its state */
     SITE(JOURNAL_FORM, journal_recover(ON, 2));
+    release_site();
+}
+
+/* In an odd epoch a site is put at rest: the promise stays, and the mail is gone. */
+static void rests(void) {
+    lend_site(2, 1, 2);
+    SITE(JOURNAL_FORM, journal_rest(ON)); /* words of 0 are no site */
+    SITE(JOURNAL_DONE, journal_fresh(ON, 2, 1, 2));
+    SITE(JOURNAL_DONE, journal_rest(ON));
+    SITE(JOURNAL_DONE, journal_elect(ON, 1));
+    SITE(JOURNAL_DONE, journal_recover(ON, 1));
+    SITE(JOURNAL_DONE, journal_collect(ON, 1));
+    SITE(JOURNAL_CONDITION, journal_rest(ON));
+    SITE(JOURNAL_DONE, journal_timeout(ON, 1));
+    WORD(site, 5, 1);
+    WORD(links, 1, 1);
+    SITE(JOURNAL_DONE, journal_rest(ON));
+    WORD(site, 3, 3);
+    WORD(site, 5, 0);
+    WORD(site, 5 + 2, 0);
+    WORD(site, 5 + 3, 1);
+    WORD(site, 5 + 10, 0);
+    WORD(links, 1, 0);
+    SITE(JOURNAL_CONDITION, journal_lose(ON, 1, 2));
+    SITE(JOURNAL_DONE, journal_elect(ON, 2));
     release_site();
 }
 
@@ -404,6 +441,7 @@ static void put_kept(uint32_t c, uint64_t first, uint64_t last, uint64_t more) {
     uint64_t *r = site.words + 5 + (c - 1) * JOURNAL_ROW_WORDS(2);
     r[4] = last, r[5] = first, r[21] = last + 1 - first + more;
     for (uint64_t i = 0; i < 2; i++) r[22 + i] = (first + i) << 32 | 7;
+    put_index(r, 2);
 }
 
 /* What box c keeps: its last and first, how many records, and the frames of the first of them. */
@@ -530,8 +568,8 @@ static void mails(void) {
     WORD(links, 1, 0);
     post(2, 101, 0, 0);
     DISCARD(JOURNAL_DISCARDED_PHASE, 1, 2);
-    site.words[5 + 23 + 0] = 0; /* box 2 does not lead, and has promised 203 */
-    site.words[5 + 23 + 3] = 203;
+    site.words[5 + JOURNAL_ROW_WORDS(1) + 0] = 0; /* box 2 does not lead, and has promised 203 */
+    site.words[5 + JOURNAL_ROW_WORDS(1) + 3] = 203;
     post(3, 202, 0, 1);
     DISCARD(JOURNAL_DISCARDED_NUMBER, 1, 2);
     post(6, 0, 1, 0);
@@ -575,7 +613,7 @@ static void runs(void) {
     RUN(JOURNAL_DONE, 2, 2);
     WORD(links, 1, 0), WORD(links, 16 + 1, 1); /* the Last is under way */
     RUN(JOURNAL_DONE, UINT32_MAX, 5);
-    WORD(site, 5 + 1, 1), WORD(site, 5 + 2, 6), WORD(site, 5 + 23 + 1, 1);
+    WORD(site, 5 + 1, 1), WORD(site, 5 + 2, 6), WORD(site, 5 + JOURNAL_ROW_WORDS(1) + 1, 1);
     RUN(JOURNAL_DONE, 200, 0);
     /* A load that waits is the crew's: the run does not propose it, and agrees one that is begun. */
     SITE(JOURNAL_DONE, journal_offer(ON, 1, 71, 72));
@@ -602,18 +640,18 @@ static void runs(void) {
     RUN(JOURNAL_DONE, 1, 1);
     WORD(links, 1, 0);
     /* 7: a Begin that box 2 has no room for. */
-    post(3, site.words[5 + 23 + 3], 1, 1);
+    post(3, site.words[5 + JOURNAL_ROW_WORDS(1) + 3], 1, 1);
     RUN(JOURNAL_STOPPED + JOURNAL_BOOK, 200, 0);
     links.words[1] = 0;
     /* 6: no new number is left. */
     SITE(JOURNAL_DONE, journal_timeout(ON, 1));
     RUN(JOURNAL_CONDITION, 200, 77);
     SITE(JOURNAL_DONE, journal_elect(ON, 2));
-    site.words[5 + 23 + 3] = 999999902;
+    site.words[5 + JOURNAL_ROW_WORDS(1) + 3] = 999999902;
     RUN(JOURNAL_STOPPED + JOURNAL_NEW_PN, 200, 0);
-    site.words[5 + 23 + 3] = 999999901;
+    site.words[5 + JOURNAL_ROW_WORDS(1) + 3] = 999999901;
     RUN(JOURNAL_DONE, 200, 8);
-    site.words[5 + 23 + 1] = UINT64_MAX; /* its state */
+    site.words[5 + JOURNAL_ROW_WORDS(1) + 1] = UINT64_MAX; /* its state */
     RUN(JOURNAL_FORM, 200, 77);
     release_site();
 }
@@ -741,6 +779,8 @@ static void own_boxes(void) {
     OWN(JOURNAL_CONDITION, 0, journal_own_trim(ROW, TOLD, 2, 1));
     row.words[4] = row.words[21] = 3; /* loads 1 to 3 */
     row.words[22] = 0x100000001u, row.words[23] = 0x200000002u, row.words[24] = 0x300000003u;
+    OWN(JOURNAL_FORM, 0, journal_own_trim(ROW, TOLD, 2, 3)); /* not in the index */
+    put_index(row.words, J);
     OWN(JOURNAL_SIZES, 0, journal_own_trim(ROW, 6, J, 2, EVEN, BOTH, 2, 3));
     OWN(JOURNAL_BOX, 0, journal_own_trim(ROW, TOLD, 3, 3));
     OWN(JOURNAL_CONDITION, 0, journal_own_trim(ROW, TOLD, 2, 1));
@@ -765,7 +805,7 @@ static void told_boxes(void) {
         check(__LINE__, #call, call, want);                                                        \
         check(__LINE__, "row stays", stays(row, want == JOURNAL_DONE ? past : 0), 1);              \
     } while (0)
-#define FRESH(want, n, j, l) TELL(want, 22, journal_own_fresh(LENT, n, j, l))
+#define FRESH(want, n, j, l) TELL(want, 22 + J + 128, journal_own_fresh(LENT, n, j, l))
 #define ELECTED(want, epoch, present, me, c)                                                       \
     TELL(want, 16, journal_own_elected(LENT, 3, J, 2, epoch, present, me, c))
 #define HELD(want, epoch, me, k, left, right)                                                      \
@@ -790,6 +830,7 @@ static void told_boxes(void) {
     FRESH(JOURNAL_DONE, 3, J, 2);
     for (size_t i = 0; i < 22; i++)
         WORD(row, i, 16 <= i && i <= 20 ? UINT32_MAX : i == 5);
+    for (size_t i = 22 + J; i < 22 + J + 128; i++) WORD(row, i, 0);
     TELL(JOURNAL_SIZES, 0, journal_own_elected(LENT, 6, J, 2, EVEN, ALL, 1, 1));
     TELL(JOURNAL_SIZES, 0, journal_own_holds(LENT, 3, J, 17, EVEN, ALL, 1, 1, 7, 8));
     ELECTED(JOURNAL_FORM, 0, ALL, 1, 1);
@@ -821,6 +862,7 @@ static void told_boxes(void) {
     HELD(JOURNAL_UNTRUE, EVEN, 1, 1, 7, 8);
     row.words[4] = 3, row.words[5] = 2, row.words[21] = 3; /* loads 2 and 3, and 4 unagreed */
     row.words[22] = 0x200000012u, row.words[23] = 0x300000013u, row.words[24] = 0x400000014u;
+    put_index(row.words, J);
     HELD(JOURNAL_BOX, EVEN, 0, 2, 2, 18);
     HELD(JOURNAL_BOX, EVEN, 4, 2, 2, 18);
     HELD(JOURNAL_FORM, 0, 1, 2, 2, 18);
@@ -839,12 +881,13 @@ static void put_book(uint32_t j, uint32_t c, uint64_t k) {
     uint64_t *r = site.words + 5 + (size_t)(c - 1) * JOURNAL_ROW_WORDS(j);
     r[4] = r[21] = k;
     for (uint64_t i = 1; i <= k; i++) r[21 + i] = i << 32 | i;
+    put_index(r, j);
 }
 
 /* n = 5, J = 4,096, L = 16: four boxes have nothing, the leader has 4,095 loads. */
 static void largest(void) {
     lend_site(5, 4096, 16);
-    check(__LINE__, "site words", site.lent, 20595);
+    check(__LINE__, "site words", site.lent, 41715);
     check(__LINE__, "links words", links.lent, 1312680);
     SITE(JOURNAL_DONE, journal_fresh(ON, 5, 4096, 16));
     put_book(4096, 1, 4095);
@@ -1115,10 +1158,163 @@ static void lists(void) {
     put_kept(1, 1, 2, 0);
     put_kept(2, 2, 2, 1);
     list_of(__LINE__, JOURNAL_DONE, 1, 1, 27, 2);
-    list_of(__LINE__, JOURNAL_DONE, 2, 2, 51, 1);
+    list_of(__LINE__, JOURNAL_DONE, 2, 2, 27 + JOURNAL_ROW_WORDS(2), 1);
     /* from number 2 on: one record of each */
-    longer_of(__LINE__, 1, site.words + 28, 1, site.words + 51, 1);
+    longer_of(__LINE__, 1, site.words + 28, 1, site.words + 27 + JOURNAL_ROW_WORDS(2), 1);
     release_site();
+}
+
+/* Which load has this frame: equal frames, frames of one remainder by 64, loads that are dropped,
+ * taken whole and held at last+1; a false index. */
+static void frames(void) {
+    static const uint64_t lefts[] = {5, 69, 5, 133, 6, 5};
+    uint64_t *r, *index;
+    lend_site(3, 6, 4);
+    FIND(JOURNAL_FORM, 1, 5, 77);
+    SITE(JOURNAL_DONE, journal_fresh(ON, 3, 6, 4));
+    FIND(JOURNAL_BOX, 0, 5, 77);
+    FIND(JOURNAL_BOX, 4, 0, 77); /* before 10 */
+    FIND(JOURNAL_FRAME, 1, 0, 77);
+    FIND(JOURNAL_DONE, 1, 5, 0);
+    r = site.words + 5, index = r + 22 + 6;
+    r[4] = 12, r[5] = 8, r[21] = 6; /* loads 8 to 12, and 13 unagreed */
+    for (uint64_t i = 0; i < 6; i++) r[22 + i] = lefts[i] << 32 | 7;
+    FIND(JOURNAL_FORM, 1, 5, 77);
+    FIND(JOURNAL_FORM, 0, 0, 77);
+    put_index(r, 6);
+    FIND(JOURNAL_DONE, 1, 5, 8);
+    FIND(JOURNAL_DONE, 1, 69, 9);
+    FIND(JOURNAL_DONE, 1, 133, 11);
+    FIND(JOURNAL_DONE, 1, 6, 12);
+    FIND(JOURNAL_DONE, 1, 197, 0); /* of the same remainder */
+    FIND(JOURNAL_DONE, 1, 7, 0); /* a right frame */
+    FIND(JOURNAL_DONE, 1, UINT32_MAX, 0);
+    FIND(JOURNAL_DONE, 2, 5, 0);
+    /* each word of the index that is read */
+    for (size_t i = 0; i < 128 + 5; i++) {
+        index[i]++;
+        FIND(JOURNAL_FORM, 1, 5, 77);
+        SITE(JOURNAL_FORM, journal_elect(ON, 1));
+        index[i]--;
+    }
+    index[128 + 5] = 77; /* behind the agreed ones: it is not read */
+    FIND(JOURNAL_DONE, 1, 5, 8);
+    SITE(JOURNAL_DONE, journal_stop(ON, 3));
+    SITE(JOURNAL_DONE, journal_elect(ON, 1));
+    SITE(JOURNAL_DONE, journal_trim(ON, 1, 9));
+    FIND(JOURNAL_DONE, 1, 5, 10);
+    FIND(JOURNAL_DONE, 1, 69, 9);
+    SITE(JOURNAL_DONE, journal_trim(ON, 1, 11));
+    FIND(JOURNAL_DONE, 1, 5, 0); /* load 13 is not agreed */
+    FIND(JOURNAL_DONE, 1, 69, 0);
+    FIND(JOURNAL_DONE, 1, 133, 11);
+    /* box 2 takes the book whole, then the load that was started again */
+    RUN(JOURNAL_DONE, 200, 14);
+    FIND(JOURNAL_DONE, 1, 5, 13);
+    FIND(JOURNAL_DONE, 2, 5, 13);
+    FIND(JOURNAL_DONE, 2, 133, 11);
+    FIND(JOURNAL_DONE, 2, 69, 0);
+    FIND(JOURNAL_DONE, 3, 133, 0); /* it is away */
+    SITE(JOURNAL_DONE, journal_return(ON, 3));
+    FIND(JOURNAL_DONE, 2, 6, 12); /* an election is due */
+    release_site();
+}
+
+/* The pairing desk of the stereo gate, and the number for the right frame of a pair. */
+static Array desk;
+static uint32_t right, right_before;
+
+/* mate is the right frame of a pair that leaves, else 0. An offer sends no mail. */
+static void settle_desk(int line, const char *what, uint32_t got, uint32_t want, uint32_t mate) {
+    check(line, what, got, want);
+    check(line, "desk stays", stays(desk, want ? 0 : 64), 1);
+    check(line, "site stays", stays(site, mate ? site.lent : 0), 1);
+    check(line, "links stay", stays(links, 0), 1);
+    check(line, "right", right, mate ? mate : right_before);
+}
+
+#define AT desk.words, desk.lent
+#define DESK(want, mate, call)                                                                     \
+    do {                                                                                           \
+        keep(desk), keep(site), keep(links), right_before = right;                                 \
+        settle_desk(__LINE__, #call, call, want, mate);                                            \
+    } while (0)
+#define PLACE(at, frame, tick) WORD(desk, at, (uint64_t)(frame) << 32 | (tick))
+
+/* What each call at the desk answers for a frame, where all answer the same. */
+static void at_desk(uint32_t want, uint32_t frame) {
+    DESK(want, 0, journal_desk_left(AT, frame, 5));
+    DESK(want, 0, journal_desk_right(AT, frame, 5));
+    DESK(want, 0, journal_desk_withdraw_left(AT, frame));
+    DESK(want, 0, journal_desk_withdraw_right(AT, frame));
+    DESK(want, 0, journal_desk_pair(AT, ON, frame, &right));
+}
+
+/* Ticks that run past their end, a tie, and an offer that is refused until the leader is active. */
+static void pairs(void) {
+    uint32_t used;
+    desk = lend(65); /* the last word is no place */
+    lend_site(2, 1, 2);
+    right = 77, desk.words[64] = 78;
+    desk.lent = 63, at_desk(JOURNAL_BUFFER, 0), at_desk(JOURNAL_BUFFER, 7);
+    desk.lent = 0, at_desk(JOURNAL_BUFFER, 7);
+    desk.lent = 65, at_desk(JOURNAL_FRAME, 0);
+    DESK(JOURNAL_AWAY, 0, journal_desk_pair(AT, ON, 7, &right));
+    DESK(JOURNAL_DONE, 0, journal_desk_left(AT, 7, UINT32_MAX - 15));
+    PLACE(0, 7, UINT32_MAX - 15);
+    DESK(JOURNAL_WAITS, 0, journal_desk_left(AT, 7, 5));
+    DESK(JOURNAL_AWAY, 0, journal_desk_withdraw_right(AT, 7));
+    DESK(JOURNAL_FAR, 0, journal_desk_pair(AT, ON, 7, &right)); /* no right frame waits */
+    DESK(JOURNAL_DONE, 0, journal_desk_right(AT, 7, 25));
+    PLACE(32, 7, 25);
+    DESK(JOURNAL_WAITS, 0, journal_desk_right(AT, 7, 25));
+    DESK(JOURNAL_FAR, 0, journal_desk_pair(AT, ON, 7, &right)); /* 41 */
+    DESK(JOURNAL_DONE, 0, journal_desk_withdraw_right(AT, 7));
+    WORD(desk, 32, 0);
+    PLACE(0, 7, UINT32_MAX - 15);
+    DESK(JOURNAL_AWAY, 0, journal_desk_withdraw_right(AT, 7));
+    DESK(JOURNAL_DONE, 0, journal_desk_right(AT, 9, 24));
+    DESK(JOURNAL_DONE, 0, journal_desk_right(AT, 8, UINT32_MAX - 55)); /* both 40 */
+    DESK(JOURNAL_FORM, 0, journal_desk_pair(AT, ON, 7, &right)); /* words of 0 are no site */
+    SITE(JOURNAL_DONE, journal_fresh(ON, 2, 1, 2));
+    DESK(JOURNAL_CONDITION, 0, journal_desk_pair(AT, ON, 7, &right)); /* none leads */
+    SITE(JOURNAL_DONE, journal_elect(ON, 1));
+    DESK(JOURNAL_CONDITION, 0, journal_desk_pair(AT, ON, 7, &right)); /* not yet active */
+    SITE(JOURNAL_DONE, journal_run(ON, 200, &used));
+    site.lent--;
+    DESK(JOURNAL_FORM, 0, journal_desk_pair(AT, ON, 7, &right));
+    site.lent++;
+    PLACE(0, 7, UINT32_MAX - 15);
+    DESK(JOURNAL_DONE, 8, journal_desk_pair(AT, ON, 7, &right));
+    WORD(desk, 0, 0);
+    PLACE(32, 9, 24);
+    WORD(desk, 33, 0);
+    DESK(JOURNAL_AWAY, 0, journal_desk_pair(AT, ON, 7, &right));
+    DESK(JOURNAL_DONE, 0, journal_desk_left(AT, 7, 0));
+    DESK(JOURNAL_CONDITION, 0, journal_desk_pair(AT, ON, 7, &right)); /* one waits: this stays */
+    PLACE(0, 7, 0);
+    PLACE(32, 9, 24);
+    SITE(JOURNAL_DONE, journal_propose(ON, 1));
+    SITE(JOURNAL_TAKEN, journal_deliver(ON, 1, 2));
+    SITE(JOURNAL_TAKEN, journal_deliver(ON, 2, 1));
+    SITE(JOURNAL_DONE, journal_agree(ON, 1));
+    SITE(JOURNAL_DONE, journal_holds(ON, 1, 1, 7, 8));
+    DESK(JOURNAL_DONE, 0, journal_desk_withdraw_left(AT, 7));
+    DESK(JOURNAL_AWAY, 0, journal_desk_withdraw_left(AT, 7));
+    WORD(desk, 0, 0);
+    for (uint32_t i = 0; i < 32; i++) {
+        DESK(JOURNAL_DONE, 0, journal_desk_left(AT, UINT32_MAX - i, i));
+        if (i) DESK(JOURNAL_DONE, 0, journal_desk_right(AT, UINT32_MAX - i, i));
+    }
+    PLACE(31, UINT32_MAX - 31, 31);
+    PLACE(63, UINT32_MAX - 31, 31);
+    DESK(JOURNAL_FULL, 0, journal_desk_left(AT, 7, 5));
+    DESK(JOURNAL_FULL, 0, journal_desk_right(AT, 7, 5));
+    DESK(JOURNAL_WAITS, 0, journal_desk_left(AT, UINT32_MAX, 5));
+    DESK(JOURNAL_WAITS, 0, journal_desk_right(AT, 9, 5));
+    WORD(desk, 64, 78);
+    release_site();
+    release(desk);
 }
 
 int main(void) {
@@ -1127,6 +1323,7 @@ int main(void) {
     box_numbers();
     each_call();
     repeats();
+    rests();
     leases();
     trims();
     mails();
@@ -1138,6 +1335,8 @@ int main(void) {
     images();
     longest_image();
     lists();
+    pairs();
+    frames();
     printf("%d checks, %d failures\n", checks, failures);
     return failures != 0;
 }

@@ -14,6 +14,8 @@
 #include <stdio.h>
 #include <string.h>
 
+#include "../c/index.h"
+
 typedef uint8_t u8;
 typedef uint32_t u32;
 typedef uint64_t u64;
@@ -68,7 +70,7 @@ static u64 depth_of(void (*act)(void)) {
 static u64 site[JOURNAL_SITE_WORDS(MOST_N, MOST_J)];
 static u64 links[JOURNAL_LINKS_WORDS(MOST_N, MOST_J, MOST_L)];
 static u64 row[JOURNAL_ROW_WORDS(MOST_J)], letter[JOURNAL_PLACE_WORDS(MOST_J)];
-static u64 out[JOURNAL_PLACE_WORDS(MOST_J)];
+static u64 out[JOURNAL_PLACE_WORDS(MOST_J)], desk[64], desk_words;
 static u8 image[JOURNAL_IMAGE_MOST(MOST_N, MOST_J, MOST_L)];
 static u64 site_words, links_words, out_words, image_bytes, length, first, at, count, others;
 static u32 n, j, l, me, x, y, z, w, answer, to, used;
@@ -98,10 +100,21 @@ static void do_lose(void) { answer = journal_lose(LENT, x, y); }
 static void do_repeat(void) { answer = journal_repeat(LENT, x, y); }
 static void do_deliver(void) { answer = journal_deliver(LENT, x, y); }
 static void do_holds(void) { answer = journal_holds(LENT, x, y, z, w); }
+static void do_find(void) { answer = journal_find(LENT, x, z, &to); }
 static void do_unheard(void) { answer = journal_unheard(LENT, x, &to); }
+static void do_rest(void) { answer = journal_rest(LENT); }
 static void do_run(void) { answer = journal_run(LENT, 1000, &used); }
 static void do_agreed(void) { answer = journal_agreed(LENT, x, &first, &at, &count); }
 static void do_longer(void) { answer = journal_longer(site + at, count, out, others); }
+static void do_desk_left(void) { answer = journal_desk_left(desk, desk_words, x, y); }
+static void do_desk_right(void) { answer = journal_desk_right(desk, desk_words, x, y); }
+static void do_desk_withdraw_left(void) {
+    answer = journal_desk_withdraw_left(desk, desk_words, x);
+}
+static void do_desk_withdraw_right(void) {
+    answer = journal_desk_withdraw_right(desk, desk_words, x);
+}
+static void do_desk_pair(void) { answer = journal_desk_pair(desk, desk_words, LENT, x, &to); }
 static void do_own_recover(void) { answer = journal_own_recover(ALONE); }
 static void do_own_collect(void) { answer = journal_own_collect(ALONE); }
 static void do_own_ready(void) { answer = journal_own_ready(ALONE); }
@@ -175,10 +188,17 @@ static struct entry {
     CALL(deliver, 1, 2, 3),
     MAILS(deliver),
     CALL(holds, 0, 1, 2, 14),
+    CALL(find, 0, 1, 2, 10),
     CALL(unheard, 0, 1, 2, 3),
+    CALL(rest, 0, 1, 3),
     CALL(run, 0, 1, 3, 206, 207, 208),
     CALL(agreed, 0, 1, 2),
     CALL(longer, 1, 2, 22),
+    CALL(desk_left, 0, 10, 12, 19, 20),
+    CALL(desk_right, 0, 10, 12, 19, 20),
+    CALL(desk_withdraw_left, 0, 10, 12, 23),
+    CALL(desk_withdraw_right, 0, 10, 12, 23),
+    CALL(desk_pair, 0, 1, 3, 10, 12, 21, 23),
     CALL(own_recover, 0, 1, 2, 3, 6, 12, 13),
     CALL(own_collect, 0, 1, 2, 3, 12, 13),
     CALL(own_ready, 0, 1, 2, 3, 7, 12, 13),
@@ -326,6 +346,8 @@ static void asked(u32 c) {
     called(c, do_holds, do_own_holds);
     y = (u32)r[4] + 1;
     called(c, do_holds, do_own_holds);
+    called(c, do_find, NULL);
+    z = 0, called(c, do_find, NULL);
     called(c, do_unheard, do_own_unheard);
 }
 
@@ -346,6 +368,40 @@ static void runs(void) {
     site[5] = 2, measured(do_run), site[5] = kept[5];
     measured(do_run);
     memcpy(site, kept, 8 * site_words), memcpy(links, mails, 8 * links_words);
+}
+
+/* Put at rest, in either parity; the site stays as it is. */
+static void rests(void) {
+    static u64 kept[sizeof site / 8], mails[sizeof links / 8];
+    memcpy(kept, site, 8 * site_words), memcpy(mails, links, 8 * links_words);
+    site[5] = 2, measured(do_rest), site[5] = kept[5];
+    site[3] = 2, measured(do_rest), site[3] = 3, measured(do_rest);
+    memcpy(site, kept, 8 * site_words), memcpy(links, mails, 8 * links_words);
+}
+
+static void at_desk(u32 frame) {
+    x = frame;
+    measured(do_desk_left), measured(do_desk_right);
+    measured(do_desk_withdraw_left), measured(do_desk_withdraw_right), measured(do_desk_pair);
+}
+
+/* Both sides fill; left 32 is far from every right frame. The site stays as it is. */
+static void pairs(void) {
+    static u64 kept[sizeof site / 8];
+    memcpy(kept, site, 8 * site_words);
+    memset(desk, 0, sizeof desk);
+    desk_words = 63, at_desk(1), desk_words = 64, at_desk(0);
+    for (x = 1; x <= 32; x++) {
+        y = x < 32 ? 100 * x : 1u << 31, measured(do_desk_left);
+        y = 100 * x + 40, measured(do_desk_right);
+    }
+    at_desk(33);
+    x = 1, measured(do_desk_left), measured(do_desk_right);
+    x = 32, measured(do_desk_pair);
+    site[5] = 2, x = 31, measured(do_desk_pair), site[5] = kept[5];
+    measured(do_desk_pair);
+    x = 32, measured(do_desk_withdraw_left), measured(do_desk_withdraw_right);
+    memcpy(site, kept, 8 * site_words);
 }
 
 static void images(void) {
@@ -386,6 +442,7 @@ static void step(u32 c) {
 static void keep(u64 *r, u64 last, u64 more) {
     r[4] = last, r[5] = 1, r[21] = last + more;
     for (u64 i = 0; i < last + more; i++) r[22 + i] = (u64)7 << 32 | (i + 1);
+    put_index(r, j);
 }
 
 /* Words of a box that are by form, whatever was agreed; a state often has one of its phases. */
@@ -411,6 +468,7 @@ static void event(void) {
     } else if (what < 820) {
         step(c);
     } else if (what < 860) {
+        pairs();
         y = below(9), z = 5;
         called(c, do_offer, do_own_offer);
     } else if (what < 910) {
@@ -436,6 +494,7 @@ static void event(void) {
         compared(a);
     } else if (what < 992) {
         runs();
+        rests();
     } else {
         images();
     }

@@ -4,3 +4,5 @@ pub mod SizeLaws
 pub mod Once
 pub mod Soon
 pub mod BodiesOnce
+pub mod RestLaws
+pub mod DeskOnce

@@ -25,6 +25,8 @@ use Rattle.agreed.specs.declared.Agreed.{Agreed}
 use Rattle.journal.specs.Longer.{agreedNumber, agreedFirst, agreedPlace, agreedMany}
 use Rattle.journal.specs.Longer.{AgreedAnswered}
 use Rattle.journal.specs.Unheard.{unheardNumber, unheardSet, UnheardAnswered}
+use Rattle.find.specs.declared.Found.{Found}
+use Rattle.journal.specs.Find.{foundAnswer, foundNumber, FindAnswered}
 use Rattle.until.specs.Until.{runOn}
 use Rattle.until.proofs.Once as until
 use Rattle.journal.specs.Run.{runNumber, runUsed, RunAnswered}
@@ -73,6 +75,14 @@ agreed-once {f = f} {p = p} {m = m} u v =
       u .first ∙ ap (λ a. agreedFirst a f) e ∙ sym (v .first),
       u .place ∙ ap (λ a. agreedPlace a p) e ∙ sym (v .place),
       u .many ∙ ap (λ a. agreedMany a m) e ∙ sym (v .many),
+    )
+
+pub find-once : {w : Found} {k t v r q : ℕ} → FindAnswered w k t r → FindAnswered w k v q
+    → (r ≡ q) × (t ≡ v)
+find-once {k = k} p q =
+    let e = p .is ∙ sym (q .is) in (
+      p .number ∙ ap foundAnswer e ∙ sym (q .number),
+      p .load ∙ ap (λ w. foundNumber w k) e ∙ sym (q .load),
     )
 
 pub run-once : {steps : ℕ} {xs ls ys ms zs ns : List ℕ} {u t v r q : ℕ}

@@ -13,7 +13,7 @@ pub extern "C" fn journal_site_words(n: u32, j: u32, l: u32) -> usize
     if !ranges::are_sizes(n as u64, j as u64, l as u64) {
         return 0;
     }
-    memory::GENERAL + n as usize * memory::row_width(j)
+    memory::GENERAL + n as usize * row::row_width(j)
 }
 
 // The words of `links`; 0 for sizes outside their ranges, and for a site of one box.
