@@ -36,10 +36,25 @@ static u64 plain_length(void) { return image_length(&site); }
 
 static u64 formed_length(void) { return by_form(&site) ? image_length(&site) : 0; }
 
-const struct engine FORMED = {plain_fresh, formed_step, formed_write,
-                              plain_read,  formed_run,  formed_length};
-const struct engine PLAIN = {plain_fresh, plain_step, plain_write,
-                             plain_read,  plain_run,  plain_length};
+/* A full reading of the agreed loads that box c keeps. */
+static u32 plain_find(u32 c, u32 left, u32 *number) {
+    if (c < 1 || c > site.n) return 2;
+    if (!left) return 10;
+    const struct camera *b = &site.boxes[c - 1];
+    *number = 0;
+    for (u32 k = b->first; k <= b->last; k++)
+        if (b->records[k - b->first] >> 32 == left) return *number = k, DONE;
+    return DONE;
+}
+
+static u32 formed_find(u32 c, u32 left, u32 *number) {
+    return by_form(&site) ? plain_find(c, left, number) : 1;
+}
+
+const struct engine FORMED = {plain_fresh, formed_step,   formed_write, plain_read,
+                              formed_run,  formed_length, formed_find};
+const struct engine PLAIN = {plain_fresh, plain_step,   plain_write, plain_read,
+                             plain_run,   plain_length, plain_find};
 
 static u64 *boxes, *links, box_words, link_words;
 
@@ -93,5 +108,9 @@ static u64 journal_length(void) {
     return journal_image_length(LENT, &length) == DONE ? length : 0;
 }
 
-const struct engine JOURNAL = {journal_begin, journal_call, journal_writes,
-                               journal_reads, journal_runs, journal_length};
+static u32 journal_finds(u32 c, u32 left, u32 *number) {
+    return journal_find(LENT, c, left, number);
+}
+
+const struct engine JOURNAL = {journal_begin, journal_call,   journal_writes, journal_reads,
+                               journal_runs,  journal_length, journal_finds};

@@ -10,6 +10,7 @@ struct engine {
     u32 (*read)(const u8 *image, u64 length);
     u32 (*run)(u32 steps, u32 *used);
     u64 (*length)(void); /* of the image; 0 where the site is not by form */
+    u32 (*find)(u32 c, u32 left, u32 *number);
 };
 
 extern struct site site;

@@ -98,6 +98,12 @@ static void do_run(const struct engine *e) {
     calls(e, TIMEOUT, 1, 0, 0), calls(e, ELECT, 1, 0, 0);
     must(e->run(200, &used) == DONE && used == 4 * n, "a run");
 }
+/* The frame of the last load of the last box: a full reading goes through the whole book. */
+static u32 sought;
+static void do_find(const struct engine *e) {
+    u32 number = 0;
+    must(e->find(n, sought, &number) == DONE && number == sought, "a find");
+}
 static void do_read(const struct engine *e) { must(e->read(image, length) == DONE, "a read"); }
 static void do_write(const struct engine *e) { must(e->write(image, length) == DONE, "a write"); }
 static void do_copy(const struct engine *e) {
@@ -259,7 +265,16 @@ int main(int arguments, char **argument) {
     measure("image write, 3 boxes, 4 loads", &PLAIN, do_write, 1);
     measure("the same, form looked at in C too", &FORMED, do_write, 1);
     measure("image read, 3 boxes, 4 loads", &PLAIN, do_read, 1);
+    begin(3, 64, 4, 64);
+    sought = 64;
+    measure("find the last of 64 loads, 3 boxes", &PLAIN, do_find, 1);
+    measure("the same, form looked at in C too", &FORMED, do_find, 1);
+    measure("of these to look at form", &FORMED, do_form, 1);
     begin(5, 4096, 16, 4096);
+    sought = 4096;
+    measure("find the last of 4,096 loads, 5 boxes", &PLAIN, do_find, 1);
+    measure("the same, form looked at in C too", &FORMED, do_find, 1);
+    measure("of these to look at form", &FORMED, do_form, 1);
     measure("step, 5 boxes, 4,096 loads", &PLAIN, do_election, 22);
     measure("the same, form looked at in C too", &FORMED, do_election, 22);
     begin(5, 4096, 16, 4096);

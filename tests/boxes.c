@@ -142,9 +142,26 @@ static u32 silent(u32 c) {
                answer && by_itself == set;
 }
 
+/* Which load of box c has this left frame: the index says what a full reading says. */
+static u32 is_found(u32 c, u32 left) {
+    const u64 *r = row_of(c);
+    u32 number = DIFFERS, read = 0;
+    for (u64 k = r[4]; k >= r[5]; k--)
+        if (r[22 + k - r[5]] >> 32 == left) read = (u32)k;
+    if (!left) return journal_find(LENT, c, left, &number) == JOURNAL_FRAME && number == DIFFERS;
+    return journal_find(LENT, c, left, &number) == JOURNAL_DONE && number == read;
+}
+
+/* .. of the first and the last record that it holds, of one of the same remainder, and of frame 0. */
+static u32 finds(u32 c) {
+    const u64 *r = row_of(c);
+    u32 first = r[21] ? (u32)(r[22] >> 32) : 5, last = r[21] ? (u32)(r[21 + r[21]] >> 32) : 69;
+    return is_found(c, first) && is_found(c, last) && is_found(c, (last ^ 64) | 1) && is_found(c, 0);
+}
+
 u32 take_call(const struct line *line) {
     for (u32 c = 1; c <= n; c++)
-        if (!silent(c)) return DIFFERS;
+        if (!silent(c) || !finds(c)) return DIFFERS;
     u32 answer = by_boxes(line), again = answer;
     if (line->call != HOLDS) again = JOURNAL.step(line->call, line->a, line->b, line->c);
     if (answer != again || (is_refusal(answer) && !kept())) return DIFFERS;

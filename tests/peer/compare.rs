@@ -7,6 +7,7 @@ use crate::image;
 use crate::other::{Other, Run, Verdict};
 use crate::random::Random;
 use crate::rules::Call;
+use crate::find::random_find;
 use crate::run::{next_turn, usable};
 use crate::shrink::fewest;
 use crate::site::*;
@@ -426,6 +427,80 @@ pub fn runs(other: &Other, seed: u64, count: u64, longest: usize) -> bool {
     others.iter().for_each(|answer| println!("  met: {answer}"));
     let all = met.all(&[1, 3, 11], &[&RUNS[..], &["status 0", "status 1"]].concat());
     all && others.is_empty()
+}
+
+/// What an answer to a find must have been, beside the refusals 1, 2, 10 and 11.
+const FINDS: [&str; 8] = [
+    "found",
+    "found below others",
+    "found behind others of its slot",
+    "found past the first",
+    "none",
+    "none but at last+1",
+    "none but in its slot",
+    "of a box that is away",
+];
+
+/// What came of a find, in words; several may be true.
+fn came_of_find(line: &[u8], answer: &str) -> Vec<String> {
+    let number = match answer.split_once(' ') {
+        Some(("found", number)) => number.parse().ok(),
+        None if answer == "none" => None,
+        _ => return vec![answer.into()],
+    };
+    let site = image_of(line).expect("the image that was asked");
+    let space = line.iter().position(|byte| *byte == b' ').expect("a line");
+    let (c, left) = trace::read_find(&line[space + 1..]).expect("a find");
+    let b = site.at(c);
+    let (kept, held) = (&b.records[..b.kept()], &b.records[..]);
+    let has = |record: &&Record| **record >> 32 == left as u64;
+    let near = |record: &&Record| (**record >> 32) % 64 == left as u64 % 64;
+    let place = number.map(|k: u32| (k - b.first) as usize);
+    let before = &kept[..place.unwrap_or(kept.len())];
+    let so = [
+        (place.is_some(), "found"),
+        (place.is_some() && kept.iter().filter(has).count() > 1, "found below others"),
+        (place.is_some() && before.iter().any(|r| near(&r)), "found behind others of its slot"),
+        (place.is_some() && b.first > 1, "found past the first"),
+        (place.is_none(), "none"),
+        (place.is_none() && held.iter().any(|r| has(&r)), "none but at last+1"),
+        (place.is_none() && before.iter().any(|r| near(&r)), "none but in its slot"),
+        (!member(site.present, c), "of a box that is away"),
+    ];
+    so.into_iter().filter(|(so, _)| *so).map(|(_, word)| word.into()).collect()
+}
+
+/// Which load has a frame, asked of images, many to a run of the other program; then those of the
+/// first that are not refused. An image has at most `longest` bytes.
+pub fn finds(other: &Other, seed: u64, count: u64, longest: usize) -> bool {
+    let (mut met, mut done) = (Met::default(), vec![]);
+    for from in (seed..seed + count).step_by(500) {
+        let (seeds, lines): (Vec<u64>, Vec<_>) = (from..(from + 500).min(seed + count))
+            .map(|k| (k, random_find(&mut Random::new(k))))
+            .filter(|(_, line)| line.len() <= 2 * longest + 65)
+            .unzip();
+        if !steps_agree(other, &seeds, &lines) {
+            return false;
+        }
+        let said = trace::apply(&ended_lines(&lines), Fault::None);
+        met.count_status(&said);
+        let answers = String::from_utf8_lossy(&said.text);
+        for ((k, line), answer) in seeds.iter().zip(lines).zip(answers.lines()) {
+            for word in came_of_find(&line, answer) {
+                *met.0.entry(word).or_default() += 1;
+            }
+            if from == seed && !answer.starts_with("refused") {
+                done.push((*k, line));
+            }
+        }
+    }
+    let (seeds, lines): (Vec<u64>, Vec<_>) = done.into_iter().unzip();
+    if !lines.is_empty() && !steps_agree(other, &seeds, &lines) {
+        return false;
+    }
+    met.count_status(&trace::apply(&ended_lines(&lines), Fault::None));
+    println!("{count} frames asked for from seed {seed}: the same");
+    met.all(&[1, 2, 10, 11], &[&FINDS[..], &["status 0", "status 1"]].concat())
 }
 
 /// A simpler line that is bad too.

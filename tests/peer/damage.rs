@@ -5,7 +5,7 @@ use crate::image;
 use crate::trace::unhex;
 
 /// The words that the program lends of the site and of the links.
-const ROOM: (usize, usize) = (160, 1000);
+const ROOM: (usize, usize) = (820, 1000);
 
 #[derive(Default)]
 struct Count {

@@ -35,6 +35,12 @@ pub enum Fault {
     DiscardNotCounted,
     TriedWithNoneLeft,
     OddEpochRuns,
+    LargestFound,
+    UnagreedFound,
+    SlotFound,
+    RightFound,
+    FoundByPlace,
+    FrameZeroAsked,
 }
 
 /// Where a fault shows.
@@ -52,10 +58,12 @@ pub enum Shows {
     OnForeign,
     /// It breaks the run after an election, and no step of it.
     InRun,
+    /// It breaks the question which load has a frame, and no step.
+    InFind,
 }
 
 /// Each fault, its name, and where a walk notices it.
-pub const FAULTS: [(Fault, &str, Shows); 31] = [
+pub const FAULTS: [(Fault, &str, Shows); 37] = [
     (Fault::MajorityOfPresent, "majority-of-present", Shows::InDemand),
     (Fault::MajorityOfSite, "majority-of-site", Shows::InRule),
     (Fault::PromiseClearedAtStop, "promise-cleared-at-stop", Shows::InDemand),
@@ -87,4 +95,10 @@ pub const FAULTS: [(Fault, &str, Shows); 31] = [
     (Fault::DiscardNotCounted, "discard-not-counted", Shows::InRun),
     (Fault::TriedWithNoneLeft, "tried-with-none-left", Shows::InRun),
     (Fault::OddEpochRuns, "odd-epoch-runs", Shows::InRun),
+    (Fault::LargestFound, "largest-found", Shows::InFind),
+    (Fault::UnagreedFound, "unagreed-found", Shows::InFind),
+    (Fault::SlotFound, "slot-found", Shows::InFind),
+    (Fault::RightFound, "right-found", Shows::InFind),
+    (Fault::FoundByPlace, "found-by-place", Shows::InFind),
+    (Fault::FrameZeroAsked, "frame-zero-asked", Shows::InFind),
 ];

@@ -7,6 +7,7 @@
 //!     trays I O        .. and of the places for a letter in and a letter out
 //!     word K V, row C K V, link A B K V, letter K V
 //!                      word K is V: of the site, of a box's row, of a link, of the letter in
+//!                      (a box's index follows its other words, and not the other way round)
 //!     book C K         box C has agreed K loads, number i with the frames i and i
 //!     box C, mails A B the words of a box, the mails of a link
 //!     own CALL         the call at its box by itself; its letter is the next that is handed over
@@ -109,6 +110,12 @@ impl Stage {
         row_of(&mut self.site, &self.lent, self.sizes, short(me))
     }
 
+    /// Box c has the index of its agreed records.
+    fn reindex(&mut self, c: u64) {
+        let from = self.sizes.row_at(c as u32).min(self.site.len());
+        words::reindex(part(&mut self.site[from..], self.sizes.row_words()), self.sizes);
+    }
+
     /// What came of a line.
     fn line(&mut self, line: &str) -> String {
         let (word, rest) = line.split_once(' ').unwrap_or((line, ""));
@@ -123,7 +130,12 @@ impl Stage {
                 (self.lent.letter, self.lent.out) = (letter as usize, out as usize)
             }
             ("word", &[k, v]) => put(&mut self.site, k as usize, v),
-            ("row", &[c, k, v]) => put(&mut self.site, row_at(c) + k as usize, v),
+            ("row", &[c, k, v]) => {
+                put(&mut self.site, row_at(c) + k as usize, v);
+                if (k as usize) < self.sizes.index_at() {
+                    self.reindex(c);
+                }
+            }
             ("link", &[a, b, k, v]) => {
                 let at = self.sizes.link_at(a as u32, b as u32);
                 put(&mut self.links, at + k as usize, v)
@@ -133,6 +145,7 @@ impl Stage {
                 let row = &mut self.site[row_at(c)..];
                 (row[LAST], row[COUNT]) = (k, k);
                 (1..=k).for_each(|i| row[COUNT + i as usize] = i << 32 | i);
+                self.reindex(c);
             }
             ("box", &[c]) => {
                 let row = &self.site[row_at(c)..];

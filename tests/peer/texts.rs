@@ -23,7 +23,7 @@ fn holds_text(site: &Site, r: &mut Random, truly: bool) -> Option<String> {
 }
 
 /// A line that differs from a readable one by a byte or two.
-fn spoilt(line: &str, r: &mut Random) -> Vec<u8> {
+pub fn spoilt(line: &str, r: &mut Random) -> Vec<u8> {
     let mut line = line.as_bytes().to_vec();
     let at = r.below(line.len() as u32) as usize;
     match r.below(9) {
@@ -161,7 +161,7 @@ fn ending(site: &mut Site, r: &mut Random, style: &Style) -> Vec<u8> {
 }
 
 /// A site that the steps reach.
-fn reached(r: &mut Random, sizes: Sizes) -> Site {
+pub fn reached(r: &mut Random, sizes: Sizes) -> Site {
     let mut site = Site::fresh(sizes);
     let style = Style::any(r, sizes.n);
     for frame in 1..=r.pick(&[0, 10, 40, 200, 1000]) {
@@ -172,7 +172,7 @@ fn reached(r: &mut Random, sizes: Sizes) -> Site {
 }
 
 /// An image that is mostly no image any more.
-fn damaged(mut image: Vec<u8>, r: &mut Random) -> Vec<u8> {
+pub fn damaged(mut image: Vec<u8>, r: &mut Random) -> Vec<u8> {
     let at = r.below(image.len() as u32) as usize;
     let word = at / 4 * 4;
     match r.below(8) {
@@ -191,7 +191,7 @@ fn damaged(mut image: Vec<u8>, r: &mut Random) -> Vec<u8> {
     image
 }
 
-fn some_sizes(r: &mut Random) -> Sizes {
+pub fn some_sizes(r: &mut Random) -> Sizes {
     let large = r.percent(3);
     Sizes {
         n: r.from(1, 5),

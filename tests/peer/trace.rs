@@ -1,7 +1,9 @@
 //! Trace lines, the replayer, and `apply`: one step on an image.
 
 use crate::faults::Fault;
+use crate::find::find;
 use crate::image;
+use crate::moves;
 use crate::rules::*;
 use crate::run::{run, Ended};
 use crate::site::*;
@@ -21,7 +23,7 @@ pub const LONGEST_IMAGE: usize = {
     4 + 8 * (n + 2) + 20 + n * (80 + 4 * n + 8 * j) + n * (n - 1) * (4 + l * (24 + 8 * j))
 };
 
-fn decimal(word: &[u8]) -> Option<u32> {
+pub fn decimal(word: &[u8]) -> Option<u32> {
     let plain =
         word.iter().all(u8::is_ascii_digit) && (word.len() == 1 || word.first() != Some(&b'0'));
     if plain {
@@ -31,14 +33,19 @@ fn decimal(word: &[u8]) -> Option<u32> {
     }
 }
 
+/// Decimals parted by one space.
+pub fn numbers_of(text: &[u8]) -> Option<Vec<u32>> {
+    text.split(|byte| *byte == b' ').map(decimal).collect()
+}
+
 /// A line without its newline; None where it is unreadable.
 pub fn read_line(line: &[u8]) -> Option<Line> {
     if line.len() > LONGEST_LINE {
         return None;
     }
-    let mut words = line.split(|byte| *byte == b' ');
+    let mut words = line.splitn(2, |byte| *byte == b' ');
     let name = words.next()?;
-    let numbers: Vec<u32> = words.map(decimal).collect::<Option<_>>()?;
+    let numbers = words.next().map_or(Some(vec![]), numbers_of)?;
     Some(match (name, &numbers[..]) {
         (b"site", &[n, j, l]) => Line::Site(Sizes { n, j, l }),
         (b"holds", &[c, k, left, right]) => Line::Holds(c, k, left, right),
@@ -189,6 +196,19 @@ fn run_line(bytes: &[u8], steps: u32, fault: Fault) -> Result<String, Refusal> {
     })
 }
 
+/// What `find C LEFT` asks for, which is no line of a trace.
+pub fn read_find(words: &[u8]) -> Option<(u32, u32)> {
+    let numbers = words.strip_prefix(b"find ").filter(|_| words.len() <= LONGEST_LINE)?;
+    let space = numbers.iter().position(|byte| *byte == b' ')?;
+    Some((decimal(&numbers[..space])?, decimal(&numbers[space + 1..])?))
+}
+
+fn find_line(bytes: &[u8], (c, left): (u32, u32), fault: Fault) -> Result<String, Refusal> {
+    let site = image::read(bytes).ok_or(1u32)?;
+    let found = find(&site, c, left, fault)?;
+    Ok(found.map_or("none".into(), |number| format!("found {number}")))
+}
+
 fn apply_line(line: Option<&[u8]>, fault: Fault) -> Result<String, Refusal> {
     // a line is no longer than its image in hex, the space and the call may be together
     let line =
@@ -197,6 +217,14 @@ fn apply_line(line: Option<&[u8]>, fault: Fault) -> Result<String, Refusal> {
     let bytes = unhex(&line[..space]).ok_or(11u32)?;
     if let Some(steps) = read_run(&line[space + 1..]) {
         return run_line(&bytes, steps, fault);
+    }
+    if &line[space + 1..] == b"rest" {
+        let mut site = image::read(&bytes).ok_or(1u32)?;
+        moves::rest(&mut site)?;
+        return Ok(format!("done {}", hex(&image::write(&site))));
+    }
+    if let Some(asked) = read_find(&line[space + 1..]) {
+        return find_line(&bytes, asked, fault);
     }
     let words = read_line(&line[space + 1..]).ok_or(11u32)?;
     if matches!(words, Line::Site(_)) {

@@ -1,7 +1,9 @@
 //! A site in lent words, by include/journal.h and docs/ARCHITECTURE.md, and the entries on it.
 //!
 //! `site`: n, J, L, epoch, present set, and a row for each box, its fields in the image's order, with
-//! five peers and room for J records. `links`: for each pair of different boxes, by sender and then
+//! five peers and room for J records, then the index of the agreed ones: by the remainder of the left
+//! frame by 64 the smallest number and the largest, and beside each record the next number that has
+//! its remainder, 0 for none. `links`: for each pair of different boxes, by sender and then
 //! receiver, the place of its head, how many mails it holds, and L places round a ring, each a mail's
 //! fields in the image's order with room for J records, and a first of 0 in the kinds that carry
 //! none. Other words are neither read nor written.
@@ -14,13 +16,21 @@ use std::collections::VecDeque;
 
 const GENERAL: usize = 5;
 pub const LAST: usize = 4;
+const FIRST: usize = 5;
 const PEERS: std::ops::Range<usize> = 16..21;
 pub const COUNT: usize = 21;
 pub const RECORDS: usize = 22;
+const SLOTS: usize = 64;
+const NEXTS: usize = 2 * SLOTS;
 pub const ENCLOSED: usize = 6;
 
 impl Sizes {
     pub fn row_words(self) -> usize {
+        self.index_at() + NEXTS + self.j as usize
+    }
+
+    /// Where in a row the index begins.
+    pub fn index_at(self) -> usize {
         RECORDS + self.j as usize
     }
 
@@ -61,12 +71,37 @@ fn number(word: u64) -> Option<u32> {
     u32::try_from(word).ok()
 }
 
-/// The box that a row holds; None where the words are too few or too large for it.
+/// The index of these records, the first of which has this number, from the last to the first.
+fn index_of(first: u64, records: &[Record]) -> Vec<u64> {
+    let mut index = vec![0; NEXTS + records.len()];
+    for (i, record) in records.iter().enumerate().rev() {
+        let (slot, number) = ((*record >> 32) as usize % SLOTS, first + i as u64);
+        index[NEXTS + i] = index[slot];
+        index[slot] = number;
+        if index[SLOTS + slot] == 0 {
+            index[SLOTS + slot] = number;
+        }
+    }
+    index
+}
+
+/// The row gets the index of the records that its words call agreed, if they are a book's.
+pub fn reindex(row: &mut [u64], sizes: Sizes) {
+    let (first, last, count) = (row[FIRST], row[LAST], row[COUNT]);
+    let agreed = last.wrapping_add(1).wrapping_sub(first);
+    if first >= 1 && agreed <= count && count <= sizes.j as u64 {
+        let index = index_of(first, &row[RECORDS..][..agreed as usize]);
+        row[sizes.index_at()..][..index.len()].copy_from_slice(&index);
+    }
+}
+
+/// The box that a row holds; None where the words are too few or too large for it, or have another
+/// index than that of its agreed records.
 fn read_row(words: &[u64], sizes: Sizes) -> Option<Camera> {
     let words = words.get(..sizes.row_words())?;
     let count = number(words[COUNT]).filter(|count| *count <= sizes.j)?;
     let peers = &words[PEERS][..sizes.n as usize];
-    Some(Camera {
+    let read = Camera {
         leads: number(words[0]).filter(|flag| *flag <= 1)? == 1,
         state: *STATES.get(number(words[1])? as usize)?,
         phase: *PHASES.get(number(words[2])? as usize)?,
@@ -83,10 +118,12 @@ fn read_row(words: &[u64], sizes: Sizes) -> Option<Camera> {
         agreeing: words[15],
         peers: peers.iter().map(|last| number(*last)).collect::<Option<_>>()?,
         records: words[RECORDS..][..count as usize].to_vec(),
-    })
+    };
+    let agreed = read.records.get(..read.kept())?;
+    words[sizes.index_at()..].starts_with(&index_of(read.first as u64, agreed)).then_some(read)
 }
 
-fn put_row(words: &mut [u64], b: &Camera) {
+fn put_row(words: &mut [u64], b: &Camera, sizes: Sizes) {
     let Best { pn, number, record } = b.best;
     let numbers = [b.leads as u32, b.state as u32, b.phase as u32, b.pn, b.last, b.first]
         .into_iter()
@@ -96,6 +133,8 @@ fn put_row(words: &mut [u64], b: &Camera) {
     words.iter_mut().zip(head).for_each(|(word, value)| *word = value);
     words[COUNT] = b.records.len() as u64;
     words[RECORDS..][..b.records.len()].copy_from_slice(&b.records);
+    let index = index_of(b.first as u64, &b.records[..b.kept()]);
+    words[sizes.index_at()..][..index.len()].copy_from_slice(&index);
 }
 
 /// The mail that a place holds; None where the words are too few or too large for it.
@@ -173,7 +212,8 @@ fn put_site(words: &mut [u64], site: &Site) {
     let Sizes { n, j, l } = site.sizes;
     let general = [n, j, l, site.epoch, site.present].map(u64::from);
     words[..GENERAL].copy_from_slice(&general);
-    site.numbers().for_each(|c| put_row(&mut words[site.sizes.row_at(c)..], site.at(c)));
+    let row_at = |c: u32| site.sizes.row_at(c);
+    site.numbers().for_each(|c| put_row(&mut words[row_at(c)..], site.at(c), site.sizes));
 }
 
 /// A fresh site, whatever the words held.
@@ -257,7 +297,7 @@ pub fn started(row: &mut [u64], sizes: Sizes) -> Result<Answer, Refusal> {
         return Err(12);
     }
     row[PEERS].fill(UNKNOWN as u64);
-    put_row(row, &Camera::fresh(sizes.n));
+    put_row(row, &Camera::fresh(sizes.n), sizes);
     Ok(Answer::Done)
 }
 
@@ -275,7 +315,7 @@ pub fn elected(row: &mut [u64], told: Told, c: u32) -> Result<Answer, Refusal> {
         return Err(4);
     }
     be_elected(&mut own, told.me == c, told.present);
-    put_row(row, &own);
+    put_row(row, &own, told.sizes);
     Ok(Answer::Done)
 }
 
@@ -328,7 +368,7 @@ pub fn alone(
     if out.len() < sizes.place_words() {
         return Err(12);
     }
-    put_row(row, &turn.next);
+    put_row(row, &turn.next, sizes);
     // a turn's mails are all alike
     if let Some((_, mail)) = turn.out.first() {
         put_mail(out, mail);
