@@ -3,11 +3,12 @@
 PREFIX = /usr/local
 DESTDIR =
 goal = "$(DESTDIR)$(PREFIX)"
+commands = replay apply wait longer desk bodies publish unpublish salvage
 
 all: programs lib
 
 programs:
-	rt check replay apply weigh show
+	rt check replay apply weigh stereo show publish rescue
 
 lib:
 	lib/build
@@ -19,8 +20,7 @@ install: all
 	lib/install $(goal)
 
 uninstall:
-	cd $(goal) && rm -rf lib/szomrelik && rm -f bin/replay bin/apply bin/wait bin/longer bin/bodies \
-		lib/libjournal.a include/journal.h share/man/man1/replay.1 share/man/man1/apply.1 \
-		share/man/man1/wait.1 share/man/man1/longer.1 share/man/man1/bodies.1
+	cd $(goal) && rm -rf lib/szomrelik lib/libjournal.a include/journal.h && for name in $(commands); do \
+		rm -f bin/$$name share/man/man1/$$name.1; done
 
 .PHONY: all programs lib test install uninstall
