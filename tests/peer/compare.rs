@@ -387,23 +387,29 @@ fn came_of_run(line: &[u8], answer: &str) -> Vec<String> {
     }
 }
 
-/// Runs of images, many to a run of the other program; then those of the first that are not
-/// refused. An image has at most `longest` bytes.
-pub fn runs(other: &Other, seed: u64, count: u64, longest: usize) -> bool {
+/// Lines of `apply`, many to a run of the other program; then those of the first that are not
+/// refused. What came of each is counted; None where the two programs differ. An image has at most
+/// `longest` bytes.
+fn asked(
+    other: &Other,
+    (seed, count, longest): (u64, u64, usize),
+    random: fn(&mut Random) -> Vec<u8>,
+    came: fn(&[u8], &str) -> Vec<String>,
+) -> Option<Met> {
     let (mut met, mut done) = (Met::default(), vec![]);
     for from in (seed..seed + count).step_by(500) {
         let (seeds, lines): (Vec<u64>, Vec<_>) = (from..(from + 500).min(seed + count))
-            .map(|k| (k, random_run(&mut Random::new(k))))
+            .map(|k| (k, random(&mut Random::new(k))))
             .filter(|(_, line)| line.len() <= 2 * longest + 65)
             .unzip();
         if !steps_agree(other, &seeds, &lines) {
-            return false;
+            return None;
         }
         let said = trace::apply(&ended_lines(&lines), Fault::None);
         met.count_status(&said);
         let answers = String::from_utf8_lossy(&said.text);
         for ((k, line), answer) in seeds.iter().zip(lines).zip(answers.lines()) {
-            for word in came_of_run(&line, answer) {
+            for word in came(&line, answer) {
                 *met.0.entry(word).or_default() += 1;
             }
             if from == seed && !answer.starts_with("refused") {
@@ -413,9 +419,17 @@ pub fn runs(other: &Other, seed: u64, count: u64, longest: usize) -> bool {
     }
     let (seeds, lines): (Vec<u64>, Vec<_>) = done.into_iter().unzip();
     if !lines.is_empty() && !steps_agree(other, &seeds, &lines) {
-        return false;
+        return None;
     }
     met.count_status(&trace::apply(&ended_lines(&lines), Fault::None));
+    Some(met)
+}
+
+/// Runs of images.
+pub fn runs(other: &Other, seed: u64, count: u64, longest: usize) -> bool {
+    let Some(met) = asked(other, (seed, count, longest), random_run, came_of_run) else {
+        return false;
+    };
     println!("{count} runs from seed {seed}: the same");
     // nothing else stops a run, or refuses it
     let other = |answer: &&String| {
@@ -470,35 +484,11 @@ fn came_of_find(line: &[u8], answer: &str) -> Vec<String> {
     so.into_iter().filter(|(so, _)| *so).map(|(_, word)| word.into()).collect()
 }
 
-/// Which load has a frame, asked of images, many to a run of the other program; then those of the
-/// first that are not refused. An image has at most `longest` bytes.
+/// Which load has a frame, asked of images.
 pub fn finds(other: &Other, seed: u64, count: u64, longest: usize) -> bool {
-    let (mut met, mut done) = (Met::default(), vec![]);
-    for from in (seed..seed + count).step_by(500) {
-        let (seeds, lines): (Vec<u64>, Vec<_>) = (from..(from + 500).min(seed + count))
-            .map(|k| (k, random_find(&mut Random::new(k))))
-            .filter(|(_, line)| line.len() <= 2 * longest + 65)
-            .unzip();
-        if !steps_agree(other, &seeds, &lines) {
-            return false;
-        }
-        let said = trace::apply(&ended_lines(&lines), Fault::None);
-        met.count_status(&said);
-        let answers = String::from_utf8_lossy(&said.text);
-        for ((k, line), answer) in seeds.iter().zip(lines).zip(answers.lines()) {
-            for word in came_of_find(&line, answer) {
-                *met.0.entry(word).or_default() += 1;
-            }
-            if from == seed && !answer.starts_with("refused") {
-                done.push((*k, line));
-            }
-        }
-    }
-    let (seeds, lines): (Vec<u64>, Vec<_>) = done.into_iter().unzip();
-    if !lines.is_empty() && !steps_agree(other, &seeds, &lines) {
+    let Some(met) = asked(other, (seed, count, longest), random_find, came_of_find) else {
         return false;
-    }
-    met.count_status(&trace::apply(&ended_lines(&lines), Fault::None));
+    };
     println!("{count} frames asked for from seed {seed}: the same");
     met.all(&[1, 2, 10, 11], &[&FINDS[..], &["status 0", "status 1"]].concat())
 }

@@ -2,11 +2,11 @@
 
 use crate::site::*;
 
-fn put(bytes: &mut Vec<u8>, words: &[u32]) {
+pub fn put(bytes: &mut Vec<u8>, words: &[u32]) {
     words.iter().for_each(|w| bytes.extend(w.to_le_bytes()));
 }
 
-fn put_records(bytes: &mut Vec<u8>, records: &[Record]) {
+pub fn put_records(bytes: &mut Vec<u8>, records: &[Record]) {
     records.iter().for_each(|r| bytes.extend(r.to_le_bytes()));
 }
 
@@ -45,10 +45,15 @@ pub fn write(site: &Site) -> Vec<u8> {
     let mut bodies = vec![general];
     bodies.extend(site.numbers().map(|c| box_body(site.at(c))));
     bodies.push(mail_body(site));
+    with_contents(&bodies)
+}
+
+/// The bodies behind their table of contents.
+pub fn with_contents(bodies: &[Vec<u8>]) -> Vec<u8> {
     let mut image = vec![];
     put(&mut image, &[bodies.len() as u32]);
     let mut offset = 4 + 8 * bodies.len();
-    for body in &bodies {
+    for body in bodies {
         put(&mut image, &[offset as u32, body.len() as u32]);
         offset += body.len();
     }
@@ -57,22 +62,22 @@ pub fn write(site: &Site) -> Vec<u8> {
 }
 
 /// What is left of an image; None once it is too short.
-struct Rest<'a>(&'a [u8]);
+pub struct Rest<'a>(pub &'a [u8]);
 
 impl Rest<'_> {
-    fn word(&mut self) -> Option<u32> {
+    pub fn word(&mut self) -> Option<u32> {
         let (word, rest) = self.0.split_first_chunk()?;
         self.0 = rest;
         Some(u32::from_le_bytes(*word))
     }
 
-    fn record(&mut self) -> Option<Record> {
+    pub fn record(&mut self) -> Option<Record> {
         let (record, rest) = self.0.split_first_chunk()?;
         self.0 = rest;
         Some(u64::from_le_bytes(*record))
     }
 
-    fn records(&mut self, j: u32) -> Option<Vec<Record>> {
+    pub fn records(&mut self, j: u32) -> Option<Vec<Record>> {
         let count = self.word().filter(|count| *count <= j)?;
         (0..count).map(|_| self.record()).collect()
     }
@@ -112,15 +117,18 @@ impl Rest<'_> {
         })
     }
 
-    fn site(&mut self) -> Option<Site> {
+    /// The table of contents is passed over; the sizes behind it have to fit its bodies.
+    pub fn sizes(&mut self) -> Option<Sizes> {
         let bodies = self.word().filter(|bodies| (3..=7).contains(bodies))?;
         for _ in 0..2 * bodies {
             self.word()?;
         }
         let sizes = Sizes { n: self.word()?, j: self.word()?, l: self.word()? };
-        if sizes.n != bodies - 2 || !sizes.in_range() {
-            return None;
-        }
+        (sizes.n == bodies - 2 && sizes.in_range()).then_some(sizes)
+    }
+
+    fn site(&mut self) -> Option<Site> {
+        let sizes = self.sizes()?;
         let mut site = Site::fresh(sizes);
         site.epoch = self.word()?;
         site.present = self.word()?;

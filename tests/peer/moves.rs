@@ -1,10 +1,10 @@
 //! a site at rest, the step that puts one at rest, and the moves between the old image and the
 //! new one. The old paper's image has no first, no set of those that heard, and a count of replies.
 
-use crate::image;
+use crate::image::{self, put, with_contents, Rest};
 use crate::rules::Refusal;
 use crate::site::*;
-use crate::trace::{decimal, hex, lines, unhex, Said};
+use crate::trace::{answered, decimal, hex, unhex, Said};
 
 /// Every field as in a fresh site, but for what outlives a stop.
 fn rested(b: &Camera) -> Camera {
@@ -135,13 +135,9 @@ impl Old {
 
 // ---- the old image
 
-fn put(bytes: &mut Vec<u8>, words: &[u32]) {
-    words.iter().for_each(|w| bytes.extend(w.to_le_bytes()));
-}
-
-fn put_records(bytes: &mut Vec<u8>, records: &[Record]) {
+fn put_counted(bytes: &mut Vec<u8>, records: &[Record]) {
     put(bytes, &[records.len() as u32]);
-    records.iter().for_each(|r| bytes.extend(r.to_le_bytes()));
+    image::put_records(bytes, records);
 }
 
 fn write(old: &Old) -> Vec<u8> {
@@ -152,9 +148,9 @@ fn write(old: &Old) -> Vec<u8> {
     for b in &old.boxes {
         let mut body = vec![];
         put(&mut body, &b.numbers);
-        b.three.iter().for_each(|r| body.extend(r.to_le_bytes()));
+        image::put_records(&mut body, &b.three);
         put(&mut body, &b.peers);
-        put_records(&mut body, &b.held);
+        put_counted(&mut body, &b.held);
         bodies.push(body);
     }
     let mut mail = vec![];
@@ -162,42 +158,15 @@ fn write(old: &Old) -> Vec<u8> {
         put(&mut mail, &[link.len() as u32]);
         for m in link {
             put(&mut mail, &[m.kind, m.pn, m.last, m.unagreed_pn]);
-            put_records(&mut mail, &m.records);
+            put_counted(&mut mail, &m.records);
         }
     }
     bodies.push(mail);
-    let mut image = vec![];
-    put(&mut image, &[bodies.len() as u32]);
-    let mut offset = 4 + 8 * bodies.len();
-    for body in &bodies {
-        put(&mut image, &[offset as u32, body.len() as u32]);
-        offset += body.len();
-    }
-    bodies.iter().for_each(|body| image.extend(body));
-    image
+    with_contents(&bodies)
 }
 
-struct Left<'a>(&'a [u8]);
-
-impl Left<'_> {
-    fn word(&mut self) -> Option<u32> {
-        let (word, left) = self.0.split_first_chunk()?;
-        self.0 = left;
-        Some(u32::from_le_bytes(*word))
-    }
-
-    fn record(&mut self) -> Option<Record> {
-        let (record, left) = self.0.split_first_chunk()?;
-        self.0 = left;
-        Some(u64::from_le_bytes(*record))
-    }
-
-    fn records(&mut self) -> Option<Vec<Record>> {
-        let count = self.word().filter(|count| *count <= 4096)?;
-        (0..count).map(|_| self.record()).collect()
-    }
-
-    fn camera(&mut self, n: u32) -> Option<OldBox> {
+impl Rest<'_> {
+    fn old_box(&mut self, n: u32) -> Option<OldBox> {
         let mut numbers = [0; 11];
         for w in &mut numbers {
             *w = self.word()?;
@@ -206,35 +175,28 @@ impl Left<'_> {
             numbers,
             three: [self.record()?, self.record()?, self.record()?],
             peers: (0..n).map(|_| self.word()).collect::<Option<_>>()?,
-            held: self.records()?,
+            held: self.records(4096)?,
         })
     }
 
-    fn mail(&mut self) -> Option<OldMail> {
+    fn old_mail(&mut self) -> Option<OldMail> {
         Some(OldMail {
             kind: self.word()?,
             pn: self.word()?,
             last: self.word()?,
             unagreed_pn: self.word()?,
-            records: self.records()?,
+            records: self.records(4096)?,
         })
     }
 
     fn old(&mut self) -> Option<Old> {
-        let bodies = self.word().filter(|bodies| (3..=7).contains(bodies))?;
-        for _ in 0..2 * bodies {
-            self.word()?;
-        }
-        let sizes = Sizes { n: self.word()?, j: self.word()?, l: self.word()? };
-        if sizes.n != bodies - 2 || !sizes.in_range() {
-            return None;
-        }
+        let sizes = self.sizes()?;
         let (epoch, present) = (self.word()?, self.word()?);
-        let boxes = (0..sizes.n).map(|_| self.camera(sizes.n)).collect::<Option<_>>()?;
+        let boxes = (0..sizes.n).map(|_| self.old_box(sizes.n)).collect::<Option<_>>()?;
         let mut links = vec![];
         for _ in 0..sizes.n * (sizes.n - 1) {
             let count = self.word().filter(|count| *count <= sizes.l)?;
-            links.push((0..count).map(|_| self.mail()).collect::<Option<_>>()?);
+            links.push((0..count).map(|_| self.old_mail()).collect::<Option<_>>()?);
         }
         Some(Old { sizes, epoch, present, boxes, links })
     }
@@ -242,7 +204,7 @@ impl Left<'_> {
 
 /// The old site by form whose image this is; one site has one image.
 fn read(image: &[u8]) -> Option<Old> {
-    let old = Left(image).old()?;
+    let old = Rest(image).old()?;
     (old.by_form() && write(&old) == image).then_some(old)
 }
 
@@ -317,16 +279,5 @@ fn move_line(line: Option<&[u8]>, new: bool) -> Result<String, Refusal> {
 
 /// What `move` prints for this input: one line for each line.
 pub fn moves(input: &[u8], new: bool) -> Said {
-    let (mut out, mut refused) = (String::new(), false);
-    for line in lines(input) {
-        match move_line(line, new) {
-            Ok(text) => out += &text,
-            Err(refusal) => {
-                out += &format!("refused {refusal}");
-                refused = true;
-            }
-        }
-        out += "\n";
-    }
-    Said { text: out.into_bytes(), refused }
+    answered(input, |line| move_line(line, new))
 }

@@ -263,9 +263,17 @@ pub fn each(image: &[u8], steps: u32) -> Said {
 
 /// What `apply` prints for this input: one line for each line.
 pub fn apply(input: &[u8], fault: Fault) -> Said {
+    answered(input, |line| apply_line(line, fault))
+}
+
+/// A line for each line: its answer, or that it is refused.
+pub fn answered(
+    input: &[u8],
+    answer: impl Fn(Option<&[u8]>) -> Result<String, Refusal>,
+) -> Said {
     let (mut out, mut refused) = (String::new(), false);
     for line in lines(input) {
-        match apply_line(line, fault) {
+        match answer(line) {
             Ok(text) => out += &text,
             Err(refusal) => {
                 out += &format!("refused {refusal}");
