@@ -490,6 +490,21 @@ pub struct Site<'a> {
     links: &'a mut [u64],
 }
 
+/// Asks the library of the site's words, which it only reads; what else is given are numbers, numbers
+/// to be set, or a slice with its own length.
+macro_rules! ask {
+    ($symbol:ident, $site:ident, $($more:expr),*) => {
+        // SAFETY: the two slices have their own lengths and are only read, and nothing that is
+        // written overlaps them: it is borrowed by itself.
+        unsafe {
+            c::$symbol(
+                $site.site.as_ptr(), $site.site.len(),
+                $site.links.as_ptr(), $site.links.len(), $($more),*
+            )
+        }
+    };
+}
+
 /// Declares a call: its parts are the two slices and the numbers that follow.
 macro_rules! calls {
     ($($(#[$doc:meta])* $name:ident = $symbol:ident($($x:ident),*) -> $answer:ty, $by:ident;)*) => {
@@ -572,37 +587,14 @@ impl<'a> Site<'a> {
 
     /// Load k is agreed at box c with these frames, and kept. `Err(Untrue)` where it is not.
     pub fn holds(&self, c: u32, k: u32, left: u32, right: u32) -> Result<(), Refusal> {
-        // SAFETY: two slices, each with its own length, that are only read.
-        done(unsafe {
-            c::journal_holds(
-                self.site.as_ptr(),
-                self.site.len(),
-                self.links.as_ptr(),
-                self.links.len(),
-                c,
-                k,
-                left,
-                right,
-            )
-        })
+        done(ask!(journal_holds, self, c, k, left, right))
     }
 
     /// The smallest number that is agreed at box c, is kept there and has this left frame; `None`
     /// where none has. `Err(Frame)` for frame 0.
     pub fn find(&self, c: u32, left: u32) -> Result<Option<u32>, Refusal> {
         let mut number = 0;
-        // SAFETY: two slices, each with its own length, that are only read, and a number.
-        done(unsafe {
-            c::journal_find(
-                self.site.as_ptr(),
-                self.site.len(),
-                self.links.as_ptr(),
-                self.links.len(),
-                c,
-                left,
-                &mut number,
-            )
-        })?;
+        done(ask!(journal_find, self, c, left, &mut number))?;
         Ok((number != 0).then_some(number))
     }
 
@@ -610,17 +602,7 @@ impl<'a> Site<'a> {
     /// `Err(Condition)` where none is out.
     pub fn unheard(&self, c: u32) -> Result<u32, Refusal> {
         let mut set = 0;
-        // SAFETY: two slices, each with its own length, that are only read, and a number.
-        done(unsafe {
-            c::journal_unheard(
-                self.site.as_ptr(),
-                self.site.len(),
-                self.links.as_ptr(),
-                self.links.len(),
-                c,
-                &mut set,
-            )
-        })?;
+        done(ask!(journal_unheard, self, c, &mut set))?;
         Ok(set)
     }
 
@@ -628,19 +610,7 @@ impl<'a> Site<'a> {
     /// on: the site's own words, left × 2^32 + right each.
     pub fn agreed(&self, c: u32) -> Result<(u64, &[u64]), Refusal> {
         let (mut first, mut at, mut count) = (0, 0, 0);
-        // SAFETY: two slices, each with its own length, that are only read, and three numbers.
-        done(unsafe {
-            c::journal_agreed(
-                self.site.as_ptr(),
-                self.site.len(),
-                self.links.as_ptr(),
-                self.links.len(),
-                c,
-                &mut first,
-                &mut at,
-                &mut count,
-            )
-        })?;
+        done(ask!(journal_agreed, self, c, &mut first, &mut at, &mut count))?;
         Ok((first, &self.site[at..at + count]))
     }
 }
@@ -756,34 +726,14 @@ impl<'a> Site<'a> {
     /// How many bytes the image has.
     pub fn image_length(&self) -> Result<usize, Refusal> {
         let mut length = 0;
-        // SAFETY: two slices, each with its own length, and a number, that do not overlap.
-        done(unsafe {
-            c::journal_image_length(
-                self.site.as_ptr(),
-                self.site.len(),
-                self.links.as_ptr(),
-                self.links.len(),
-                &mut length,
-            )
-        })?;
+        done(ask!(journal_image_length, self, &mut length))?;
         Ok(length)
     }
 
     /// Writes the image to the front of `image`: how many bytes it has.
     pub fn write(&self, image: &mut [u8]) -> Result<usize, Refusal> {
         let mut length = 0;
-        // SAFETY: three slices, each with its own length, and a number, that do not overlap.
-        done(unsafe {
-            c::journal_write(
-                self.site.as_ptr(),
-                self.site.len(),
-                self.links.as_ptr(),
-                self.links.len(),
-                image.as_mut_ptr(),
-                image.len(),
-                &mut length,
-            )
-        })?;
+        done(ask!(journal_write, self, image.as_mut_ptr(), image.len(), &mut length))?;
         Ok(length)
     }
 
