@@ -11,7 +11,7 @@ use rules::ranges;
 
 // The first number that a box keeps, the word of `site` at which its record stands, and how many
 // records are agreed from it on.
-#[derive(Drop)]
+#[derive(Clone, Copy)]
 pub enum Agreed {
     Kept(u64, usize, usize),
     Refused(Refusal),

@@ -10,7 +10,7 @@ use lines::{Line, One};
 
 // The image's length and what is to be done with it; or that there is no room for the image; or
 // that the line asks nothing.
-#[derive(Drop)]
+#[derive(Clone, Copy)]
 pub enum Asked {
     Step(usize, Ask),
     Long,

@@ -13,7 +13,7 @@ use writer::Written;
 
 // What came of it: the answer, and how many bytes the image after it has; or what was lent is too
 // short.
-#[derive(Drop)]
+#[derive(Clone, Copy)]
 pub enum Came {
     Answered(Reply, usize),
     Short,

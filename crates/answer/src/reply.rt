@@ -9,14 +9,14 @@ use rules::answers;
 use rules::model::Answer;
 use wait::model::Run;
 
-#[derive(Drop)]
+#[derive(Clone, Copy)]
 pub enum Ask {
     Line(Line),
     Run(u32),
     Find(u32, u32),
 }
 
-#[derive(Drop)]
+#[derive(Clone, Copy)]
 pub enum Reply {
     Answer(Answer),
     Run(Run),

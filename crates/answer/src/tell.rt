@@ -18,7 +18,7 @@ use rules::model::{Answer, Cause, Refusal};
 use wait::model::Run;
 
 // How many bytes the answer has, or that what was lent is too short for it.
-#[derive(Drop)]
+#[derive(Clone, Copy)]
 pub enum Told {
     Length(usize),
     Short,

@@ -7,7 +7,7 @@ use rules::model::{Refusal, Unheard};
 use rules::{numbers, sets};
 
 // What is said; or the words that were lent are too few.
-#[derive(Drop)]
+#[derive(Clone, Copy)]
 pub enum Seen {
     Said(Unheard),
     Short,

@@ -42,7 +42,7 @@ const SITE: usize = memory::GENERAL + 5 * ROW;
 
 // What goes on in the larger set: the lines of the input, a call on an image, or a run on one, step
 // by step.
-#[derive(Drop)]
+#[derive(Clone, Copy)]
 pub enum Job {
     Lines(Run),
     Call(Ask),

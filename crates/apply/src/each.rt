@@ -64,7 +64,7 @@ fn tell_step(d: Call) -> bool {
 }
 
 // What came of one step, or that it could not be told.
-#[derive(Drop)]
+#[derive(Clone, Copy)]
 pub enum Step {
     Done,
     Over,

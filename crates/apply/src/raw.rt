@@ -27,7 +27,7 @@ use wording::{Place, fault};
 const TEXT: usize = 128;
 
 // What was read: the whole input, or as much as there is room for.
-#[derive(Drop)]
+#[derive(Clone, Copy)]
 pub enum Filled {
     Whole(usize),
     Full,
@@ -35,7 +35,7 @@ pub enum Filled {
 }
 
 // The status to report; or the call has to be done in larger buffers, with so much of the image.
-#[derive(Drop)]
+#[derive(Clone, Copy)]
 pub enum Done {
     Status(u8),
     Larger(usize),

@@ -14,7 +14,7 @@ use rules::model::Refusal;
 pub mod contents;
 
 // Where a body begins and its length, or why there is none.
-#[derive(Drop)]
+#[derive(Clone, Copy)]
 pub enum Named {
     Part(usize, usize),
     Refused(Refusal),
@@ -33,7 +33,7 @@ pub fn body(image: &[u8], k: u32) -> Named
 
 // A reader: the image, and its place, the number of the next body. Place 0: the image is not by
 // form.
-#[derive(Drop)]
+#[derive(Clone, Copy)]
 pub struct Bodies<'a> {
     pub image: &'a [u8],
     pub next: u32,

@@ -9,7 +9,7 @@ pub use groups::{get_groups, put_groups};
 pub use headed::{get_headed, put_headed};
 
 // What a walk over bytes finds: the place behind a thing by form, or that there is none.
-#[derive(Drop)]
+#[derive(Clone, Copy)]
 pub enum Walk {
     Next(usize),
     Bad,

@@ -5,7 +5,7 @@ ghost use Rattle.desk.specs.Desk.{why_number, took_number, pairing_number};
 use rules::model::Refusal;
 use rules::numbers;
 
-#[derive(Drop)]
+#[derive(Clone, Copy)]
 pub enum Side {
     Left,
     Right,
@@ -13,7 +13,7 @@ pub enum Side {
 
 // Why the desk refuses: too few words, a frame 0, a number that waits already, a full side, a frame
 // that does not wait, no right frame near enough; or the engine does.
-#[derive(Drop)]
+#[derive(Clone, Copy)]
 pub enum Why {
     Words,
     Frame,
@@ -25,27 +25,27 @@ pub enum Why {
 }
 
 // Giving in and withdrawing.
-#[derive(Drop)]
+#[derive(Clone, Copy)]
 pub enum Took {
     Done,
     Refused(Why),
 }
 
 // The right frame for a left one, before it is offered.
-#[derive(Drop)]
+#[derive(Clone, Copy)]
 pub enum Chosen {
     Right(u32),
     Refused(Why),
 }
 
-#[derive(Drop)]
+#[derive(Clone, Copy)]
 pub enum Offered {
     Accepted,
     Refused(Refusal),
 }
 
 // Pairing: with which right frame.
-#[derive(Drop)]
+#[derive(Clone, Copy)]
 pub enum Pairing {
     Paired(u32),
     Refused(Why),

@@ -21,7 +21,7 @@ pub const LINKS_WORDS: usize = BOXES * (BOXES - 1) * LINK_WORDS;
 pub const LONGEST_ANSWER: usize = 147;
 
 // No line yet, lines on a site, or the end of the run.
-#[derive(Drop)]
+#[derive(Clone, Copy)]
 pub enum Stage {
     First,
     Going,
@@ -30,7 +30,7 @@ pub enum Stage {
 
 // k is the next line's number where the run goes on. The first len bytes of line are those of the
 // line that has begun, or its first 65.
-#[derive(Drop)]
+#[derive(Clone, Copy)]
 pub struct Feed {
     pub stage: Stage,
     pub k: u64,
@@ -38,14 +38,14 @@ pub struct Feed {
     pub line: [u8; 65],
 }
 
-#[derive(Drop)]
+#[derive(Clone, Copy)]
 pub struct Held {
     pub line: [u8; 65],
     pub len: usize,
 }
 
 // The state after a line, and the place past its answer.
-#[derive(Drop)]
+#[derive(Clone, Copy)]
 pub struct Turn {
     pub feed: Feed,
     pub at: usize,
@@ -53,7 +53,7 @@ pub struct Turn {
 
 // The state after a piece, how many bytes of it were taken, and the place past the answers to its
 // lines. answer is Done, or why nothing was fed.
-#[derive(Drop)]
+#[derive(Clone, Copy)]
 pub struct Fed {
     pub answer: Answer,
     pub feed: Feed,
@@ -62,7 +62,7 @@ pub struct Fed {
 }
 
 // The place past what the end of the input says. answer is Done, or why nothing was said.
-#[derive(Drop)]
+#[derive(Clone, Copy)]
 pub struct End {
     pub answer: Answer,
     pub at: usize,

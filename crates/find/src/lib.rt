@@ -7,7 +7,7 @@ use rules::model::Refusal;
 use rules::ranges;
 
 // The number of the load, or that none has the frame.
-#[derive(Drop)]
+#[derive(Clone, Copy)]
 pub enum Found {
     Number(u32),
     None,

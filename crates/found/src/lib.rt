@@ -14,7 +14,7 @@ mod stands;
 // The field that set a body aside: of the general body; a box's field, or the record of a load
 // number; the count of the link from one box to another, a field of one of its mails, or a record
 // of it; or bytes that are left over.
-#[derive(Drop)]
+#[derive(Clone, Copy)]
 pub enum Spot {
     N,
     J,
@@ -30,7 +30,7 @@ pub enum Spot {
 }
 
 // What a body is.
-#[derive(Drop)]
+#[derive(Clone, Copy)]
 pub enum Found {
     Kept,
     Aside(Spot),
@@ -38,7 +38,7 @@ pub enum Found {
 
 // How far a walk over the mail has come: the place behind what was found by form, or the field at
 // which it has ended.
-#[derive(Drop)]
+#[derive(Clone, Copy)]
 pub enum Way {
     Next(usize),
     Stop(Spot),

@@ -17,7 +17,7 @@ ghost use Rattle.hex.specs.Hex.{
 
 // How many bytes a text stands for; or that they are more than the buffer has room for; or that the
 // text is the hex of none.
-#[derive(Drop)]
+#[derive(Clone, Copy)]
 pub enum Hexed {
     Length(usize),
     Long,

@@ -19,7 +19,7 @@ ghost use Rattle.lines.specs.Read.{
 use rules::model::Call;
 
 // The words that a line can start with.
-#[derive(Drop)]
+#[derive(Clone, Copy)]
 pub enum Word {
     Site,
     Elect,
@@ -44,7 +44,7 @@ pub enum Word {
 
 // What a line says, with its numbers as they stand: n, J and L of a site line, a call of the
 // engine, or c, k, left and right of a holds line.
-#[derive(Drop)]
+#[derive(Clone, Copy)]
 pub enum Line {
     Site(u32, u32, u32),
     Call(Call),
@@ -53,14 +53,14 @@ pub enum Line {
 }
 
 // The number after a word that no trace has.
-#[derive(Drop)]
+#[derive(Clone, Copy)]
 pub enum One {
     Number(u32),
     Unreadable,
 }
 
 // A decimal after one more byte.
-#[derive(Drop)]
+#[derive(Clone, Copy)]
 pub enum Grown {
     Good(u32),
     Bad,
@@ -68,7 +68,7 @@ pub enum Grown {
 
 // Numbers being read: the finished ones stand in the last count of a, b, c and d, and value is the
 // one that has begun.
-#[derive(Drop)]
+#[derive(Clone, Copy)]
 pub struct Numbers {
     pub bad: bool,
     pub begun: bool,

@@ -24,14 +24,14 @@ use lines::One;
 use longer::Which;
 
 // How many records a list has, where it can be read and there is room for them.
-#[derive(Drop)]
+#[derive(Clone, Copy)]
 pub enum Listed {
     Records(usize),
     Unreadable,
 }
 
 // What is answered to a line.
-#[derive(Drop)]
+#[derive(Clone, Copy)]
 pub enum Said {
     Is(Which),
     Unreadable,

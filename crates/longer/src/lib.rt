@@ -5,7 +5,7 @@ ghost use Rattle.longer.specs.Longer.{begins, longer_of, longer_number, Part, fr
 
 // Which of two lists is handed back: the first, the second, or neither, since a number that both
 // hold differs.
-#[derive(Drop)]
+#[derive(Clone, Copy)]
 pub enum Which {
     First,
     Second,

@@ -27,14 +27,14 @@ mod told;
 pub use told::{elected, fresh, holds};
 
 // The answer, and the set of boxes that the letter goes to; the set is empty where there is none.
-#[derive(Drop)]
+#[derive(Clone, Copy)]
 pub struct Sent {
     pub answer: Answer,
     pub to: u32,
 }
 
 // What comes before a turn: a refusal, or nothing.
-#[derive(Drop)]
+#[derive(Clone, Copy)]
 enum Judged {
     Passed,
     Refused(Refusal),

@@ -8,7 +8,7 @@ use streams::Got;
 const KEPT: i32 = 4;
 
 // So many bytes stand in the buffer; or the input has ended; or the reading failed.
-#[derive(Drop)]
+#[derive(Clone, Copy)]
 pub enum Piece {
     Filled(usize),
     End,

@@ -10,7 +10,7 @@ use lines::Line;
 
 // How many lines were looked at, and the number of the first that cannot be read, and of the first
 // that has no name; 0: there is none.
-#[derive(Drop)]
+#[derive(Clone, Copy)]
 pub struct Judged {
     pub lines: u64,
     pub unreadable: u64,

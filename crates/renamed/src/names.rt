@@ -9,14 +9,14 @@ ghost use Rattle.renamed.specs.Read.{found_by};
 use lines::Word;
 
 // Which names a trace has.
-#[derive(Drop)]
+#[derive(Clone, Copy)]
 pub enum Names {
     Ours,
     Published,
 }
 
 // The word of a line, how many bytes its name has here, and how many the other; 0: it has none.
-#[derive(Drop)]
+#[derive(Clone, Copy)]
 pub struct Found {
     pub word: Word,
     pub cut: usize,

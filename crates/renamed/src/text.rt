@@ -11,7 +11,7 @@ use crate::names;
 use crate::names::Names;
 
 // So many bytes were written; or a line cannot be read, or has no name, or the buffer is too short.
-#[derive(Drop)]
+#[derive(Clone, Copy)]
 pub enum Answer {
     Written(usize),
     Unreadable,

@@ -11,14 +11,14 @@ use libc::{STDIN_FILENO, STDOUT_FILENO};
 use streams::Got;
 
 // The state after a piece, and whether all that was said of it was written.
-#[derive(Drop)]
+#[derive(Clone, Copy)]
 struct Sent {
     feed: Feed,
     whole: bool,
 }
 
 // The state after a read, and the status where the run is over.
-#[derive(Drop)]
+#[derive(Clone, Copy)]
 struct Going {
     feed: Feed,
     more: bool,

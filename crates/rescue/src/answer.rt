@@ -6,7 +6,7 @@ use salvage::Told;
 use wording::Place;
 
 // How an image was answered.
-#[derive(Drop)]
+#[derive(Clone, Copy)]
 pub enum Answered {
     Block,
     Refused,

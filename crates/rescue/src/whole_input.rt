@@ -10,7 +10,7 @@ use libc::STDIN_FILENO;
 use streams::Got;
 
 // What was read: the whole input, or as much as there is room for.
-#[derive(Drop)]
+#[derive(Clone, Copy)]
 pub enum Filled {
     Whole(usize),
     Full,

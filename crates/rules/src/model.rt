@@ -1,7 +1,7 @@
 // The types of the paper: a box, a mail, what a box knows of its site, a call, and what they
 // answer.
 
-#[derive(Drop)]
+#[derive(Clone, Copy)]
 pub enum State {
     Recovering,
     Active,
@@ -10,7 +10,7 @@ pub enum State {
     Refresh,
 }
 
-#[derive(Drop)]
+#[derive(Clone, Copy)]
 pub enum Phase {
     Election,
     SendCollect,
@@ -21,7 +21,7 @@ pub enum Phase {
     LeaseDone,
 }
 
-#[derive(Drop)]
+#[derive(Clone, Copy)]
 pub enum Kind {
     Collect,
     Last,
@@ -33,7 +33,7 @@ pub enum Kind {
 }
 
 // Why a mail is discarded.
-#[derive(Drop)]
+#[derive(Clone, Copy)]
 pub enum Cause {
     Role,
     Phase,
@@ -43,7 +43,7 @@ pub enum Cause {
 
 // Why a call is refused, in the order of the paper's table: 13, 1, 2, 10, 3, 4, 5, 6, 7, 8, 12, 14,
 // 11. (9 went with Q-10.)
-#[derive(Drop)]
+#[derive(Clone, Copy)]
 pub enum Refusal {
     Sizes,
     Form,
@@ -60,7 +60,7 @@ pub enum Refusal {
     Line,
 }
 
-#[derive(Drop)]
+#[derive(Clone, Copy)]
 pub enum Answer {
     Done,
     Taken,
@@ -70,7 +70,7 @@ pub enum Answer {
 
 // What a box finds before anything is done: it goes on, or it stops for the first cause that
 // applies.
-#[derive(Drop)]
+#[derive(Clone, Copy)]
 pub enum Verdict {
     Go,
     Discard(Cause),
@@ -78,14 +78,14 @@ pub enum Verdict {
 }
 
 // The record at last+1 of a book or a mail, if it is held.
-#[derive(Drop)]
+#[derive(Clone, Copy)]
 pub enum Held {
     Record(u64),
     Nothing,
 }
 
 // The pn and the number of the record last taken by Begin.
-#[derive(Drop)]
+#[derive(Clone, Copy)]
 pub struct Stored {
     pub pn: u32,
     pub number: u32,
@@ -93,7 +93,7 @@ pub struct Stored {
 
 // What outlives a stop, but for the records: promised pn, last agreed number, first kept number,
 // stored pn and number.
-#[derive(Drop)]
+#[derive(Clone, Copy)]
 pub struct Kept {
     pub pn: u32,
     pub last: u32,
@@ -102,7 +102,7 @@ pub struct Kept {
 }
 
 // The best unagreed pn, number and record.
-#[derive(Drop)]
+#[derive(Clone, Copy)]
 pub struct Best {
     pub pn: u32,
     pub number: u32,
@@ -110,7 +110,7 @@ pub struct Best {
 }
 
 // A box, but for its records. A peer's last stands at its number less 1.
-#[derive(Drop)]
+#[derive(Clone, Copy)]
 pub struct BoxState {
     pub leads: bool,
     pub state: State,
@@ -126,7 +126,7 @@ pub struct BoxState {
 }
 
 // A mail, but for its records; `first` is 0 in the kinds that carry none.
-#[derive(Drop)]
+#[derive(Clone, Copy)]
 pub struct Mail {
     pub kind: Kind,
     pub pn: u32,
@@ -136,7 +136,7 @@ pub struct Mail {
 }
 
 // What a box knows of its site: the sizes, the epoch, the present set and its own number.
-#[derive(Drop)]
+#[derive(Clone, Copy)]
 pub struct Setting {
     pub n: u32,
     pub j: u32,
@@ -147,7 +147,7 @@ pub struct Setting {
 }
 
 // A step that a box takes by itself: those of a leader, and Trim.
-#[derive(Drop)]
+#[derive(Clone, Copy)]
 pub enum Act {
     Recover,
     Collect,
@@ -163,7 +163,7 @@ pub enum Act {
 // What becomes of a box's records. Drop(d): the first d leave. Put(d, a, r): of the first a all but
 // d stay, then r. Take(d, a, b, e): of the first a all but d stay, then the mail's but b of its
 // first e.
-#[derive(Drop)]
+#[derive(Clone, Copy)]
 pub enum Book {
     Keep,
     Drop(u32),
@@ -172,14 +172,14 @@ pub enum Book {
 }
 
 // What is sent: nothing, or one mail to each box of a set, which may be empty.
-#[derive(Drop)]
+#[derive(Clone, Copy)]
 pub enum Out {
     Nothing,
     To(u32, Mail),
 }
 
 // What comes of an event at a box.
-#[derive(Drop)]
+#[derive(Clone, Copy)]
 pub struct Turn {
     pub answer: Answer,
     pub next: BoxState,
@@ -188,14 +188,14 @@ pub struct Turn {
 }
 
 // The present boxes that have not answered a lease.
-#[derive(Drop)]
+#[derive(Clone, Copy)]
 pub enum Unheard {
     Boxes(u32),
     Refused(Refusal),
 }
 
 // The sixteen calls, with box numbers, frame numbers and load numbers.
-#[derive(Drop)]
+#[derive(Clone, Copy)]
 pub enum Call {
     Elect(u32),
     Recover(u32),

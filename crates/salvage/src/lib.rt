@@ -12,7 +12,7 @@ pub const MOST_TEXT: usize = 331776;
 
 // How long the block is, at the front of the buffer; that it is a refusal; or that the buffer is
 // too short.
-#[derive(Drop)]
+#[derive(Clone, Copy)]
 pub enum Told {
     Block(usize),
     Refused(usize),

@@ -22,7 +22,7 @@ pub const PAST: u64 = 1000000001;
 
 // Of the boxes seen so far: the record that the first of them keeps, how many keep one, and whether
 // two differ.
-#[derive(Drop)]
+#[derive(Clone, Copy)]
 pub struct Tally {
     pub value: u64,
     pub many: u64,

@@ -28,7 +28,7 @@ fn longest_image() -> [u8; LONGEST] {
 }
 
 // What goes on in the larger set: the lines of the input, or the one image.
-#[derive(Drop)]
+#[derive(Clone, Copy)]
 pub enum Job {
     Lines(Run),
     Image,

@@ -4,7 +4,7 @@ use crate::sheet;
 use crate::sheet::Sheet;
 
 // The text so far, and the place in the body.
-#[derive(Drop)]
+#[derive(Clone, Copy)]
 pub struct Way {
     pub sheet: Sheet,
     pub at: usize,

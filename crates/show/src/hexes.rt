@@ -6,7 +6,7 @@ use hex::Hexed;
 use wording::Place;
 
 // The text so far, and whether the line was refused.
-#[derive(Drop)]
+#[derive(Clone, Copy)]
 pub struct Told {
     pub sheet: Sheet,
     pub refused: bool,

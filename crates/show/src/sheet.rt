@@ -4,7 +4,7 @@ ghost use Rattle.std.specs.Prelude.{◌≤◌};
 use libc::STDOUT_FILENO;
 
 // How far the buffer is filled; and whether all that was sent was taken.
-#[derive(Drop)]
+#[derive(Clone, Copy)]
 pub struct Sheet {
     pub at: usize,
     pub sent: bool,

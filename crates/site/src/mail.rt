@@ -19,7 +19,7 @@ use rules::model::{Answer, Refusal, Setting, Turn};
 use rules::{answers, ranges};
 
 // What is done with the head of a link.
-#[derive(Drop)]
+#[derive(Clone, Copy)]
 pub enum OnLink {
     Deliver,
     Lose,

@@ -12,7 +12,7 @@ use rules::model::{Answer, Refusal, Setting, Verdict};
 use rules::{ranges, sets};
 
 // The calls that change nothing else.
-#[derive(Drop)]
+#[derive(Clone, Copy)]
 pub enum Presence {
     Stop,
     Return,

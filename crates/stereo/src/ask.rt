@@ -2,7 +2,7 @@
 use desk::answers::Side;
 use lines::One;
 
-#[derive(Drop)]
+#[derive(Clone, Copy)]
 pub enum Ask {
     Site,
     Give(Side, u32, u32),

@@ -3,7 +3,7 @@ use std::num::wrapping_add_u64;
 
 // Form and Short: refused with 1 or 12, everything as it was. Done: read, and written back as the
 // same bytes. Wrong: anything else.
-#[derive(Drop)]
+#[derive(Clone, Copy)]
 pub(crate) enum Outcome {
     Form,
     Short,
@@ -30,7 +30,7 @@ impl Outcome {
     }
 }
 
-#[derive(Drop)]
+#[derive(Clone, Copy)]
 pub(crate) struct Count {
     pub(crate) tried: u64,
     pub(crate) form: u64,

@@ -19,7 +19,7 @@ fn whole(image: &[u8], site: &mut [u64], links: &mut [u64], back: &mut [u8]) -> 
     c.add(trial::read_all(image, site, links, back))
 }
 
-#[derive(Drop)]
+#[derive(Clone, Copy)]
 enum Part {
     Whole,
     Buffers,

@@ -94,7 +94,7 @@ fn mail(
 }
 
 // What a line of the trace is to one box: a step of its own, a letter from another, or nothing.
-#[derive(Drop)]
+#[derive(Clone, Copy)]
 enum Event {
     Own(u32, Act),
     Mail(u32, u32),
@@ -162,7 +162,7 @@ pub(crate) fn line(
 }
 
 // A box is started, told of an election, or asked what it holds.
-#[derive(Drop)]
+#[derive(Clone, Copy)]
 pub(crate) enum Words {
     Start,
     Tell,

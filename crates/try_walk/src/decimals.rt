@@ -1,7 +1,7 @@
 // The decimals of a line.
 
 // The numbers read so far, the latest in d; value is the one that has begun.
-#[derive(Drop)]
+#[derive(Clone, Copy)]
 pub(crate) struct Numbers {
     pub(crate) a: u64,
     pub(crate) b: u64,

@@ -10,7 +10,7 @@ use std::num::wrapping_add_usize;
 // What a line is. Told: text, or so many words that are lent from now on. Put: a word is put. See:
 // a box or a link is shown. Own: an event at a box by itself. Alone: it is started, told of an
 // election, or asked. Trace: a line of the paper's trace.
-#[derive(Drop)]
+#[derive(Clone, Copy)]
 enum Kind {
     Told(Told),
     Put(Put),
@@ -21,7 +21,7 @@ enum Kind {
 }
 
 // Lend: words of the site and of the links. Trays: of the trays for a letter in and a letter out.
-#[derive(Drop)]
+#[derive(Clone, Copy)]
 enum Told {
     Heading,
     Lend,
@@ -29,7 +29,7 @@ enum Told {
 }
 
 // A word of the site, of a box's row, of a link's row, of the tray in; or a box's whole book.
-#[derive(Drop)]
+#[derive(Clone, Copy)]
 enum Put {
     Word,
     Row,
@@ -38,7 +38,7 @@ enum Put {
     Book,
 }
 
-#[derive(Drop)]
+#[derive(Clone, Copy)]
 enum See {
     Box,
     Mails,

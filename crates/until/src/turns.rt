@@ -9,7 +9,7 @@ use rules::model::{Answer, Refusal};
 use wait::model::{Next, Run};
 
 // What came of a turn: there was none, it was done or the mail discarded, or it was refused.
-#[derive(Drop)]
+#[derive(Clone, Copy)]
 pub enum Went {
     Nothing,
     Played,
@@ -18,7 +18,7 @@ pub enum Went {
 
 // What came of handing over: a mail was refused after so many steps, or so many are left and so
 // many used.
-#[derive(Drop)]
+#[derive(Clone, Copy)]
 pub enum Handed {
     Stopped(Refusal, u32),
     On(u32, u32),

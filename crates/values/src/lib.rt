@@ -11,7 +11,7 @@ ghost use Rattle.values.specs.declared.Fault.{Fault};
 use rules::model::Held;
 
 // The fields of a box and of a mail.
-#[derive(Drop)]
+#[derive(Clone, Copy)]
 pub enum Field {
     Flag,
     State,
@@ -42,7 +42,7 @@ pub const MOST_PN: u64 = 999999999;
 pub const MOST_NUMBER: u64 = 1000000000;
 
 // The first field that is not by form.
-#[derive(Drop)]
+#[derive(Clone, Copy)]
 pub enum Fault {
     None,
     At(Field),

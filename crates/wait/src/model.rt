@@ -3,7 +3,7 @@ use rules::model::{Call, Refusal};
 
 // It ran, and used so many steps; a refused step stopped it, after so many; or the call was
 // refused.
-#[derive(Drop)]
+#[derive(Clone, Copy)]
 pub enum Run {
     Ran(u32),
     Stopped(Refusal, u32),
@@ -11,7 +11,7 @@ pub enum Run {
 }
 
 // A mail to hand over or a step of the leader, if there is one.
-#[derive(Drop)]
+#[derive(Clone, Copy)]
 pub enum Next {
     Nothing,
     Turn(Call),

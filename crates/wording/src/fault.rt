@@ -5,7 +5,7 @@ ghost use Rattle.wording.specs.Fault.{within, last_of, overspaced, fault_of};
 
 use lines::starts;
 
-#[derive(Drop)]
+#[derive(Clone, Copy)]
 pub enum Fault {
     Unended,
     Empty,

@@ -13,7 +13,7 @@ use meaning::{put_fault, put_meaning};
 use put::{put, put_number, put_shown};
 
 // Where the refused text stands: in the line of this number, or alone.
-#[derive(Drop)]
+#[derive(Clone, Copy)]
 pub enum Place {
     Line(u64),
     Alone,

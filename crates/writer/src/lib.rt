@@ -14,7 +14,7 @@ mod boxes;
 mod entry;
 mod mail;
 
-#[derive(Drop)]
+#[derive(Clone, Copy)]
 pub enum Written {
     Length(usize),
     Refused(Refusal),
@@ -22,7 +22,7 @@ pub enum Written {
 
 // What has to be known of a site before its first byte is written: its sizes, and how long the
 // whole image is.
-#[derive(Drop)]
+#[derive(Clone, Copy)]
 pub struct Extent {
     pub setting: Setting,
     pub total: usize,
