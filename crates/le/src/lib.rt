@@ -1,4 +1,6 @@
 // Numbers as bytes, the least byte first, at any width up to 8.
+#![tactic(auto)]
+
 ghost use Rattle.std.specs.Prelude.{◌≡◌, ◌+◌, ◌≤◌, ◌<◌, length};
 ghost use Rattle.words.specs.Rows.{part, splice};
 ghost use Rattle.le.specs.Le.{le, of_le, Number};

@@ -1,4 +1,6 @@
 // Words that the caller lends: copies, rows of one width, and the places of a ring.
+#![tactic(auto)]
+
 ghost use Rattle.std.specs.Prelude.{◌≡◌, ◌+◌, ◌*◌, ◌^◌, ◌≤◌, ◌<◌, length, replicate};
 ghost use Rattle.words.specs.Rows.{part, splice};
 ghost use Rattle.words.specs.Ring.{slot, next, previous};
