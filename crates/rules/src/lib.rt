@@ -1,4 +1,6 @@
 // The types of the paper and the rules of one box, each proved to give exactly what specs/ says.
+#![tactic(auto)]
+
 pub mod answers;
 pub mod any;
 mod last;
