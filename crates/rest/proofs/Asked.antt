@@ -31,7 +31,7 @@ ruled-more f why false ks ls a b more = refl
 
 module _ (x : Site) (box : ℕ → Box) (link : Links) (fx : form x ≡ true)
     (fy : form (changed x box link) ≡ true) where
-  agreed-two : (c k l r : ℕ) → (x.box c).head.auto ≡ (box c).head.auto
+  agreed-two : (c k l r : ℕ) → (x.box c).head.kept ≡ (box c).head.kept
       → (x.box c).records ≡ (box c).records
       → agreed_as (x.box c) k l r ≡ agreed_as (box c) k l r
   unfolding agreed_as

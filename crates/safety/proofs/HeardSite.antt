@@ -151,13 +151,13 @@ module _ (c b : ℕ) (ne : b ≡ c → ⊥) (G : Type 0) where
     -- a Begin or an Accept of its last+1 is on its way only while it waits for it
     asked : even s.epoch ≡ true → (s.box c).head.leads ≡ true
         → (phase_of (s.box c) ≡ 4 → ⊥)
-        → All (λ y. Asks (s.box c).head.auto.last y → ⊥) (way s.link)
+        → All (λ y. Asks (s.box c).head.kept.last y → ⊥) (way s.link)
     asked e l idle = All-append (on b c ne) (on c b (λ h. ne (sym h)))
       where
         kinds : (k : Kind) (y : Letter) (a d : ℕ)
             → MailOk s.present i.agreed c (s.box c) a (store (s.box a)) d (store (s.box d))
             (read_as k y)
-            → part k ≡ 1 → y.head.last ≡ (s.box c).head.auto.last → phase_of (s.box c) ≡ 4
+            → part k ≡ 1 → y.head.last ≡ (s.box c).head.kept.last → phase_of (s.box c) ≡ 4
         kinds Kind.Collect y a d ok p q = absurd (omega (arith, p))
         kinds Kind.Last y a d ok p q = absurd (omega (arith, p))
         kinds Kind.Begin y a d ok p q = ok.now q
@@ -167,7 +167,7 @@ module _ (c b : ℕ) (ne : b ≡ c → ⊥) (G : Type 0) where
         kinds Kind.LeaseAck y a d ok p q = absurd (omega (arith, p))
 
         on : (a d : ℕ) → (a ≡ d → ⊥)
-            → All (λ y. Asks (s.box c).head.auto.last y → ⊥) (s.link a d)
+            → All (λ y. Asks (s.box c).head.kept.last y → ⊥) (s.link a d)
         on a d ad =
             All-map (λ y ok j. idle (kinds y.head.kind y a d (ok ad) j.0 j.1))
             ((L e l).mails a d)
