@@ -1,4 +1,6 @@
 // Bytes as text in hex: written in small letters at a place of a lent buffer, read in either case.
+#![tactic(auto)]
+
 ghost use Rattle.std.specs.Prelude.{◌∷◌, [], ◌≡◌, ◌+◌, ◌*◌, ◌≤◌, ◌<◌, length};
 ghost use Rattle.print.specs.Text.{Wrote};
 ghost use Rattle.hexed.specs.Hex.{
