@@ -5,9 +5,12 @@ use crate::{Got, receive, send};
 use std::env::Env;
 use std::fs::OpenOptions;
 use std::io;
-use std::io::{Input, Result, Write};
+use std::io::{Error, ErrorKind, Input, Result, Write};
 use std::rt::Files;
 use std::time::Clock;
+
+// EBADF, "Bad file descriptor".
+const CLOSED: i32 = 9;
 
 // What a program reads, writes and asks: standard input and output, standard error, its arguments,
 // files and the clock.
@@ -46,9 +49,30 @@ pub fn write_errors<S: Streams>(rt: &S, buf: &[u8]) {
     let _ = send(rt, &mut to, buf);
 }
 
+// A descriptor has a path in /proc as long as it is open: where there is none, the failure is told
+// as the system tells that of a descriptor that is not open.
+pub(crate) fn of_descriptor(error: Error) -> Error {
+    if error.kind() == ErrorKind::NotFound {
+        return Error::from_raw_os_error(CLOSED);
+    }
+    error
+}
+
 // The descriptor at this path, `/proc/self/fd/N`, to write behind what is there.
 pub fn open_to_write<S: Streams>(rt: &S, path: &str) -> Result<S::File> {
-    OpenOptions::new().append(true).open(rt, path)
+    OpenOptions::new()
+        .append(true)
+        .open(rt, path)
+        .map_err(of_descriptor)
+}
+
+// The descriptor at this path, from its front on, to write and to read again.
+pub fn open_to_keep<S: Streams>(rt: &S, path: &str) -> Result<S::File> {
+    OpenOptions::new()
+        .read(true)
+        .write(true)
+        .open(rt, path)
+        .map_err(of_descriptor)
 }
 
 // The digit of a status, to descriptor 3; nothing where there is no such digit.

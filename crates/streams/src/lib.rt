@@ -6,6 +6,7 @@
 // those these functions are proved safe and to end.
 #![tactic(auto)]
 
+mod again;
 mod fault;
 mod host;
 mod wait;
@@ -16,9 +17,11 @@ ghost use Rattle.std.specs.Io.KnownBytes.{Appends, WriteAppends};
 ghost use Rattle.io.specs.Counts.{IsPrefixLen};
 ghost use Rattle.streams.specs.Got.{GotFrom, GotConsumes, GotCount};
 
+pub use again::open_input_again;
 pub use fault::fail;
 pub use host::{
-    Streams, has_argument, open_to_write, read_input, report, write_errors, write_output,
+    Streams, has_argument, open_to_keep, open_to_write, read_input, report, write_errors,
+    write_output,
 };
 use std::io::{Error, ErrorKind, Read, Result, Write};
 use std::time::Clock;
