@@ -5,7 +5,7 @@ ghost use Rattle.answer.specs.Asks.{run_read, find_at, find_of, find_read, ask_o
 ghost use Rattle.answer.specs.Replies.{served_line, served};
 
 use crate::reply::Ask;
-use hex::Hexed;
+use hexed::Hexed;
 use lines::{Line, One};
 
 // The image's length and what is to be done with it; or that there is no room for the image; or
@@ -118,5 +118,5 @@ pub(crate) fn ask(line: &[u8], image: &mut [u8]) -> Asked
     if !serves(l) {
         return Asked::Unreadable;
     }
-    found(hex::read_hex(&line[0..e], image), l)
+    found(hexed::read_hex(&line[0..e], image), l)
 }

@@ -1,6 +1,6 @@
 // One image: its block goes to standard output, and why it is refused to standard error.
 use crate::run::{Run, Stage, least};
-use hex::Hexed;
+use hexed::Hexed;
 use libc::STDOUT_FILENO;
 use salvage::Told;
 use wording::Place;
@@ -43,7 +43,7 @@ pub(crate) fn tell(image: &[u8], out: &mut [u8]) -> Answered {
 
 // .. of one in hex.
 pub(crate) fn tell_hex(text: &[u8], image: &mut [u8], out: &mut [u8]) -> Answered {
-    match hex::read_hex(text, image) {
+    match hexed::read_hex(text, image) {
         Hexed::Length(n) => {
             let k = least(n, image.len());
             tell(&image[0..k], out)

@@ -2,7 +2,7 @@
 use crate::sheet;
 use crate::sheet::Sheet;
 use bodies::{Named, contents};
-use hex::Hexed;
+use hexed::Hexed;
 use wording::Place;
 
 // The text so far, and whether the line was refused.
@@ -55,7 +55,7 @@ fn tell(out: &mut [u8], s: Sheet, image: &[u8], line: &[u8], k: u64) -> Told {
 
 // Line k, without the newline that ended it; image is work room.
 pub(crate) fn answer(out: &mut [u8], s: Sheet, image: &mut [u8], line: &[u8], k: u64) -> Told {
-    match hex::read_hex(line, image) {
+    match hexed::read_hex(line, image) {
         Hexed::Length(n) => {
             let n = sheet::least(n, image.len());
             tell(out, s, &image[0..n], line, k)

@@ -62,7 +62,7 @@ fn put_hex(out: &mut [u8], s: Sheet, src: &[u8]) -> Sheet {
     if out.len() - a <= 2 * src.len() {
         return Sheet { at: a, sent: false };
     }
-    let at = hex::put_hex(out, a, src);
+    let at = hexed::put_hex(out, a, src);
     Sheet {
         at: at,
         sent: t.sent,

@@ -5,7 +5,7 @@ ghost use Rattle.show.specs.Filled.{FilledIn};
 
 use crate::buffers::Job;
 use crate::{buffers, sheet, shown};
-use hex::Hexed;
+use hexed::Hexed;
 use libc::STDIN_FILENO;
 use lines::One;
 use streams::Got;
@@ -54,7 +54,7 @@ fn line_of(text: &[u8]) -> &[u8] {
 }
 
 fn show_hex(out: &mut [u8], input: &[u8], image: &mut [u8], text: &[u8]) -> u8 {
-    match hex::read_hex(line_of(input), image) {
+    match hexed::read_hex(line_of(input), image) {
         Hexed::Length(n) => {
             let n = sheet::least(n, image.len());
             show(out, &image[0..n], text)

@@ -4,7 +4,7 @@ use crate::run::{Run, Stage, least};
 use crate::{ask, refused};
 use desk::answers;
 use desk::answers::Pairing;
-use hex::Hexed;
+use hexed::Hexed;
 use libc::STDOUT_FILENO;
 use rules::numbers;
 use writer::Written;
@@ -79,7 +79,7 @@ fn lend(line: &[u8], h: Hexed, run: Run, image: &[u8], site: &mut [u64], links: 
 fn lend_line(line: &[u8], run: Run, image: &mut [u8], site: &mut [u64], links: &mut [u64]) -> Run {
     let n = line.len();
     let at = least(ask::IMAGE, n);
-    let h = hex::read_hex(&line[at..n], image);
+    let h = hexed::read_hex(&line[at..n], image);
     lend(line, h, run, image, site, links)
 }
 
@@ -96,7 +96,7 @@ fn send_paired(left: u32, right: u32) -> bool {
 fn send_piece(piece: &[u8]) -> bool {
     let n = least(piece.len(), PIECE);
     let mut out = [0u8; 2 * PIECE + 1];
-    let p = hex::put_hex(&mut out, 0, &piece[0..n]);
+    let p = hexed::put_hex(&mut out, 0, &piece[0..n]);
     streams::send(STDOUT_FILENO, &out[0..p])
 }
 
