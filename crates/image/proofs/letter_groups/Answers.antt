@@ -1,23 +1,15 @@
 -- `image::letter_groups` meets its contract.
-use borrow.Author.Rules.{rules}
 use mathlib.Core.Path.{refl, ap}
 use Prim.Native.Nat.{ℕ}
 use mathlib.Core.List.{[], ◌∷◌}
 use Rattle.letter.specs.Place.{kind_at, first_at, unagreed_at}
 use Rattle.cells.specs.Groups.{group, groups_of}
-use Rattle.image.proofs.letter_groups.Statement.{statement}
-use Rattle.image.proofs.letter_groups.Tie as tie
+use Rattle.image.proofs.letter_groups.Goals as goal
 
-returns : tie.Need-returns
+pub returns : goal.returns
 unfolding groups_of
 returns c = (
   ap (λ (m : ℕ). group 4 kind_at 3 ∷ group 4 first_at m ∷ group 4 unagreed_at 2 ∷ [])
-      c.first-words.ensures.0,
+      c.first_words-first.ensures.value,
   refl,
 )
-
-pub letter-groups-spec : {M : Type 1} → statement M
-letter-groups-spec =
-    tie.close
-    (tie.spec
-    (λ c κs. search rules) returns)
