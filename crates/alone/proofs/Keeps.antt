@@ -24,7 +24,7 @@ use Rattle.safety.specs.Demand3.{In, Agreed, record_at, start, Offered, AfterRun
 use Rattle.safety.specs.Demand3.{now as offered, before as earlier}
 use Rattle.safety.proofs.Demand.{demand_3}
 use Rattle.safety.proofs.Example.{replayed, replayed-further, ranges, computed}
-use Rattle.alone.specs.Yard.{Yard, asked, Happens, Lived, did, told, waits}
+use Rattle.alone.specs.Yard.{Yard, asked, Happens, Lived, began, did, told, waits}
 use Rattle.alone.specs.Alone.{Stands, Taken, now, before, before-told, before-waits, AllFit}
 use Rattle.alone.specs.Alone.{Demand3Alone}
 use Rattle.alone.proofs.Lives.{lives}
@@ -148,6 +148,7 @@ module _ (n J L : ℕ) (sizes : sizes_form n J L ≡ true) where
       subst (λ (a : Answer). (g : Happens y (Call.Offer c left right) a z)
       → Taken (Call.Offer c left right ∷ calls) z (did l g) (length calls) (record_of left right))
       (sym e ∙ same_answer n J L sizes l h) (λ g. now l c left right g) h
+  offers began o = elim o [ ]
 
   module _ {calls : List Call} {y z : Yard} (further : List Call) (l : Lived n J L calls y)
       (m : Lived n J L (further ++ calls) z) where

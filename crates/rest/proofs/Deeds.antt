@@ -224,6 +224,7 @@ module _ (n J L : ℕ) (sizes : sizes_form n J L ≡ true) where
   offers (calls d ∷ ds) h (earlier e o) = before (calls d) (offers ds h.1 o)
   offers (calls d ∷ ds) h (offered cs c l r e) =
       now ds c l r (sym (answers ds h.1 (Call.Offer c l r) (λ odd. refl)) ∙ e)
+  offers [] h o = elim o [ ]
 
   over-time : (ds further : List Deed) → AllFit (calls_of (further ++ ds)) → (b d k : ℕ)
       → In b n → In d n

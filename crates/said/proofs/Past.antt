@@ -109,6 +109,7 @@ past (stepped d f p) (before q) = let t = past p q in record {
   since = λ u. before (t.since u);
   until = λ u e. t.until (not-latest (at_in q) u e) e;
 }
+past (begun e) q = elim q [ ]
 
 -- ---- a call's place among all that was said, by its place among the calls
 
@@ -196,3 +197,4 @@ offered-at (stepped {h = h} {s = s} d f p) (model.now cs c l r e) =
     offer-said f.0 f.1
     (ap (λ (t : Site). (step t (Call.Offer c l r)).answer) (run_is p) ∙ e)
     (place-latest d (step s d).answer h (length (calls h)) (omega arith))
+offered-at (begun e) o = elim o [ ]

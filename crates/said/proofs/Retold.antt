@@ -30,6 +30,7 @@ module _ {B : Type 0} (f : Answer → B) where
   was-held (called d a ∷ h) (before q) = let t = was-held h q in (t.0, t.1, before t.2)
   was-held (held b k l r a ∷ h) (before q) = let t = was-held h q in (t.0, t.1, before t.2)
   was-held (held b k l r a ∷ h) latest = (a, refl, at_place (sym (same_length h)) latest)
+  was-held [] q = elim q [ ]
 
   -- a call as it is retold
   is-called : (h : Talk) {i : ℕ} {d : Call} {a : Answer} → At h i (called d a)
@@ -37,6 +38,7 @@ module _ {B : Type 0} (f : Answer → B) where
   is-called (called d a ∷ h) latest = at_place (same_length h) latest
   is-called (called e c ∷ h) (before q) = before (is-called h q)
   is-called (held b k l r c ∷ h) (before q) = before (is-called h q)
+  is-called [] q = elim q [ ]
 
   module _ {h : Talk} {now : ℕ → ℕ → ℕ → ℕ → Answer} {first : ℕ → ℕ}
       (held-done : (i b k l r : ℕ) (a : Answer) → At h i (held b k l r a) → f a ≡ f Answer.Done

@@ -2,9 +2,10 @@
 use Prim.Native.Nat.{ℕ, ◌≤◌, ◌<◌, max}
 use mathlib.Core.Path.{◌≡◌, refl, sym, ap, ◌∙◌, subst}
 use mathlib.Core.Bool.{true}
-use mathlib.Core.List.{List, [], ◌++◌}
+use mathlib.Core.List.{List, [], ◌∷◌, ◌++◌, tail}
 use native.Mathlib.Omega.{arith}
-use Rattle.rules.specs.Sizes.{left_of, right_of}
+use lib.ListN.{length}
+use Rattle.rules.specs.Sizes.{record_of, left_of, right_of}
 use Rattle.rules.specs.Box.{Box}
 use Rattle.rules.specs.Site.{Site, is_box}
 use Rattle.rules.specs.Step.{run, holds}
@@ -23,12 +24,24 @@ use Rattle.said.proofs.Past.{at_in, Past, past, in-range, by_form, run_is, run_m
 use Rattle.said.proofs.Example.{a-load}
 use Rattle.said.proofs.Past.{place_of, place-once, offered_in, offered-at}
 
--- one Offer at one place
+-- the record that the latest call offers
+latest_record : List Call → ℕ
+latest_record (Call.Offer c l r ∷ cs) = record_of l r
+latest_record _ = 0
+
+-- one Offer at one place: of two lists and two places that are equal
+same_offer : {s : Site} {cs ds : List Call} {i j q r : ℕ} → cs ≡ ds → i ≡ j
+    → Offered s cs i q → Offered s ds j r → q ≡ r
+unfolding latest_record
+same_offer t at (model.now cs c l r e) (model.now ds d m s f) = ap latest_record t
+same_offer t at (model.now cs c l r e) (model.before d o) =
+    absurd (omega (arith, at, ap length (ap tail t), offered_in o))
+same_offer t at (model.before d o) (model.now cs c l r e) =
+    absurd (omega (arith, at, ap length (ap tail t), offered_in o))
+same_offer t at (model.before c o) (model.before d p) = same_offer (ap tail t) at o p
+
 one-offer : {s : Site} {cs : List Call} {j q r : ℕ} → Offered s cs j q → Offered s cs j r → q ≡ r
-one-offer (model.now cs c l r e) (model.now ds d m s f) = refl
-one-offer (model.now cs c l r e) (model.before d o) = absurd (omega (arith, offered_in o))
-one-offer (model.before d o) (model.now cs c l r e) = absurd (omega (arith, offered_in o))
-one-offer (model.before c o) (model.before d p) = one-offer o p
+one-offer o p = same_offer refl refl o p
 
 -- an Offer of the box's record is one of the line's frames
 frames : {h : Talk} {i k l r : ℕ} {x : Box} → Told x k l r
