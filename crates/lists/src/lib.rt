@@ -1,5 +1,7 @@
 // A line of two load lists, and its answer: two lists parted by a space, each `-` or its records
 // `LEFT:RIGHT` parted by commas.
+#![tactic(auto)]
+
 ghost use Rattle.std.specs.Prelude.{◌≡◌, ◌+◌, ◌≤◌, length, take};
 ghost use Rattle.bytes.specs.Bytes.{index_of};
 ghost use Rattle.print.specs.Text.{Wrote};
