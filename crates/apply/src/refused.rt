@@ -6,7 +6,7 @@ use wording::{Place, fault};
 // What stands behind the line's first space, or the whole line where it has none.
 fn call_of(line: &[u8]) -> &[u8] {
     let n = line.len();
-    let e = bytes::scan::find(line, 0, n, 32);
+    let e = scan::find(line, 0, n, 32);
     if e == n {
         return line;
     }
@@ -43,7 +43,7 @@ fn say_parted(call: &[u8], k: u64) {
 // Nothing plain is wrong with the line as a whole.
 fn say_parts(line: &[u8], k: u64) {
     let n = line.len();
-    let e = bytes::scan::find(line, 0, n, 32);
+    let e = scan::find(line, 0, n, 32);
     if e == n {
         say_why(line, k, b"no space parts an image from a call");
         return;

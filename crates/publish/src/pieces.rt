@@ -96,7 +96,7 @@ pub(crate) fn from_line(s: &[u8], k: u64) -> &[u8] {
     let mut i = 0;
     let mut left = k;
     while left > 0 {
-        let e = bytes::scan::find(s, i, n, 10);
+        let e = scan::find(s, i, n, 10);
         if n <= e {
             return &s[n..n];
         }
@@ -109,6 +109,6 @@ pub(crate) fn from_line(s: &[u8], k: u64) -> &[u8] {
 // The first line, without its newline.
 pub(crate) fn first_line(s: &[u8]) -> &[u8] {
     let n = s.len();
-    let e = bytes::scan::find(s, 0, n, 10);
+    let e = scan::find(s, 0, n, 10);
     &s[0..e]
 }

@@ -52,7 +52,7 @@ fn gather(text: &mut [u8], f: Feed, piece: &[u8], n: u64) -> usize
     ensures { IsPrefixLen result text.new }
 {
     let a = past_lines(piece, n);
-    let e = bytes::scan::find(piece, a, piece.len(), 10);
+    let e = scan::find(piece, a, piece.len(), 10);
     if n == 0 {
         let p = held(text, f);
         return put(text, p, &piece[a..e]);

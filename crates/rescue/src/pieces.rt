@@ -36,7 +36,7 @@ fn take_piece(piece: &[u8], run: Run, line: &mut [u8], image: &mut [u8], out: &m
     let mut r = run;
     let mut i = 0;
     while i < n {
-        let e = bytes::scan::find(piece, i, n, 10);
+        let e = scan::find(piece, i, n, 10);
         r = take_part(&piece[i..e], e < n, r, line, image, out);
         if !r.goes_on() {
             return r;

@@ -35,7 +35,7 @@ fn fill(buf: &mut [u8], n: usize) -> Filled
 // The text without the newline that may end it.
 fn line_of(text: &[u8]) -> &[u8] {
     let n = text.len();
-    let e = bytes::scan::find(text, 0, n, 10);
+    let e = scan::find(text, 0, n, 10);
     if e + 1 == n {
         return &text[0..e];
     }

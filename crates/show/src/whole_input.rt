@@ -46,7 +46,7 @@ fn show(out: &mut [u8], image: &[u8], text: &[u8]) -> u8 {
 // The text without the newline that may end it.
 fn line_of(text: &[u8]) -> &[u8] {
     let n = text.len();
-    let e = bytes::scan::find(text, 0, n, 10);
+    let e = scan::find(text, 0, n, 10);
     if e + 1 == n {
         return &text[0..e];
     }

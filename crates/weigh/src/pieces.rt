@@ -59,7 +59,7 @@ fn take_piece(
     let mut r = run;
     let mut i = 0;
     while i < n {
-        let e = bytes::scan::find(piece, i, n, 10);
+        let e = scan::find(piece, i, n, 10);
         r = take_part(&piece[i..e], e < n, r, line, a, b, out);
         if !r.goes_on() {
             return r;
