@@ -15,9 +15,9 @@ mod shown;
 mod whole_input;
 
 // `report`: the status goes to descriptor 3.
-fn main() {
-    let status = buffers::serve();
-    if streams::has_argument(1, b"report") {
-        streams::report(status);
+fn main(rt: HostRuntime) {
+    let status = buffers::serve(&rt);
+    if streams::has_argument(&rt, 1, b"report") {
+        streams::report(&rt, status);
     }
 }
