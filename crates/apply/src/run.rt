@@ -2,7 +2,7 @@
 ghost use Rattle.std.specs.Prelude.{◌≤◌};
 
 // The reading goes on; or has to in larger buffers; or the input has ended; or it failed.
-#[derive(Drop)]
+#[derive(Clone, Copy)]
 pub enum Stage {
     On,
     Larger,
@@ -12,7 +12,7 @@ pub enum Stage {
 
 // held: the bytes of a line that has begun. lines: how many were answered. refused: one of them
 // was. at, end: the part of the piece where larger buffers have to go on.
-#[derive(Drop)]
+#[derive(Clone, Copy)]
 pub struct Run {
     pub stage: Stage,
     pub held: usize,

@@ -2,7 +2,7 @@
 use renamed::judge::Judged;
 
 // The reading goes on; or the input has ended; or the trace is refused; or it failed.
-#[derive(Drop)]
+#[derive(Clone, Copy)]
 pub enum Stage {
     On,
     Ended,
@@ -12,7 +12,7 @@ pub enum Stage {
 
 // held: the bytes of a line that has begun. lines, unreadable, unnamed: what was seen of the trace.
 // shown: the bytes of the first line that has no name.
-#[derive(Drop)]
+#[derive(Clone, Copy)]
 pub struct Run {
     pub stage: Stage,
     pub held: usize,

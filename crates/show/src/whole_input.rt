@@ -14,7 +14,7 @@ use streams::{Got, Streams};
 const TEXT: usize = 65536;
 
 // What was read: the whole input, or as much as there is room for.
-#[derive(Drop)]
+#[derive(Clone, Copy)]
 pub enum Filled {
     Whole(usize),
     Full,

@@ -2,7 +2,7 @@
 ghost use Rattle.std.specs.Prelude.{◌≤◌};
 
 // The reading goes on; or the input has ended; or it failed.
-#[derive(Drop)]
+#[derive(Clone, Copy)]
 pub enum Stage {
     On,
     Ended,
@@ -11,7 +11,7 @@ pub enum Stage {
 
 // held: the bytes of a line that has begun. lines: how many were answered. refused: one of them
 // was.
-#[derive(Drop)]
+#[derive(Clone, Copy)]
 pub struct Run {
     pub stage: Stage,
     pub held: usize,
