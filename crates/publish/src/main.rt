@@ -3,6 +3,8 @@
 // A refusal is over the whole trace, so it is read twice: looked at, and then written under the
 // other names. What each piece becomes is what `renamed` says of it. No contract can
 // say what is read or written: the functions here are proved safe and to end.
+#![tactic(auto)]
+
 mod look;
 mod pieces;
 mod run;

@@ -2,6 +2,8 @@
 //
 // With the argument `report` it tells at its end, on descriptor 3, how it went: 0 read to its end,
 // 1 refused, 3 input or output failed. With `report image` the site's image goes to descriptor 4.
+#![tactic(auto)]
+
 use feed::state::{LINKS_WORDS, SITE_WORDS};
 use std::io::Result;
 use streams::Streams;

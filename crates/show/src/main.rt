@@ -3,6 +3,8 @@
 //
 // What is handed out is what `bodies` hands out, whose statements say what that is. No contract can
 // say what is read or written: the functions here are proved safe and to end.
+#![tactic(auto)]
+
 mod boxes;
 mod buffers;
 mod fields;

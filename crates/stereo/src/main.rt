@@ -1,4 +1,6 @@
 // Lines at the pairing desk from standard input, answered one by one: the command `desk`.
+#![tactic(auto)]
+
 mod answer;
 mod ask;
 mod buffers;

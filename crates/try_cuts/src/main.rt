@@ -1,5 +1,7 @@
 // Feeds the trace on standard input to the library in pieces of 1, 2, 63, 64 and 65 bytes and
 // whole, into buffers of different lengths, and writes what it says: the same each time.
+#![tactic(auto)]
+
 ghost use Rattle.std.specs.Prelude.{◌≡◌, min};
 
 use feed::state::{LINKS_WORDS, LONGEST_ANSWER, SITE_WORDS};

@@ -1,6 +1,7 @@
 // Damages each image on standard input in every small way, reads what is left and writes it back.
 // What is refused must leave every word and byte as it was; what is read must be written back as
 // exactly the bytes that were given.
+#![tactic(auto)]
 
 mod count;
 mod cuts;

@@ -1,5 +1,7 @@
 // Plays the script on standard input on the engine. Each line is written as it stands, with what
 // came of it.
+#![tactic(auto)]
+
 use spots::{GENERAL, LINK_HEAD, NEXTS, PLACE_HEAD, ROW_HEAD};
 
 mod alone;

@@ -1,4 +1,6 @@
 // Prints the longer of two load lists, for each line of standard input: the command `longer`.
+#![tactic(auto)]
+
 mod answer;
 mod pieces;
 mod run;
