@@ -9,6 +9,8 @@
 mod again;
 mod fault;
 mod host;
+#[cfg(test)]
+mod tests;
 mod wait;
 
 ghost use Rattle.std.specs.Prelude.{OnOk, length};
