@@ -167,7 +167,11 @@ fn read_twice<S: Streams>(
             read_from(rt, back, kept, &mut file, piece, shown, out)
         }
         Err(error) => {
-            say::input_failed(rt, back, error);
+            if kept {
+                say::keeping_failed(rt, back, error);
+            } else {
+                say::input_failed(rt, back, error);
+            }
             3
         }
     }
