@@ -1,5 +1,7 @@
 // The agreed records that a box keeps, handed out of a site's words without copying: the weigh
 // house's lists (Q-14).
+#![tactic(auto)]
+
 ghost use Rattle.std.specs.Prelude.{◌≡◌, true};
 ghost use Rattle.row.specs.Row.{box_of};
 ghost use Rattle.row.specs.Lent.{RowByForm};

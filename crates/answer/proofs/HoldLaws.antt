@@ -13,8 +13,8 @@ use lib.Seq.{paste, paste-suc}
 use borrow.Author.Tests.{ltb-true, ltb-false, lt-ltb}
 use Rattle.rules.specs.Pick.{pick_true}
 use Rattle.laws.proofs.Logic.{both-no, or_left, or_right}
-use Rattle.hex.specs.Hex.{hex_of}
-use Rattle.hex.proofs.HexLaws.{digits-length, smalls-length}
+use Rattle.hexed.specs.Hex.{hex_of}
+use Rattle.hexed.proofs.HexLaws.{digits-length, smalls-length}
 use Rattle.lines.specs.Read.{read_line}
 use Rattle.lines.specs.declared.Line.{Line}
 use Rattle.lines.specs.declared.One.{One}

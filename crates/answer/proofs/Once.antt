@@ -7,14 +7,14 @@ use mathlib.Core.List.{List}
 use native.Mathlib.Omega.{arith}
 use lib.ListN.{take, drop, length}
 use lib.Seq.{take-append_seam}
-use Rattle.bytes.specs.Bytes.{index_of}
+use Rattle.scan.specs.Bytes.{index_of}
 use Rattle.rules.specs.Site.{Site}
 use Rattle.rules.specs.Unheard.{unheard}
 use Rattle.rules.specs.declared.model.Answer.{Answer}
 use Rattle.rules.specs.declared.model.Refusal.{Refusal}
 use Rattle.laws.proofs.Logic.{both-no}
-use Rattle.hex.specs.Hex.{smalls}
-use Rattle.hex.proofs.Once.{hex-same}
+use Rattle.hexed.specs.Hex.{smalls}
+use Rattle.hexed.proofs.Once.{hex-same}
 use Rattle.image.specs.Image.{image_of}
 use Rattle.image.proofs.OneImage.{one-site}
 use Rattle.reader.proofs.Once.{same-room}

@@ -13,7 +13,7 @@ use Rattle.rules.specs.Answers.{is_refusal}
 use Rattle.print.specs.Decimal.{decimal}
 use Rattle.print.specs.Text.{Wrote}
 use Rattle.print.proofs.WriteLaws.{spelled, at_most}
-use Rattle.hex.specs.Hex.{hex_of}
+use Rattle.hexed.specs.Hex.{hex_of}
 use Rattle.wait.specs.declared.model.Run.{Run}
 use Rattle.find.specs.declared.Found.{Found}
 use Rattle.answer.specs.declared.call.Came.{Came}

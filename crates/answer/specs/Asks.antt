@@ -1,10 +1,10 @@
 -- What a line asks: an image in hex, one space, and a call or a holds line of a trace, or `run` and
 -- a number of steps (Q-9), or `find`, a box and a left frame (Q-5).
 use Rattle.std.specs.Prelude.{ℕ, ◌+◌, ◌≤◌, ◌<◌, ◌≡◌, true, ◌||◌, List, ◌∷◌, ◌++◌, ltb, length, take, drop}
-use Rattle.bytes.specs.Bytes.{index_of}
+use Rattle.scan.specs.Bytes.{index_of}
 use Rattle.rules.specs.Pick.{pick}
-use Rattle.hex.specs.Hex.{hex_of, smalls, Bytes}
-use Rattle.hex.specs.declared.Hexed.{Hexed}
+use Rattle.hexed.specs.Hex.{hex_of, smalls, Bytes}
+use Rattle.hexed.specs.declared.Hexed.{Hexed}
 use Rattle.print.specs.Bytes.{bytes}
 use Rattle.lines.specs.Read.{read_line, read_one}
 use Rattle.lines.specs.declared.Line.{Line}

@@ -7,7 +7,7 @@ use Rattle.rules.specs.declared.model.Cause.{Cause}
 use Rattle.rules.specs.Answers.{is_refusal}
 use Rattle.print.specs.Bytes.{bytes}
 use Rattle.print.specs.Decimal.{decimal}
-use Rattle.hex.specs.Hex.{hex_of}
+use Rattle.hexed.specs.Hex.{hex_of}
 use Rattle.wait.specs.declared.model.Run.{Run}
 use Rattle.find.specs.declared.Found.{Found}
 use Rattle.answer.specs.declared.reply.Reply.{Reply}

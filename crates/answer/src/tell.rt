@@ -76,7 +76,7 @@ fn put_image(out: &mut [u8], a: Answer, image: &[u8]) -> usize
         out.old out.new 0 result (answer_text a image.now) }
 {
     let p = put_word(out, 0, a);
-    let p = hex::put_hex(out, p, image);
+    let p = hexed::put_hex(out, p, image);
     print::put_byte(out, p, 10)
 }
 
@@ -100,7 +100,7 @@ fn put_used(out: &mut [u8], at: usize, used: u32, image: &[u8]) -> usize
 {
     let p = print::put_decimal(out, at, used as u64);
     let p = print::put_byte(out, p, 32);
-    let p = hex::put_hex(out, p, image);
+    let p = hexed::put_hex(out, p, image);
     print::put_byte(out, p, 10)
 }
 

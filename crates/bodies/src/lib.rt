@@ -4,6 +4,8 @@
 // An enum cannot hold a reference, so an answer names a body by its place and length, and `part`
 // hands the part itself out. The functions over the struct `Bodies` are walks by hand: each only
 // takes the struct apart and calls one that is on a slice and a number.
+#![tactic(auto)]
+
 ghost use Rattle.std.specs.Prelude.{◌≡◌};
 ghost use Rattle.bodies.specs.Contents.{named as named_in, asked as asked_in, after as after_in};
 ghost use Rattle.bodies.specs.Handed.{Handed, BodyIs, Opened};

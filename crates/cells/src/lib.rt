@@ -1,4 +1,6 @@
 // Numbers one after another as bytes, each of the same width.
+#![tactic(auto)]
+
 ghost use Rattle.std.specs.Prelude.{◌+◌, ◌*◌, ◌≤◌, length};
 ghost use Rattle.cells.specs.Cells.{cells, Wrote, Room, Read, WordsAre};
 

@@ -1,6 +1,8 @@
 // The image of a site, as a definition (specs/) and its theorems (proofs/). In code only the groups
 // in which the words of a box and of a mail stand there: their bytes, the first word, how many; and
 // how many bytes the table, the general body and the heads have.
+#![tactic(auto)]
+
 ghost use Rattle.std.specs.Prelude.{◌≡◌, ◌+◌, ◌≤◌, length};
 ghost use Rattle.rules.specs.Sizes.{most_boxes};
 ghost use Rattle.cells.specs.Groups.{groups_of};

@@ -1,6 +1,8 @@
 // The index of a box's agreed records by the left frame (Q-5), in lent words: 64 heads, 64 tails,
 // and beside each record the next number of its slot. Numbers ascend, so a new one is entered
 // behind a tail, and the one that leaves is a head.
+#![tactic(auto)]
+
 ghost use Rattle.std.specs.Prelude.{◌≡◌, ◌+◌, ◌≤◌, ◌<◌, ◌^◌, length};
 ghost use Rattle.index.specs.Index.{slots, nexts_at, slot_of};
 ghost use Rattle.index.specs.Lent.{

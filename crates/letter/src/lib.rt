@@ -1,4 +1,6 @@
 // One mail in lent words: the words of its fields, and then room for its records.
+#![tactic(auto)]
+
 ghost use Rattle.std.specs.Prelude.{◌≡◌, get_or};
 ghost use Rattle.rules.specs.Box.{next_of};
 ghost use Rattle.letter.specs.Place.{kind_of, mail_at, letter_at};

@@ -1,5 +1,7 @@
 // One link in lent words: its first place, its count of mails, and l places round a ring, each with
 // room for a mail of j records. Some functions take j and l for their contract alone.
+#![tactic(auto)]
+
 ghost use Rattle.std.specs.Prelude.{◌≡◌, ◌+◌, ◌≤◌, ◌<◌, length};
 ghost use mathlib.Core.List.{[], ◌∷◌, ◌++◌, tail};
 ghost use Rattle.rules.specs.Box.{letter_of};

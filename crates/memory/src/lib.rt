@@ -1,4 +1,6 @@
 // The site of boxes and links in two slices of words that the caller lends.
+#![tactic(auto)]
+
 mod boxes;
 mod form;
 mod general;

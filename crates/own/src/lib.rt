@@ -1,4 +1,6 @@
 // A box by itself: its own row, one event or mail in; the row, one letter and its receivers out.
+#![tactic(auto)]
+
 ghost use Rattle.std.specs.Prelude.{◌≡◌, true, ◌&&◌, cond, ◌+◌, ◌≤◌, ltb, length, take};
 ghost use Rattle.rules.specs.Sizes.{sizes_form};
 ghost use Rattle.rules.specs.Answers.{is_accepted};

@@ -1,5 +1,7 @@
 // Writes numbers and words at a place of a lent buffer; each function gives the place past its
 // text.
+#![tactic(auto)]
+
 ghost use Rattle.std.specs.Prelude.{◌∷◌, [], ◌+◌, ◌≤◌, ◌<◌, length, take};
 ghost use Rattle.print.specs.Decimal.{decimal};
 ghost use Rattle.print.specs.Text.{Wrote, refused_text};

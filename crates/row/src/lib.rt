@@ -1,4 +1,6 @@
 // One box in lent words: the words of its fields, room for its records, and their index.
+#![tactic(auto)]
+
 ghost use Rattle.std.specs.Prelude.{◌≡◌, ◌++◌, ◌+◌, ◌-◌, ◌≤◌, ◌<◌, length, get_or, drop, set};
 ghost use Rattle.words.specs.Rows.{part, splice};
 ghost use Rattle.rules.specs.Sizes.{most_boxes, most_loads};

@@ -1,5 +1,7 @@
 // The engine: a fresh site, any call, a holds line, who has not answered a lease, on two slices of
 // words that the caller lends.
+#![tactic(auto)]
+
 mod elections;
 mod entries;
 mod mail;

@@ -1,7 +1,6 @@
 -- What a read gave, for a caller who has taken it apart.
-use Prim.Native.Nat.{ℕ}
-use mathlib.Core.Path.{◌≡◌, subst}
-use mathlib.Core.List.{List}
+use Rattle.std.specs.Prelude.{ℕ, ◌≡◌, List}
+use Rattle.std.proofs.Common.{subst}
 use Rattle.io.specs.Counts.{IsPrefixLen}
 use Rattle.streams.specs.Got.{GotFrom}
 use Rattle.streams.specs.declared.Got.{Got}

@@ -1,70 +1,95 @@
 // Reading, writing and reporting that do not fail silently, for the programs.
 //
-// A call that a signal interrupts is made again, and so is one on a descriptor that does not wait,
-// a moment later. Any other failure is the caller's to tell, with errno as the call left it. No
-// contract can say what is read or written: these functions are proved safe and to end.
+// A call that a signal interrupts is made again, and so is one on a stream that does not wait, a
+// moment later. Any other failure is the caller's to tell, by the error that the call left. The
+// contracts say what a stream over memory gives and takes; none can say what the system's do: at
+// those these functions are proved safe and to end.
+#![tactic(auto)]
+
+mod again;
+mod fault;
+mod host;
+#[cfg(test)]
+mod tests;
 mod wait;
 
-ghost use Rattle.std.specs.Prelude.{◌≤◌, length};
-ghost use Rattle.streams.specs.Got.{GotFrom};
+ghost use Rattle.std.specs.Prelude.{OnOk, length};
+ghost use Rattle.std.specs.Io.{WritesAtMost};
+ghost use Rattle.std.specs.Io.KnownBytes.{Appends, WriteAppends};
+ghost use Rattle.io.specs.Counts.{IsPrefixLen};
+ghost use Rattle.streams.specs.Got.{GotFrom, GotConsumes, GotCount};
+
+pub use again::open_input_again;
+pub use fault::fail;
+pub use host::{
+    Streams, has_argument, open_to_keep, open_to_write, read_input, report, write_errors,
+    write_output,
+};
+use std::io::{Error, ErrorKind, Read, Result, Write};
+use std::time::Clock;
 
 // What one read gave: bytes at the front of the buffer, or none.
 #[derive(Clone, Copy)]
 pub enum Got {
     Bytes(usize),
     End,
-    Failed,
+    Failed(Error),
 }
 
 // Whether a call that failed is to be made again, after a moment's wait where it asks for one.
-fn goes_on() -> bool {
-    let error = os::errno();
-    if error == libc::EINTR {
+fn goes_on<C: Clock>(clock: &C, error: &Error) -> bool {
+    let kind = error.kind();
+    if kind == ErrorKind::Interrupted {
         return true;
     }
-    if error == libc::EAGAIN {
-        wait::moment();
+    if kind == ErrorKind::WouldBlock {
+        wait::moment(clock);
         return true;
     }
     false
 }
 
-// One write of buf, and how many of its bytes were taken: 0 where it failed or took nothing.
-fn put(fd: i32, buf: &[u8]) -> usize
-    ensures { result ≤ length buf.now }
+// One write of buf, and how many of its bytes were taken.
+fn put<C: Clock, W: Write>(clock: &C, to: &mut W, buf: &[u8]) -> Result<usize>
+    ensures bound { WritesAtMost result buf.now }
+    ensures bytes { WriteAppends (W.contents to.old) (W.contents to.new) result buf.now }
 {
     let mut tries = u64::MAX;
     while tries > 0 {
-        let n = libc::write(fd, buf);
-        if n >= 0 {
-            return io::count(n, buf);
-        }
-        if !goes_on() {
-            return 0;
+        match to.write(buf) {
+            Ok(n) => return Ok(n),
+            Err(error) => {
+                if !goes_on(clock, &error) {
+                    return Err(error);
+                }
+            }
         }
         tries -= 1;
     }
-    0
+    Err(Error::from(ErrorKind::TimedOut))
 }
 
-// Writes all of buf. False: a write failed or took nothing.
-pub fn send(fd: i32, buf: &[u8]) -> bool {
+// Writes all of buf, or tells why not: a write failed or took nothing.
+pub fn send<C: Clock, W: Write>(clock: &C, to: &mut W, buf: &[u8]) -> Result<()>
+    ensures { OnOk result (Appends (W.contents to.old) (W.contents to.new) buf.now) }
+{
     let mut i = 0;
     while i < buf.len() {
-        let n = put(fd, &buf[i..]);
+        let n = put(clock, to, &buf[i..])?;
         if n == 0 {
-            return false;
+            return Err(Error::from(ErrorKind::WriteZero));
         }
         i += n;
     }
-    true
+    Ok(())
 }
 
-// What a read of this answer gave.
-fn told(n: isize, buf: &[u8]) -> Got
-    ensures { GotFrom result buf.now }
+// What a read of so many bytes gave.
+fn told(k: usize, buf: &[u8]) -> Got
+    requires { IsPrefixLen k buf.now }
+    ensures gives { GotFrom result buf.now }
+    ensures count { GotCount result k }
 {
-    let k = io::count(n, buf);
     if k == 0 {
         return Got::End;
     }
@@ -72,36 +97,21 @@ fn told(n: isize, buf: &[u8]) -> Got
 }
 
 // One read into the front of buf.
-pub fn receive(fd: i32, buf: &mut [u8]) -> Got
-    ensures { GotFrom result buf.new }
+pub fn receive<C: Clock, R: Read>(clock: &C, from: &mut R, buf: &mut [u8]) -> Got
+    ensures gives { GotFrom result buf.new }
+    ensures bytes { GotConsumes (R.remaining from.old) (R.remaining from.new) result buf.new }
 {
     let mut tries = u64::MAX;
     while tries > 0 {
-        let n = libc::read(fd, buf);
-        if n >= 0 {
-            return told(n, buf);
-        }
-        if !goes_on() {
-            return Got::Failed;
+        match from.read(buf) {
+            Ok(k) => return told(k, buf),
+            Err(error) => {
+                if !goes_on(clock, &error) {
+                    return Got::Failed(error);
+                }
+            }
         }
         tries -= 1;
     }
-    Got::Failed
-}
-
-// The digit of a status, to descriptor 3; nothing where there is no such digit.
-pub fn report(status: u8) {
-    if status < 10 {
-        send(3, &[48 + status]);
-    }
-}
-
-// The program's argument i is this word, of at most 32 bytes.
-pub fn has_argument(i: usize, word: &[u8]) -> bool {
-    let mut text = [0u8; 32];
-    let n = os::arg(i, &mut text);
-    if os::errno() != 0 {
-        return false;
-    }
-    check::same(&text[..n], word)
+    Got::Failed(Error::from(ErrorKind::TimedOut))
 }

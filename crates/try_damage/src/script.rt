@@ -2,7 +2,7 @@
 ghost use Rattle.std.specs.Prelude.{◌≤◌, length};
 
 use crate::{parts, show};
-use hex::Hexed;
+use hexed::Hexed;
 
 // There is one more byte than the image has.
 fn damage(image: &mut [u8], n: usize, site: &mut [u64], links: &mut [u64], back: &mut [u8]) {
@@ -26,7 +26,7 @@ fn line(s: &[u8], image: &mut [u8], site: &mut [u64], links: &mut [u64], back: &
         show::text(b"\n");
         return;
     }
-    match hex::read_hex(s, image) {
+    match hexed::read_hex(s, image) {
         Hexed::Length(n) => damage(image, n, site, links, back),
         Hexed::Long => show::text(b"too long\n"),
         Hexed::Bad => show::text(b"unreadable\n"),

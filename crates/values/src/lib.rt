@@ -1,4 +1,6 @@
 // Words as the numbers, records, counts and sets that they stand for: what rows and letters share.
+#![tactic(auto)]
+
 ghost use Rattle.std.specs.Prelude.{◌≡◌, cond, ◌≤◌, ◌<◌, ◌^◌};
 ghost use Rattle.rules.specs.Every.{each};
 ghost use Rattle.rules.specs.Sizes.{proper, record_form};

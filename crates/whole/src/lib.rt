@@ -1,4 +1,6 @@
 // By form on the bytes of a whole image: its boxes, its bodies and its table of contents.
+#![tactic(auto)]
+
 ghost use Rattle.whole.specs.Whole.{ImageIs};
 
 use cells::Walk;

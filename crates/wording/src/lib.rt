@@ -2,15 +2,17 @@
 //
 // No contract can say what is written: the functions that write are proved safe and to end. A
 // message has room for every name of a program and some 500 bytes of last words.
+#![tactic(auto)]
+
 pub mod fault;
 mod meaning;
 pub mod number;
 pub mod put;
 
 use fault::Fault;
-use libc::STDERR_FILENO;
 use meaning::{put_fault, put_meaning};
 use put::{put, put_number, put_shown};
+use streams::Streams;
 
 // Where the refused text stands: in the line of this number, or alone.
 #[derive(Clone, Copy)]
@@ -52,44 +54,59 @@ fn put_last(out: &mut [u8], at: usize, last: &[u8]) -> usize {
 }
 
 // Ends the message and sends it.
-fn send_message(out: &mut [u8], at: usize) {
+fn send_message<S: Streams>(rt: &S, out: &mut [u8], at: usize) {
     let p = put(out, at, b"\n");
-    streams::send(STDERR_FILENO, &out[..p]);
+    streams::write_errors(rt, &out[..p]);
 }
 
-fn send_refusal(out: &mut [u8], name: &[u8], place: Place, text: &[u8], code: u64, last: &[u8]) {
+fn send_refusal<S: Streams>(
+    rt: &S,
+    out: &mut [u8],
+    name: &[u8],
+    place: Place,
+    text: &[u8],
+    code: u64,
+    last: &[u8],
+) {
     let p = put_refusal(out, name, place, text, code);
     let p = put_last(out, p, last);
-    send_message(out, p);
+    send_message(rt, out, p);
 }
 
 // The text is refused by this number; last are the caller's own words on it, or none.
-pub fn refuse(name: &[u8], place: Place, text: &[u8], code: u64, last: &[u8]) {
+pub fn refuse<S: Streams>(rt: &S, name: &[u8], place: Place, text: &[u8], code: u64, last: &[u8]) {
     let mut out = [0u8; 1024];
-    send_refusal(&mut out, name, place, text, code, last);
+    send_refusal(rt, &mut out, name, place, text, code, last);
 }
 
-fn send_unreadable(out: &mut [u8], name: &[u8], place: Place, text: &[u8], why: Fault) {
+fn send_unreadable<S: Streams>(
+    rt: &S,
+    out: &mut [u8],
+    name: &[u8],
+    place: Place,
+    text: &[u8],
+    why: Fault,
+) {
     let p = put_refusal(out, name, place, text, 11);
     let p = put_fault(out, p, why);
-    send_message(out, p);
+    send_message(rt, out, p);
 }
 
 // The text cannot be read, for this fault.
-pub fn refuse_unreadable(name: &[u8], place: Place, text: &[u8], why: Fault) {
+pub fn refuse_unreadable<S: Streams>(rt: &S, name: &[u8], place: Place, text: &[u8], why: Fault) {
     let mut out = [0u8; 1024];
-    send_unreadable(&mut out, name, place, text, why);
+    send_unreadable(rt, &mut out, name, place, text, why);
 }
 
-fn send_words(out: &mut [u8], name: &[u8], words: &[u8]) {
+fn send_words<S: Streams>(rt: &S, out: &mut [u8], name: &[u8], words: &[u8]) {
     let p = put(out, 0, name);
     let p = put(out, p, b": ");
     let p = put(out, p, words);
-    send_message(out, p);
+    send_message(rt, out, p);
 }
 
 // Says these words.
-pub fn say(name: &[u8], words: &[u8]) {
+pub fn say<S: Streams>(rt: &S, name: &[u8], words: &[u8]) {
     let mut out = [0u8; 1024];
-    send_words(&mut out, name, words);
+    send_words(rt, &mut out, name, words);
 }

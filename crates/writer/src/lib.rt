@@ -1,5 +1,7 @@
 // The writer of the site image: its length first, then every byte straight into the lent buffer,
 // each body's entry in the table of contents when the body is written.
+#![tactic(auto)]
+
 ghost use Rattle.std.specs.Prelude.{◌≡◌, true, [], ◌∷◌, ◌+◌, ◌≤◌, length};
 ghost use Rattle.words.specs.Rows.{part};
 ghost use Rattle.memory.specs.Memory.{memory_form, general_words};

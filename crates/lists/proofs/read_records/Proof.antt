@@ -3,7 +3,7 @@ use Prim.Native.Nat.{◌-◌}
 use mathlib.Core.Path.{◌≡◌, ap, ◌∙◌}
 use native.Mathlib.Omega.{arith}
 use lib.ListN.{length, drop, length-set}
-use Rattle.bytes.specs.Bytes.{index_of}
+use Rattle.scan.specs.Bytes.{index_of}
 use Rattle.lists.specs.Lists.{up_to, record_in}
 use borrow.Author.Rules.{rules}
 use Rattle.lists.proofs.ListLaws.{Going, going_start, going-bad, going-full, going_end}

@@ -1,0 +1,241 @@
+-- `bodies::Bodies::next` meets its contract: a walk of its MIR, by hand. The struct is taken apart,
+-- and `contents::after` is called on the slice and the number. All that the proof knows of it is
+-- that it meets its contract.
+-- The struct is Copy: what it owns is had twice, one copy is kept whole for the exit, and of the
+-- other what image owns goes to the callee, beside the lifetime's token, which comes back.
+-- Assumes nothing.
+use mathlib.Core.Path.{◌≡◌, refl, ap}
+use Prim.Native.Nat.{ℕ, ◌<◌, ◌^◌}
+use mathlib.Core.List.{[], ◌∷◌}
+use lib.Dec.{T as Holds}
+use lib.ListN.{length}
+use seplogic.Ra.Ura.{Ura}
+use seplogic.Ra.TreeShare.{full_share}
+use mir.Syntax.{named, w32, ty_int}
+use mir.Val.{Val, WT, has_ty, vint}
+use base.Logic.{SProp, ent, sep, emp, via, fst∗, snd∗, ex_e, id⊢}
+use base.Fml.{Lft, Share, Fml, ftrue, fat, flft}
+use prog.Memory.{Memory}
+use prog.Routine.{Routine}
+use prog.Wp.{Calls, Loops, WpFn, Tables}
+use types.Logic.{Logic, sem}
+use contract.Lifetimes.{Lfts}
+use contract.Monad.{Fun, fact}
+use contract.Running.{tables, tables_of}
+use types.Kit.{‵, raw, ◌⊛◌, given, ⋆, some, later, ◌$◌, ◌∵◌, !, qed, by, move, drop, use1}
+use types.Kit.{use2, split, join, learn, rewrite, pick, fsplit, fjoin, suffices, frame, await, done}
+use types.Part.{agg, whole, sub, look_in}
+use types.Run.{look, init, forget, stop, fld, from, load, of_opd, and_then, no_more, assigns, land}
+use types.Run.{returns, enter, alloc1, alloc0, params1, pass1, pass0, free1, free0}
+use sound.WpLaws.{FmC, fm_of, WpFn-mono}
+use denote.RattleType.{RattleType, owns}
+use denote.Laws.{Is, shows}
+use denote.Plain.{uint_Makes, uint_Lawful}
+use denote.Builtin.{u8, u32}
+use denote.Signature.{named_lft}
+use denote.Slice.{slice_val, ShrSlice}
+use denote.Steps.{only, owned, peeks, heard, nothing}
+use denote.Struct.Declared.{Declared}
+use denote.Struct.Laws as LL
+use denote.Struct.Rest.{all_own, field_own, rest, own_open, own_out, own_put}
+use denote.Struct.Values.{Values}
+use denote.Triple.Call.{calls_at}
+use denote.Triple.Entry.{Vals, on_entry}
+use denote.Triple.Spec.{Meets, triple_of}
+use denote.Triple.Table.{entered, cited}
+use denote.Triple.Walked.{says, Stays, stay_none, walk_of, Goes-none, Walks, ends_at, walked}
+use denote.Triple.Walked.{walk_Meets}
+use denote.Exit.{yes}
+use denote.Triple.Clauses.{ensured, lasts}
+use Rattle.bodies.specs.Contents.{after as after_in}
+use Rattle.bodies.specs.declared.Bodies.{Bodies}
+use Rattle.bodies.specs.contracts.Bodies as T
+use Rattle.bodies.proofs.Bodies.TheLaws as T'
+use Rattle.bodies.specs.contracts.contents.after as step
+use Rattle.bodies.proofs.contents.after.Symbol as step-def
+use Rattle.bodies.proofs.contents.after.Symbol.{name as #contents·after}
+use Rattle.bodies.proofs.contents.after.Met as step_thm
+use Rattle.bodies.specs.contracts.Bodies.next.Key.{name as #bodies·next}
+use Rattle.bodies.specs.contracts.Bodies.next as next
+use Rattle.bodies.proofs.Bodies.next.Statement as stated
+use Rattle.bodies.proofs.Bodies.next.Code as code
+use Rattle.bodies.proofs.Bodies.next.Goals as goal
+
+-- the struct's type, over the signature's lifetimes
+abbrev B : Lfts 1 → RattleType
+B κs = T.the_row (named_lft 1 0 tt κs)
+
+abbrev stayed : Stays (next.ended).signature.params (next.ended).kept
+stayed = (stay_none B yes, tt)
+
+module _ {M : Type 1} {𝓤 : Ura M} (𝓛 : Logic 𝓤) (mem : Memory
+    → SProp 𝓤) (run : Routine → Fun 𝓤) where
+  -- the contract that the proof cites
+  abbrev After : Contract 𝓤
+  After = triple_of 𝓛 step.signature (step.spec 𝓛 mem run)
+
+module _ {M : Type 1} {𝓤 : Ura M} (𝓛 : Logic 𝓤) (mem : Memory
+    → SProp 𝓤) (run : Routine → Fun 𝓤) (κ : Lft) (q : Share) (d : Bodies) where
+  open 𝓛 use {H}
+
+  abbrev mach : Val
+  mach = T'.lowered d
+
+  -- the machine value of image
+  abbrev v : Val
+  v = slice_val d.image.ref_ptr (length d.image.now)
+
+  abbrev found : ℕ
+  found = after_in d.image.now d.next
+
+  -- the reader at the place r
+  abbrev made : ℕ → Bodies
+  made r = record { image = d.image; next = r }
+
+  abbrev Post : Val → SProp 𝓤
+  Post = (walk_of 𝓛 next.ended stayed (next.clauses 𝓛 mem run)).post
+      (((κ, tt), (q, tt), tt, (d, tt), (mach ∷ [], tt)), tt)
+
+  abbrev Own : Fml
+  Own = (B (κ, tt)).own d (mach ∷ [])
+
+  -- the struct's type and laws, and d's fields' values
+  abbrev D : Declared
+  D = T.the_type (named_lft 1 0 tt (κ, tt))
+
+  abbrev L : LL.Laws D
+  L = T'.the_laws (named_lft 1 0 tt (κ, tt))
+
+  abbrev vd : Values D.parts
+  vd = (d.image, (d.next, tt))
+
+  -- what the callee is passed
+  abbrev passed : Vals step.signature (κ, tt)
+  passed = (v ∷ [], (vint w32 d.next ∷ [], tt))
+
+  abbrev to : (After 𝓛 mem run).Ghost
+  to = (((κ, tt), (q, tt), tt, (d.image, (d.next, tt)), passed), tt)
+
+  wanted : ent 𝓤 (on_entry 𝓛 step.signature (κ, tt) (q, tt) (d.image, (d.next, tt)) passed)
+      ((After 𝓛 mem run).pre to)
+  wanted = qed 𝓛 ((‵ (flft κ q) ⊛ ‵ ftrue) ∷ ‵
+      (owns (ShrSlice (named 0) κ u8 ∷ u32 ∷ []) (d.image, (d.next, tt)) passed) ∷ []) ∵
+      join ! $ frame ! $ done !
+
+  -- what the struct owns gives what the callee asks, and is kept
+  apart : d.next < 2 ^ 32 → ent 𝓤
+      (on_entry 𝓛 next.signature (κ, tt) (q, tt) (d, tt) (mach ∷ [], tt))
+      (sep 𝓤 ((After 𝓛 mem run).pre to) (sem 𝓛 Own))
+  apart fits =
+      qed 𝓛 ((‵ (flft κ q) ⊛ ‵ ftrue) ∷ ‵ (owns (B (κ, tt) ∷ []) (d, tt) (mach ∷ [], tt)) ∷ []) ∵
+      move ! (1 ∷ []) $ fsplit ! $ move ! (1 ∷ []) $ drop ! $
+      use1 𝓛 (‵ Own ⊛ ‵ Own) ((LL.copy D (T'.the_copy (named_lft 1 0 tt (κ, tt))) 𝓛).twice d
+      (mach ∷ [])) $ split ! $
+      use1 𝓛 (given (mach ∷ [] ≡ mach ∷ []) (‵ (all_own D.parts L vd)))
+      (own_open 𝓛 D L vd mach) $ learn !
+      (λ _. use1 𝓛 (‵ (field_own D.parts L 0 d.image) ⊛ ‵ (rest D.parts L 0 vd))
+      (own_out 𝓛 D.parts L 0 vd) $ split ! $
+      -- [what image owns; what next owns; what the struct owns; the token]
+      move ! (1 ∷ []) $ drop ! $ nothing ! $ owned ! u32 (Is u32) (uint_Makes 𝓛 w32) d.next
+      _ (refl, fits) $ fjoin ! $ move ! (1 ∷ 0 ∷ []) $ fjoin ! $
+      move ! (2 ∷ 0 ∷ []) $ use2 𝓛 (raw ((After 𝓛 mem run).pre to)) wanted $ frame ! $ done !)
+
+  -- of the callee's `ensured`, the clause alone: it has no `&mut`, so what is said of last values
+  -- is dropped
+  said : (r : ℕ) → ent 𝓤 (ensured 𝓛 step.ended (step.clauses 𝓛 mem run) (κ, tt)
+      (d.image, (d.next, tt)) tt r) (fact 𝓤 (r ≡ found))
+  said r = ex_e 𝓤 _ (λ ws. snd∗ 𝓤 (sem 𝓛 (lasts step.ended (κ, tt) (d.image, (d.next, tt)) ws))
+      (fact 𝓤 (r ≡ found)))
+
+  exits : (r : ℕ) (u : Val) → r < 2 ^ 32 → r ≡ found
+      → ent 𝓤 (⋆ 𝓛 (‵ (u32.own_val r (u ∷ [])) ∷ (‵ (flft κ q) ⊛ ‵ ftrue) ∷ ‵ Own ∷ []))
+      (Post (T'.lowered (made r)))
+  exits r u fits e =
+      qed 𝓛 (‵ (u32.own_val r (u ∷ [])) ∷ (‵ (flft κ q) ⊛ ‵ ftrue) ∷ ‵ Own ∷ []) ∵
+      suffices ! _ (ends_at 𝓛 next.ended stayed (next.clauses 𝓛 mem run)
+      (((κ, tt), (q, tt), tt, (d, tt), (mach ∷ [], tt)), tt) (T'.lowered (made r)) (made r) (tt, tt)
+      (tt, tt)) $ says ! (refl, e) $
+      drop ! $ frame ! $ use1 𝓛 (‵ Own ⊛ ‵ Own)
+      ((LL.copy D (T'.the_copy (named_lft 1 0 tt (κ, tt))) 𝓛).twice d (mach ∷ [])) $
+      split ! $ nothing ! $ move ! (1 ∷ 0 ∷ []) $ fjoin ! $ frame ! $
+      -- [what the struct owns]: the number's facts take the place of next's
+      owned ! u32 (Is u32) (uint_Makes 𝓛 w32) r _ (refl, fits) $ move ! (1 ∷ 0 ∷ []) $
+      by ! (own_put 𝓛 D L 1 vd r mach)
+
+  module _ (C : Calls 𝓤 H) (Λ : Loops 𝓤 H) (fm : FmC 𝓤 H 𝓛.laws C)
+      (known : Triple 𝓤 (C #contents·after) (After 𝓛 mem run)) where
+    walk : Holds (has_ty (T'.mir (named 0)) mach) × WT mach
+        → ent 𝓤 (on_entry 𝓛 next.signature (κ, tt) (q, tt) (d, tt) (mach ∷ [], tt))
+        (WpFn 𝓤 H C Λ code.function (mach ∷ []) Post)
+    walk wt =
+        qed 𝓛 (raw (on_entry 𝓛 next.signature (κ, tt) (q, tt) (d, tt) (mach ∷ [], tt)) ∷ []) ∵
+        enter ! C Λ code.function (mach ∷ []) _ $
+        alloc1 ! (λ l₀. alloc1 ! (λ l₁. alloc1 !
+        (λ l₂. alloc1 ! (λ l₃. alloc1 ! (λ l₄. alloc1 ! (λ l₅. alloc0 ! $ params1 ! $
+        pass1 ! (init ! 8 refl wt) $ pass0 ! $
+        assigns ! (of_opd ! (load ! (from ! (fld ! refl (stop !)))
+        (look_in ! 8 (sub ! 0 refl (whole !))))) (from ! (stop !)) (init ! 4 refl (tt, wt.1.0)) $
+        assigns ! (of_opd ! (load ! (from ! (fld ! refl (stop !)))
+        (look_in ! 8 (sub ! 1 refl (whole !))))) (from ! (stop !)) (init ! 2 refl (tt, wt.1.1.0))
+        $
+        move ! (12 ∷ []) $ use1 𝓛 (raw ((After 𝓛 mem run).pre to) ⊛ ‵ Own)
+        (apart wt.1.1.0.fits) $ split ! $
+        calls_at ! fm (After 𝓛 mem run) known to
+        (and_then ! (load ! (from ! (stop !)) (look ! 6 refl))
+        (and_then ! (load ! (from ! (stop !)) (look ! 4 refl)) (no_more !))) (λ u.
+        use1 𝓛 (later (some (λ (r : ℕ). ((‵ (flft κ q) ⊛ ‵ ftrue) ⊛ ‵ (u32.own_val r (u ∷ []))) ⊛ raw
+        (ensured 𝓛 step.ended (step.clauses 𝓛 mem run) (κ, tt) (d.image, (d.next, tt)) tt
+        r)))) (id⊢ 𝓤 _) $ await ! tt $ pick ! (λ r.
+        split ! $ move ! (1 ∷ []) $ use1 𝓛 (raw (fact 𝓤 (r ≡ found))) (said r) $
+        heard ! (r ≡ found) (λ e. split ! $ move ! (1 ∷ []) $
+        -- [the number; the token; what the struct owns; _5; …; _4; …; _3; …; _2; …; _1; …; room for
+        -- _0; …]
+        peeks ! u32 (Is u32) (shows 𝓛 u32) r (u ∷ []) (λ is.
+        land ! (from ! (stop !)) (init ! 9 refl ((uint_Lawful 𝓛 w32).typed r _ is).0) $
+        rewrite ! 9 (λ (w : Val). ‵ (fat full_share (ty_int w32) l₂ 0 w)) (ap only is.0) refl $
+        assigns ! (of_opd ! (load ! (from ! (fld ! refl (stop !)))
+        (look_in ! 11 (sub ! 0 refl (whole !))))) (from ! (stop !)) (init ! 3 refl (tt, wt.1.0)) $
+        assigns ! (agg ! (and_then ! (load ! (from ! (stop !)) (look ! 3 refl))
+        (and_then ! (load ! (from ! (stop !)) (look ! 9 refl)) (no_more !)))) (from ! (stop !))
+        (init ! 13 refl (tt, (wt.1.0, (record { fits = is.1 }, tt)))) $
+        returns ! (look ! 13 refl) $ forget ! 3 refl $ forget ! 5 refl $ forget ! 7 refl $
+        forget ! 9 refl $ forget ! 11 refl $ forget ! 13 refl $
+        move ! (13 ∷ 14 ∷ []) $ free1 ! $ move ! (11 ∷ 12 ∷ []) $ free1 ! $
+        move ! (9 ∷ 10 ∷ []) $ free1 ! $ move ! (7 ∷ 8 ∷ []) $ free1 ! $ move ! (5 ∷ 6 ∷ []) $
+        free1 ! $ move ! (3 ∷ 4 ∷ []) $ free1 ! $ free0 ! $ by ! (exits r u is.1 e)))))))))))
+
+module _ {M : Type 1} {𝓤 : Ura M} (𝓛 : Logic 𝓤) (mem : Memory
+    → SProp 𝓤) (run : Routine → Fun 𝓤) where
+  open 𝓛 use {H}
+
+  next-walks : (C : Calls 𝓤 H) (Λ : Loops 𝓤 H) → FmC 𝓤 H 𝓛.laws C
+      → Triple 𝓤 (C #contents·after) (After 𝓛 mem run)
+      → Walks 𝓛 next.ended stayed (WpFn 𝓤 H C Λ code.function) (next.clauses 𝓛 mem run)
+  next-walks C Λ fm known = walked 𝓛 next.ended stayed (next.clauses 𝓛 mem run)
+      (WpFn 𝓤 H C Λ code.function)
+      (λ κs. (LL.vals (T.the_type (named_lft 1 0 tt κs)) (T'.the_laws (named_lft 1 0 tt κs)), tt))
+      (λ κs. (LL.tells (T.the_type (named_lft 1 0 tt κs)) (T'.the_laws (named_lft 1 0 tt κs)), tt))
+      (λ κs qs bounds a g are. via 𝓤 _ (fst∗ 𝓤 _ (emp 𝓤))
+      (walk 𝓛 mem run κs.0 qs.0 a.0 C Λ fm known
+      ((LL.lawful (T.the_type (named_lft 1 0 tt κs)) (T'.the_laws (named_lft 1 0 tt κs)) 𝓛).typed
+      a.0 _ are.0).0))
+
+next-meets : {M : Type 1} {𝓤 : Ura M} (𝓛 : Logic 𝓤)
+    (mem : Memory → SProp 𝓤) (run : Routine → Fun 𝓤) (𝓣 : Tables 𝓤 𝓛.H)
+    → Triple 𝓤 (𝓣.C #contents·after) (After 𝓛 mem run)
+    → Meets 𝓛 next.signature (WpFn 𝓤 𝓛.H 𝓣.C 𝓣.Λ code.function) (next.spec 𝓛 mem run)
+next-meets {𝓤 = 𝓤} 𝓛 mem run 𝓣 Known-step = walk_Meets 𝓛 next.ended stayed
+    (Goes-none 𝓛 1 B yes (λ κs x f. refl), tt) (next.clauses 𝓛 mem run)
+    (WpFn 𝓤 𝓛.H 𝓣.C 𝓣.Λ code.function) (WpFn-mono 𝓤 𝓛.H 𝓛.laws 𝓣 code.function)
+    (next-walks 𝓛 mem run 𝓣.C 𝓣.Λ (fm_of 𝓤 𝓛.H 𝓛.laws 𝓣) Known-step)
+
+pub next-spec : {M : Type 1} → stated.statement M
+unfolding code.routine tables_of
+next-spec 𝓤 𝓛 𝓜 𝓡 =
+    entered 𝓤 𝓛.H (triple_of 𝓛 next.signature (next.spec 𝓛 𝓜.mem 𝓡.run))
+    (tables 𝓤 𝓛.H 𝓜 𝓡 code.env).C (tables 𝓤 𝓛.H 𝓜 𝓡 code.env).Λ #bodies·next code.function
+    (code.unfolded 𝓤 𝓛.H 𝓜 𝓡)
+    (next-meets 𝓛 𝓜.mem 𝓡.run
+    (tables_of 𝓤 𝓛.H 𝓜 (tables 𝓤 𝓛.H 𝓜 𝓡 code.env))
+    (cited 𝓤 𝓛.H (After 𝓛 𝓜.mem 𝓡.run) 𝓜 𝓡 code.env #contents·after step-def.routine
+    code.calls-bodies::contents::after (step_thm.met 𝓤 𝓛 𝓜 𝓡)))

@@ -1,2 +1,0 @@
--- What the contracts of `hex` cite.
-pub mod Hex

@@ -1,0 +1,2 @@
+-- What the contracts of `hexed` cite.
+pub mod Hex

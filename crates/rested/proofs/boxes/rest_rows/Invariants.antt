@@ -1,0 +1,10 @@
+-- The boxes up to b are at rest.
+use Prim.Native.Nat.{◌-◌}
+use Rattle.rested.proofs.EachLaws.{RestedUpTo}
+use Rattle.rested.proofs.boxes.rest_rows.Given as goal
+
+abbrev pub invariant-loop-b : goal.invariant-loop-b
+invariant-loop-b l = RestedUpTo l.s l.initial.site l.b l.site
+
+abbrev pub decreases-loop-b : goal.decreases-loop-b
+decreases-loop-b l = l.s.n - l.b

@@ -1,0 +1,15 @@
+-- Each turn adds the next length.
+use mathlib.Core.Path.{◌≡◌}
+use Prim.Native.Nat.{◌-◌, ◌≤◌}
+use lib.ListN.{length, take}
+use Rattle.cells.specs.Cells.{chain}
+use Rattle.image.specs.Image.{link_bytes}
+use Rattle.writer.specs.Bodies.{links_in}
+use Rattle.writer.proofs.mail.links_length.Given as goal
+
+abbrev pub invariant-loop-k : goal.invariant-loop-k
+invariant-loop-k l =
+    (l.k ≤ l.count) × (l.total ≡ length (chain link_bytes (take l.k (links_in l.s l.links))))
+
+abbrev pub decreases-loop-k : goal.decreases-loop-k
+decreases-loop-k l = l.count - l.k
