@@ -5,7 +5,6 @@ use mathlib.Core.Bool.{Bool, true, false, not}
 use lib.ListN.{get_or}
 use borrow.Author.Tests.{eq-eqb}
 use Rattle.rules.specs.Pick.{pick}
-use Rattle.rules.specs.Sizes.{even}
 use Rattle.rules.specs.Sets.{joined}
 use Rattle.rules.specs.Numbers.{in_phase}
 use Rattle.rules.specs.Fields.{with_state, with_peers, with_waiting}
