@@ -152,7 +152,8 @@ unfolding form
 epoch-form s f = (passed _ f).1.0
 
 module _ (s : Site) (f : form s ≡ true) (c : ℕ) (box : In c s.n) (e : Event)
-    (letter : form_event (setting s c) e ≡ true) (number : right_numbers (setting s c) e ≡ true) where
+    (letter : form_event (setting s c) e ≡ true) (number : right_numbers (setting s c)
+    e ≡ true) where
   abbrev t : Turn
   t = turn_of (setting s c) (s.box c) e
 

@@ -1,5 +1,6 @@
 -- One step of the search, and its end.
-use Rattle.std.proofs.Common.{ℕ, suc, ◌≡◌, ◌+◌, ◌≤◌, ◌<◌, ◌∙◌, List, ap, arith, length, get_or, take, drop, drop_of_length-le}
+use Rattle.std.proofs.Common.{ℕ, suc, ◌≡◌, ◌+◌, ◌≤◌, ◌<◌, ◌∙◌, List, ap, arith, length, get_or}
+use Rattle.std.proofs.Common.{take, drop, drop_of_length-le}
 use Rattle.std.proofs.lemmas.List.{drop_more, get_or-take, length-take-le}
 use borrow.Author.Tests.{eq-eqb, ne_eqb}
 use Rattle.scan.specs.Bytes.{slice, index_after, index_of}

@@ -13,7 +13,8 @@ at c k e = call_at k c.args.a c.args.b c.args.c e
 
 pub returns-in_default : goal.returns-in_default
 returns-in_default c =
-    call-rest c.args.a c.args.b c.args.c (none_below 15 c.args.which c.in_default.in_default-own.rest)
+    call-rest c.args.a c.args.b c.args.c
+    (none_below 15 c.args.which c.in_default.in_default-own.rest)
 
 pub returns-in-0 : goal.returns-in-0
 unfolding call_of

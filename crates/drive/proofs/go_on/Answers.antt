@@ -1,5 +1,4 @@
 -- `drive::go-on` meets its contract: at each turn the first i questions are answered.
-use Prim.Native.Nat.{◌-◌}
 use mathlib.Core.Path.{◌≡◌, refl, ◌∙◌, subst}
 use native.Mathlib.Omega.{arith}
 use lib.ListN.{length-set}

@@ -11,7 +11,8 @@ use Rattle.find.proofs.find_formed.Goals.{Else-not-is_box}
 use Rattle.find.proofs.find_formed.Goals as goal
 
 -- What is known where c is a box.
-known : (c : Else-not-is_box) → AtBox c.args.site.now c.args.links.now c.args.c c.setting_of-s.result
+known : (c : Else-not-is_box) → AtBox c.args.site.now c.args.links.now c.args.c
+    c.setting_of-s.result
 known c =
     at-box c.requires
     c.setting_of-s.ensures c.is_box.ensures (ap not c.if-not-is_box.false)
@@ -24,7 +25,8 @@ returns-then-not-is_box c =
     c.is_box.ensures (ap not c.if-not-is_box.true))
 
 pub returns-then-left-eq0 : goal.returns-then-left-eq0
-returns-then-left-eq0 c = words-no-frame (known (goal.at.returns-then-left-eq0 c).Else-not-is_box) _ c.if-left-eq0.true
+returns-then-left-eq0 c = words-no-frame (known (goal.at.returns-then-left-eq0 c).Else-not-is_box) _
+    c.if-left-eq0.true
 
 pub row_of-row-requires : goal.row_of-row-requires
 row_of-row-requires c =
@@ -39,7 +41,8 @@ find-requires c = row_here (known (goal.at.find-requires c).Else-not-is_box) c.r
 
 pub returns : goal.returns
 returns c =
-    found_here (known (goal.at.returns c).Else-not-is_box) _ c.row_of-row.ensures c.if-left-eq0.false
+    found_here (known (goal.at.returns c).Else-not-is_box) _ c.row_of-row.ensures
+    c.if-left-eq0.false
     c.find.ensures c.found_as.ensures
 
 pub setting_of-s-requires : goal.setting_of-s-requires

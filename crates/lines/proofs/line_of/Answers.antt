@@ -11,7 +11,8 @@ use Rattle.lines.proofs.line_of.Goals as goal
 pub returns-then-n-k : goal.returns-then-n-k
 unfolding line_of
 returns-then-n-k c =
-    sym (ap (λ (k : ℕ). pick (c.args.n.bad || not (eqb c.args.n.count k)) L.Unreadable (line_with c.args.w
+    sym (ap (λ (k : ℕ). pick (c.args.n.bad || not (eqb c.args.n.count k)) L.Unreadable
+    (line_with c.args.w
     c.args.n)) (sym c.arity-k.ensures) ∙ pick_true _ _ _ c.if-n-k.true)
 
 pub returns : goal.returns
@@ -20,6 +21,7 @@ returns c =
     c.line_with.ensures
     ∙ sym
     (ap
-    (λ (k : ℕ). pick (c.args.n.bad || not (eqb c.args.n.count k)) L.Unreadable (line_with c.args.w c.args.n))
+    (λ (k : ℕ). pick (c.args.n.bad || not (eqb c.args.n.count k)) L.Unreadable
+    (line_with c.args.w c.args.n))
     (sym c.arity-k.ensures)
     ∙ pick-false _ _ _ c.if-n-k.false)

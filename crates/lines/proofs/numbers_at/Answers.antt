@@ -1,5 +1,5 @@
 -- `lines::numbers_at` meets its contract.
-use Prim.Native.Nat.{◌+◌, ◌-◌}
+use Prim.Native.Nat.{◌+◌}
 use mathlib.Core.Path.{sym, ◌∙◌, ap}
 use lib.ListN.{drop}
 use Rattle.rules.proofs.Tests.{tests}

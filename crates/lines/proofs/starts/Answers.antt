@@ -1,5 +1,4 @@
 -- `lines::starts` meets its contract.
-use Prim.Native.Nat.{◌-◌}
 use mathlib.Core.Path.{sym, ◌∙◌, refl}
 use Rattle.rules.proofs.Tests.{tests}
 use Rattle.lines.proofs.ReadLaws.{starts-on, starts-short, starts-differ, starts-end}

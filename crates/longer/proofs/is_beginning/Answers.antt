@@ -1,5 +1,4 @@
 -- `longer::is_beginning` meets its contract.
-use Prim.Native.Nat.{◌-◌}
 use mathlib.Core.Path.{sym, ◌∙◌, refl}
 use native.Mathlib.Omega.{arith}
 use Rattle.longer.proofs.BeginLaws.{begins-on, begins-not, begins-end}

@@ -30,7 +30,10 @@ said : (c : After-setting_of-s) → GeneralRead c.args.image.now c.args.at
     c.get_words.result (words-setting_of_s c) c.setting_of-s.result.n c.setting_of-s.result.j
     c.setting_of-s.result.l
 said c =
-    setting-read (five-setting_of_s c) c.get_words.ensures (words-setting_of_s c) (omega (arith, five-setting_of_s c))
+    setting-read (five-setting_of_s c) c.get_words.ensures (words-setting_of_s c) (omega (
+      arith,
+      five-setting_of_s c,
+    ))
     (λ i h. refl) c.setting_of-s.result c.setting_of-s.ensures
 
 pub get_words-requires : goal.get_words-requires
@@ -40,7 +43,11 @@ get_words-requires c =
 
 pub setting_of-s-requires : goal.setting_of-s-requires
 setting_of-s-requires c =
-    general-lent (five (goal.at.setting_of-s-requires c).After-get_words) c.get_words.ensures (words (goal.at.setting_of-s-requires c).After-get_words) (omega (arith, five (goal.at.setting_of-s-requires c).After-get_words))
+    general-lent (five (goal.at.setting_of-s-requires c).After-get_words) c.get_words.ensures
+    (words (goal.at.setting_of-s-requires c).After-get_words) (omega (
+      arith,
+      five (goal.at.setting_of-s-requires c).After-get_words,
+    ))
     (λ i h. refl)
 
 pub has_words-requires : goal.has_words-requires
@@ -51,7 +58,8 @@ pub store_site-requires : goal.store_site-requires
 store_site-requires c = record {
   has = bodies-has c.requires;
   room_for = room-found c.setting_of-s.result c.args.site.now c.args.links.now
-      (said (goal.at.store_site-requires c).After-setting_of-s) (sym c.has_words.ensures ∙ c.if-has_words.true);
+      (said (goal.at.store_site-requires c).After-setting_of-s) (sym c.has_words.ensures
+      ∙ c.if-has_words.true);
 }
 
 pub returns-then-has_words : goal.returns-then-has_words

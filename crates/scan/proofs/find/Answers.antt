@@ -18,7 +18,8 @@ loop-i-preserved c =
       omega (
         arith,
         c.loop-i.invariant.1,
-        past c.args.b c.loop-i.i c.args.end a c.requires.in_bounds c.loop-i-test.true c.if-a-i.false,
+        past c.args.b c.loop-i.i c.args.end a c.requires.in_bounds c.loop-i-test.true
+            c.if-a-i.false,
       ),
     )
 

@@ -1,5 +1,5 @@
 -- `desk::near::nearest_of` meets its contract: going on with what was found gives the whole answer.
-use Rattle.std.proofs.Common.{◌-◌, refl, arith}
+use Rattle.std.proofs.Common.{refl, arith}
 use Rattle.desk.proofs.NearLaws.{found-on, found-end}
 use Rattle.desk.proofs.near.nearest_of.Goals as goal
 

@@ -6,7 +6,8 @@ use Rattle.desk.proofs.sides.clear.Given as goal
 
 abbrev pub invariant-loop-i : goal.invariant-loop-i
 invariant-loop-i l =
-    Cleared l.frame (without l.frame l.initial.row) l.row l.i × (length l.row ≡ length l.initial.row)
+    Cleared l.frame (without l.frame l.initial.row) l.row l.i
+    × (length l.row ≡ length l.initial.row)
 
 abbrev pub decreases-loop-i : goal.decreases-loop-i
 decreases-loop-i l = length l.initial.row - l.i

@@ -5,7 +5,8 @@ use Rattle.desk.proofs.sides.give_in.Goals as goal
 
 pub returns-then-place_of-row : goal.returns-then-place_of-row
 returns-then-place_of-row c =
-    give_waits c.args.frame c.args.row.now c.place_of.ensures.value c.args.tick c.if-place_of-row.true
+    give_waits c.args.frame c.args.row.now c.place_of.ensures.value c.args.tick
+    c.if-place_of-row.true
 
 pub returns-then-row-free : goal.returns-then-row-free
 returns-then-row-free c =

@@ -1,5 +1,5 @@
 -- `desk::sides::place_of` meets its contract: the places that were passed have other frames.
-use Rattle.std.proofs.Common.{◌-◌, sym, ◌∙◌, arith}
+use Rattle.std.proofs.Common.{sym, ◌∙◌, arith}
 use Rattle.desk.proofs.SideLaws.{place-on, place_here, place_none}
 use Rattle.desk.proofs.sides.place_of.Goals as goal
 

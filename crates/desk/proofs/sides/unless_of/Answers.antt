@@ -3,7 +3,8 @@ use Rattle.rules.specs.Pick.{pick_true, pick-false}
 use Rattle.desk.proofs.sides.unless_of.Goals as goal
 
 pub returns-then-frame_of-frame : goal.returns-then-frame_of-frame
-returns-then-frame_of-frame c = sym (pick_true _ _ _ (eq-eqb _ _ (sym c.frame_of.ensures ∙ c.if-frame_of-frame.true)))
+returns-then-frame_of-frame c =
+    sym (pick_true _ _ _ (eq-eqb _ _ (sym c.frame_of.ensures ∙ c.if-frame_of-frame.true)))
 
 pub returns : goal.returns
 returns c =

@@ -11,7 +11,8 @@ use Rattle.feed.proofs.entries.feed_piece.Goals as goal
 form : (c : Else-not-is_formed) → formed c.args.f.stage c.args.site.now c.args.links.now ≡ true
 form c = sym c.is_formed.ensures ∙ c.if-not-is_formed.false
 
-room : (c : Else-not-has_room) → has_room (length c.args.site.now) (length c.args.links.now) (length c.args.out.now) ≡ true
+room : (c : Else-not-has_room) → has_room (length c.args.site.now) (length c.args.links.now)
+    (length c.args.out.now) ≡ true
 room c = sym c.has_room.ensures ∙ c.if-not-has_room.false
 
 pub returns-then-not-is_formed : goal.returns-then-not-is_formed
@@ -26,9 +27,12 @@ returns-then-not-has_room c =
 
 pub feed_formed-requires : goal.feed_formed-requires
 feed_formed-requires c =
-    suits c.args.f c.args.piece.now _ _ c.args.out.now (form (goal.at.feed_formed-requires c).Else-not-is_formed) (room (goal.at.feed_formed-requires c).Else-not-has_room)
+    suits c.args.f c.args.piece.now _ _ c.args.out.now
+    (form (goal.at.feed_formed-requires c).Else-not-is_formed)
+    (room (goal.at.feed_formed-requires c).Else-not-has_room)
 
 pub returns : goal.returns
 returns c =
-    well_fed c.args.f _ _ _ _ _ _ _ _ (form (goal.at.returns c).Else-not-is_formed) (room (goal.at.returns c).Else-not-has_room)
+    well_fed c.args.f _ _ _ _ _ _ _ _ (form (goal.at.returns c).Else-not-is_formed)
+    (room (goal.at.returns c).Else-not-has_room)
     c.feed_formed.ensures

@@ -1,4 +1,3 @@
-use Prim.Native.Nat.{◌-◌}
 use mathlib.Core.Path.{◌≡◌}
 use native.Mathlib.Omega.{arith}
 use lib.ListN.{length, drop}
@@ -23,7 +22,12 @@ loop-j-preserved c = (
   omega arith,
   copy_more c.args.line c.args.piece.now _ c.least-n.result
       c.args.i c.loop-j.j
-      (omega (arith, line-length (goal.at.loop-j-preserved c).Start, c.least-n.ensures, c.least-m.ensures))
+      (omega (
+        arith,
+        line-length (goal.at.loop-j-preserved c).Start,
+        c.least-n.ensures,
+        c.least-m.ensures,
+      ))
       (omega (arith, c.least-m.ensures)) c.loop-j.invariant.1,
 )
 

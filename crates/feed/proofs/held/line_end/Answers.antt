@@ -1,4 +1,3 @@
-use Prim.Native.Nat.{◌-◌}
 use mathlib.Core.Bool.{true}
 use native.Mathlib.Omega.{arith}
 use Rattle.trace.specs.Feeding.{plain}
@@ -8,7 +7,12 @@ use Rattle.feed.proofs.held.line_end.Goals.{Start}
 use Rattle.feed.proofs.held.line_end.Goals as goal
 
 pub loop-e-init : goal.loop-e-init
-loop-e-init c = (omega arith, omega arith, plain-none ((goal.at.loop-e-init c).Start).args.piece.now ((goal.at.loop-e-init c).Start).args.i)
+loop-e-init c = (
+  omega arith,
+  omega arith,
+  plain-none ((goal.at.loop-e-init c).Start).args.piece.now
+      ((goal.at.loop-e-init c).Start).args.i,
+)
 
 pub returns-then-piece-e-eq10 : goal.returns-then-piece-e-eq10
 returns-then-piece-e-eq10 c =

@@ -17,4 +17,5 @@ slice_bounds-read_line-end c =
 pub returns : goal.returns
 returns c =
     c.read_line.ensures
-    ∙ ap read_line (cut-take _ _ 65 _ (omega (arith, line-length (goal.at.returns c).Start)) c.least-m.ensures)
+    ∙ ap read_line (cut-take _ _ 65 _ (omega (arith, line-length (goal.at.returns c).Start))
+    c.least-m.ensures)

@@ -35,19 +35,31 @@ answer_line-t-requires c = (
 )
 
 pub line_end-e-requires-in-loop-e : goal.line_end-e-requires-in-loop-e
-line_end-e-requires-in-loop-e c =
-    (omega (arith, (on (goal.at.line_end-e-requires-in-loop-e c).In-loop-e).0), omega (arith, c.loop-e.invariant.0))
+line_end-e-requires-in-loop-e c = (
+  omega (arith, (on (goal.at.line_end-e-requires-in-loop-e c).In-loop-e).0),
+  omega (arith, c.loop-e.invariant.0),
+)
 
 pub loop-e-smaller : goal.loop-e-smaller
 loop-e-smaller c =
-    omega (arith, (on (goal.at.loop-e-smaller c).In-loop-e).0, c.line_end-e-in-loop-e.ensures.from, c.line_end-e-in-loop-e.ensures.to)
+    omega (
+      arith,
+      (on (goal.at.loop-e-smaller c).In-loop-e).0,
+      c.line_end-e-in-loop-e.ensures.from,
+      c.line_end-e-in-loop-e.ensures.to,
+    )
 
 pub loop-e-preserved : goal.loop-e-preserved
 loop-e-preserved c = (
   c.loop-e.invariant.0,
   c.loop-e.invariant.1,
-  kept_more _ _ _ _ _ _ _ _ _ _ _ _ _ c.answer_line-t.result c.loop-e.invariant.1 c.loop-e.invariant.0
-      (on (goal.at.loop-e-preserved c).In-loop-e).0 (omega (arith, (on (goal.at.loop-e-preserved c).In-loop-e).1, c.loop-e.invariant.2.wrote.room)) c.loop-e.invariant.2
+  kept_more _ _ _ _ _ _ _ _ _ _ _ _ _ c.answer_line-t.result c.loop-e.invariant.1
+      c.loop-e.invariant.0
+      (on (goal.at.loop-e-preserved c).In-loop-e).0 (omega (
+        arith,
+        (on (goal.at.loop-e-preserved c).In-loop-e).1,
+        c.loop-e.invariant.2.wrote.room,
+      )) c.loop-e.invariant.2
       c.answer_line-t.ensures c.line_end-e-in-loop-e.ensures,
 )
 

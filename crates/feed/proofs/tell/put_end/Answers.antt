@@ -25,5 +25,6 @@ returns-in-Going c =
 
 pub returns-in-Ended : goal.returns-in-Ended
 returns-in-Ended c =
-    λ xs ls. end-ended c.args.f xs ls _ c.in-Ended.is (line-length (goal.at.returns-in-Ended c).Start)
+    λ xs ls. end-ended c.args.f xs ls _ c.in-Ended.is
+    (line-length (goal.at.returns-in-Ended c).Start)
     c.if-n-eq0.false

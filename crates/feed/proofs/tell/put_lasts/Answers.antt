@@ -1,4 +1,3 @@
-use Prim.Native.Nat.{◌-◌}
 use native.Mathlib.Omega.{arith}
 use Rattle.rules.proofs.Tests.{tests}
 use Rattle.feed.proofs.TellLaws.{lasts-none, lasts-more, lasts-done}

@@ -1,5 +1,4 @@
 use native.Mathlib.Omega.{arith}
-use Prim.Native.Nat.{◌-◌}
 use Rattle.found.specs.Found.{pair_way}
 use Rattle.found.specs.Near.{link_stride}
 use Rattle.found.proofs.WalkLaws.{walk_none, walk_more, walk-stop, walk-all}

@@ -1,4 +1,3 @@
-use Prim.Native.Nat.{◌-◌}
 use native.Mathlib.Omega.{arith}
 use Rattle.found.proofs.StandsLaws.{words-none, words_more, words-all, words-near}
 use Rattle.found.proofs.stands.read_words.Goals as goal

@@ -12,10 +12,16 @@ use Rattle.store.proofs.boxes.read_box.Goals as goal
 
 pub get_headed-requires : goal.get_headed-requires
 get_headed-requires c =
-    let wide = c.requires.row_len in let made = headed_asks (box_headed c.args.n c.args.j c.requires.n_le_most_boxes.0 c.requires.n_le_most_boxes.1) c.args.src.now c.args.at
+    let wide = c.requires.row_len in let made =
+    headed_asks (box_headed c.args.n c.args.j c.requires.n_le_most_boxes.0
+    c.requires.n_le_most_boxes.1) c.args.src.now c.args.at
     c.box_groups-groups.result (length c.args.row.now) c.box_groups-groups.ensures.0
     (omega arith, omega (arith, wide), omega (arith, wide, c.requires.n_le_most_boxes.1))
-    (λ x g. omega (arith, length-box c.args.n x c.requires.n_le_most_boxes.0, box-groups-long c.args.n))
+    (λ x g. omega (
+      arith,
+      length-box c.args.n x c.requires.n_le_most_boxes.0,
+      box-groups-long c.args.n,
+    ))
     (λ x g. omega (arith, (box-says g.1).held.room, wide)) c.requires.has in record {
       cut = made.0;
       count_lt_head = made.1.0;
@@ -25,6 +31,7 @@ get_headed-requires c =
 
 pub returns : goal.returns
 returns c =
-    headed_stored (box_headed c.args.n c.args.j c.requires.n_le_most_boxes.0 c.requires.n_le_most_boxes.1) HasBox
+    headed_stored (box_headed c.args.n c.args.j c.requires.n_le_most_boxes.0
+    c.requires.n_le_most_boxes.1) HasBox
     (λ x g tail. box_read x tail) c.box_groups-groups.result c.box_groups-groups.ensures.0
     c.get_headed.ensures

@@ -6,7 +6,8 @@ use Rattle.store.proofs.boxes.store_box.Goals as goal
 pub build-requires : goal.build-requires
 build-requires c =
     let got = c.read_box-end.ensures c.requires.has.place c.requires.has.found in
-    box-booked c.args.n c.args.j c.requires.n_le_most_boxes.1 c.requires.has.found.thing c.requires.has.found.good _
+    box-booked c.args.n c.args.j c.requires.n_le_most_boxes.1 c.requires.has.found.thing
+    c.requires.has.found.good _
     (c.read_box-end.auto.row ∙ c.requires.row_len) got.0
 
 pub returns : goal.returns

@@ -10,7 +10,8 @@ use Rattle.store.proofs.boxes.store_boxes.Given as goal
 
 abbrev pub invariant-loop-i : goal.invariant-loop-i
 invariant-loop-i l =
-    Stored (box_body l.n) (SomeBox l.n l.j) (HoldsBox l.n l.j) l.w l.n (box_of l.n []) l.src l.at l.initial.rows l.i l.rows l.p
+    Stored (box_body l.n) (SomeBox l.n l.j) (HoldsBox l.n l.j) l.w l.n (box_of l.n []) l.src l.at
+    l.initial.rows l.i l.rows l.p
 
 abbrev pub decreases-loop-i : goal.decreases-loop-i
 decreases-loop-i l = l.n - l.i

@@ -29,9 +29,14 @@ pub get_headed-requires : goal.get_headed-requires
 get_headed-requires c =
     let x = c.get_at.result in
     let room = letter-room c.args.j c.requires.has in
-    let known = kind-known c.args.j c.requires.place_sized.most room c.get_at.ensures in let made = headed_asks (letter_headed c.args.j c.requires.place_sized.most x) c.args.src.now c.args.at
-    c.letter_groups-groups.result (length c.args.place.now) (groups (goal.at.get_headed-requires c).After-letter_groups-groups)
-    (omega arith, omega (arith, c.requires.place_sized.words), omega (arith, c.requires.place_sized.words, c.requires.place_sized.most))
+    let known = kind-known c.args.j c.requires.place_sized.most room c.get_at.ensures in let made =
+    headed_asks (letter_headed c.args.j c.requires.place_sized.most x) c.args.src.now c.args.at
+    c.letter_groups-groups.result (length c.args.place.now)
+    (groups (goal.at.get_headed-requires c).After-letter_groups-groups) (
+      omega arith,
+      omega (arith, c.requires.place_sized.words),
+      omega (arith, c.requires.place_sized.words, c.requires.place_sized.most),
+    )
     (λ y g.
     omega (
       arith,
@@ -56,4 +61,5 @@ returns c =
     (HoldsLetter j _)
     (headed_stored (letter_headed j most c.get_at.result) (HoldsLetter j)
     (λ y g tail. letter-held j y tail (letter-few (letter-says g.0)))
-    c.letter_groups-groups.result (groups (goal.at.returns c).After-letter_groups-groups) c.get_headed.ensures)
+    c.letter_groups-groups.result (groups (goal.at.returns c).After-letter_groups-groups)
+    c.get_headed.ensures)

@@ -1,6 +1,5 @@
 -- `store::mail::store_letters` meets its contract: at each turn the first i are stored.
 use mathlib.Core.Path.{refl}
-use Prim.Native.Nat.{◌-◌}
 use Rattle.cells.proofs.StoreLaws.{stored-none, next-has, row-wide, stored_next, stored-all}
 use Rattle.store.proofs.mail.store_letters.Goals as goal
 
@@ -8,7 +7,10 @@ pub store_letter-p-requires : goal.store_letter-p-requires
 store_letter-p-requires c =
     let inv = c.loop-i.invariant in
     let within = c.loop-i-test.true in record {
-      place_sized = record { words = row-wide inv within c.row_at-a.ensures.0; most = c.requires.j_le_most_loads };
+      place_sized = record {
+        words = row-wide inv within c.row_at-a.ensures.0;
+        most = c.requires.j_le_most_loads;
+      };
       has = next-has inv within c.requires.has;
     }
 

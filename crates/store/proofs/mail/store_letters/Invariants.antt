@@ -11,7 +11,8 @@ use Rattle.store.proofs.mail.store_letters.Given as goal
 
 abbrev pub invariant-loop-i : goal.invariant-loop-i
 invariant-loop-i l =
-    Stored letter_bytes (GoodLetter l.j) (HoldsLetter l.j) (place_width l.j) l.n (letter_at []) l.src l.at l.initial.places
+    Stored letter_bytes (GoodLetter l.j) (HoldsLetter l.j) (place_width l.j) l.n (letter_at [])
+    l.src l.at l.initial.places
     l.i l.places l.p
 
 abbrev pub decreases-loop-i : goal.decreases-loop-i

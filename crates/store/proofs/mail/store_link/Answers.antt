@@ -53,21 +53,29 @@ store_letters-requires c = record {
   j_in_bounds = omega (
     arith,
     places (goal.at.store_letters-requires c).After-size-count,
-    letters-room c.requires.link_words.sizes (counted (goal.at.store_letters-requires c).After-size-count) c.requires.has (row (goal.at.store_letters-requires c).After-size-count) c.requires.link_words.width,
+    letters-room c.requires.link_words.sizes
+        (counted (goal.at.store_letters-requires c).After-size-count) c.requires.has
+        (row (goal.at.store_letters-requires c).After-size-count) c.requires.link_words.width,
   );
-  has = letters-has c.requires.link_words.sizes (counted (goal.at.store_letters-requires c).After-size-count) c.requires.has;
+  has = letters-has c.requires.link_words.sizes
+      (counted (goal.at.store_letters-requires c).After-size-count) c.requires.has;
 }
 
 pub shape_of-row : goal.shape_of-row
 shape_of-row c =
-    length-splice 2 (length (row (goal.at.shape_of-row c).After-size-count) - 2) (put (goal.at.shape_of-row c).After-size-count) c.store_letters.new.places (room (goal.at.shape_of-row c).After-size-count)
+    length-splice 2 (length (row (goal.at.shape_of-row c).After-size-count) - 2)
+    (put (goal.at.shape_of-row c).After-size-count) c.store_letters.new.places
+    (room (goal.at.shape_of-row c).After-size-count)
     (c.store_letters.auto.places ∙ places (goal.at.shape_of-row c).After-size-count)
     ∙ long (goal.at.shape_of-row c).After-size-count
 
 pub returns : goal.returns
 returns c =
-    link-stored c.requires.link_words.sizes (counted (goal.at.returns c).After-size-count) (row (goal.at.returns c).After-size-count) c.store_letters.new.places c.requires.link_words.width
-    (c.store_letters.auto.places ∙ places (goal.at.returns c).After-size-count) (sym c.size-count.ensures) _ c.store_letters.ensures
+    link-stored c.requires.link_words.sizes (counted (goal.at.returns c).After-size-count)
+    (row (goal.at.returns c).After-size-count) c.store_letters.new.places
+    c.requires.link_words.width
+    (c.store_letters.auto.places ∙ places (goal.at.returns c).After-size-count)
+    (sym c.size-count.ensures) _ c.store_letters.ensures
 
 pub bounds-row-0 : goal.bounds-row-0
 bounds-row-0 c = omega (arith, c.requires.link_words.width)

@@ -1,6 +1,6 @@
 -- `store::mail::store_links` meets its contract: at each turn the first i are stored.
 use mathlib.Core.Path.{ap, ◌∙◌}
-use Prim.Native.Nat.{ℕ, ◌-◌, ◌*◌}
+use Prim.Native.Nat.{ℕ, ◌*◌}
 use native.Mathlib.Omega.{arith}
 use Rattle.cells.proofs.StoreLaws.{stored-none, next-has, row-wide, stored_next, stored-all}
 use Rattle.store.proofs.mail.store_links.Goals as goal

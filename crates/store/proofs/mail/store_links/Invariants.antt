@@ -9,7 +9,8 @@ use Rattle.store.proofs.mail.store_links.Given as goal
 
 abbrev pub invariant-loop-i : goal.invariant-loop-i
 invariant-loop-i l =
-    Stored link_bytes (GoodLink l.j l.l) (Holds l.j l.l) l.w l.m [] l.src l.at l.initial.links l.i l.links l.p
+    Stored link_bytes (GoodLink l.j l.l) (Holds l.j l.l) l.w l.m [] l.src l.at l.initial.links
+    l.i l.links l.p
 
 abbrev pub decreases-loop-i : goal.decreases-loop-i
 decreases-loop-i l = l.m - l.i

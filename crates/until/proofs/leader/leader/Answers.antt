@@ -1,5 +1,4 @@
 -- The boxes up to b do not lead.
-use Prim.Native.Nat.{◌-◌}
 use native.Mathlib.Omega.{arith}
 use Rattle.memory.proofs.EveryLaws.{next-box}
 use Rattle.until.proofs.FirstLaws.{none-yet, none_more, none-stop, none-all}

@@ -6,7 +6,8 @@ use Rattle.until.proofs.leader.phase.Goals as goal
 
 pub bounds-row-2 : goal.bounds-row-2
 bounds-row-2 c =
-    let z = row_sized c.args.s c.args.s.me c.args.site.now c.requires.me_value c.requires.rows_lent.sizes
+    let z = row_sized c.args.s c.args.s.me c.args.site.now c.requires.me_value
+    c.requires.rows_lent.sizes
     c.requires.rows_lent.words in
     rw c.row_of-row.ensures (omega (arith, z.words))
 

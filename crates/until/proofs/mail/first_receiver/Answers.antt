@@ -1,5 +1,4 @@
 -- Box a's links to the boxes up to b hold no mail.
-use Prim.Native.Nat.{◌-◌}
 use native.Mathlib.Omega.{arith}
 use Rattle.memory.proofs.EveryLaws.{next-box}
 use Rattle.until.proofs.FirstLaws.{none-yet, none_more, none-stop, none-all}

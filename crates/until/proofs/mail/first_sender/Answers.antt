@@ -1,5 +1,4 @@
 -- The boxes up to a have no mail under way.
-use Prim.Native.Nat.{◌-◌}
 use mathlib.Core.Path.{ap}
 use native.Mathlib.Omega.{arith}
 use lib.Dec.{ltb}

@@ -8,7 +8,8 @@ returns-then-a-b c =
 pub count-requires : goal.count-requires
 count-requires c = record {
   links_lent = c.requires.links_lent;
-  b_value = is-other c.args.s c.args.links.now c.args.a c.args.b c.requires.a_value c.requires.b_value
+  b_value = is-other c.args.s c.args.links.now c.args.a c.args.b c.requires.a_value
+      c.requires.b_value
       c.if-a-b.false;
 }
 

@@ -1,10 +1,7 @@
 -- The turns of mail and of the leader meet their contracts.
-use Rattle.std.proofs.Common.{◌≡◌, ◌+◌, ◌-◌, ◌<◌, ℕ, subst, sym, ◌∙◌, arith}
-use Rattle.until.specs.Turns.{Gone, HandedIs}
-use Rattle.until.specs.declared.turns.Handed.{Handed}
-use Rattle.until.specs.declared.turns.Went.{Went}
+use Rattle.std.proofs.Common.{◌<◌, arith}
 use Rattle.until.proofs.GoneLaws.{ends-none, played, stopped, nothing, ran_then}
-use Rattle.until.proofs.GoneLaws.{by-leader, leads-to, handed-fewer}
+use Rattle.until.proofs.GoneLaws.{by-leader, leads-to}
 use Rattle.until.proofs.turns.+leader_turns_mail_turns.Goals as goal
 
 -- ---- the leader's turns

@@ -47,7 +47,14 @@ returns-in-Nothing c = none (goal.at.returns-in-Nothing c).After-take c.in-Nothi
 
 pub overflow_add-u : goal.overflow_add-u
 overflow_add-u c =
-    record { fits = omega (arith, c.loop-l.invariant.sum, c.requires.used_bound, c.loop-l-test.true) }
+    record {
+      fits = omega (
+        arith,
+        c.loop-l.invariant.sum,
+        c.requires.used_bound,
+        c.loop-l-test.true,
+      );
+    }
 
 pub loop-l-preserved : goal.loop-l-preserved
 loop-l-preserved c = more (goal.at.loop-l-preserved c).After-take c.in-Played.is
@@ -66,10 +73,12 @@ pub take-requires : goal.take-requires
 take-requires c = c.loop-l.invariant.form
 
 pub shape_of-site-in-Nothing : goal.shape_of-site-in-Nothing
-shape_of-site-in-Nothing c = (none (goal.at.shape_of-site-in-Nothing c).After-take c.in-Nothing.is).0.site-words
+shape_of-site-in-Nothing c =
+    (none (goal.at.shape_of-site-in-Nothing c).After-take c.in-Nothing.is).0.site-words
 
 pub shape_of-links-in-Nothing : goal.shape_of-links-in-Nothing
-shape_of-links-in-Nothing c = (none (goal.at.shape_of-links-in-Nothing c).After-take c.in-Nothing.is).0.links-words
+shape_of-links-in-Nothing c =
+    (none (goal.at.shape_of-links-in-Nothing c).After-take c.in-Nothing.is).0.links-words
 
 pub overflow_sub-l : goal.overflow_sub-l
 overflow_sub-l c = omega arith

@@ -1,5 +1,4 @@
 -- The run has gone on from where the loop began.
-use Prim.Native.Nat.{◌-◌}
 use Rattle.until.specs.Turns.{Gone}
 use Rattle.until.proofs.turns.hand_over.Given as goal
 
