@@ -9,6 +9,6 @@ returns c =
       c.first_of-2.ensures,
       c.first_of.ensures,
       c.is_readable-readable.ensures,
-      c.fits2.ensures,
+      c.fits-fit.ensures,
       c.one_more-k.ensures,
     )
