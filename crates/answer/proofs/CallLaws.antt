@@ -31,7 +31,7 @@ use Rattle.answer.specs.declared.reply.Reply.{Reply}
 use Rattle.answer.specs.declared.call.Came.{Came}
 use Rattle.answer.specs.declared.tell.Told.{Told}
 use Rattle.answer.specs.Replies.{served, outcome_of, unchanged}
-use Rattle.answer.specs.Calls.{refusal, Holds, fits, no_room, Comes, unserved, none}
+use Rattle.answer.specs.Calls.{refusal, Holds, Fits, fits, no_room, Comes, unserved, none}
 use Rattle.answer.specs.Calls.{few_words, some, no-sizes, no_words, made, front, CallIs}
 use Rattle.answer.specs.Calls.{too_long, called, FreshIs, comes, Serves, PutIs, put, not-put}
 use Rattle.answer.specs.Calls.{within, image_in}
@@ -156,13 +156,17 @@ data Left (after : List ℕ) (m : ℕ) : Came → Type 0 where
   answered : {a : Reply} → length after ≤ m → Left after m (Came.Answered a (length after))
   shorter : length after ≤ m → Left after m Came.Short
 
+left-fits : {a : Reply} {im old after : List ℕ} {m : ℕ} {c : Came} → Fits a im old m c after
+    → length old ≤ m → Left after m c
+left-fits (fits e) h = answered e
+left-fits (no_room e) h = shorter h
+
 left : {im xs ls after : List ℕ} {l : Ask} {m : ℕ} {c : Came} → Comes im l xs ls m c after
     → length im ≤ m → Left after m c
 left (unserved s) h = answered h
 left (none s n) h = answered h
 left (few_words s t f i w) h = shorter h
-left (some s t k w (fits e)) h = answered e
-left (some s t k w (no_room e)) h = shorter h
+left (some s t k w f) h = left-fits f h
 
 left-within : {after : List ℕ} (o : List ℕ) {c : Came} → Left after (length o) c
     → within (length (front after o)) c × (length (front after o) ≡ length o)
