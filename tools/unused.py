@@ -16,8 +16,8 @@ for path in [a for a in sys.argv[1:] if a != '-w']:
         kept = []
         for n in names:
             own = n.split(' as ')[-1].strip()
-            parts = [p for p in own.split('_') if p]
-            used = own in words or ('_' in own and all(p in words for p in parts))
+            signs = [p for p in own.split('◌') if p]
+            used = own in words or ('◌' in own and all(p in words for p in signs))
             if used:
                 kept.append(n)
             else:
