@@ -16,8 +16,8 @@ for path in [a for a in sys.argv[1:] if a != '-w']:
         kept = []
         for n in names:
             own = n.split(' as ')[-1].strip()
-            signs = [p for p in own.split('◌') if p]
-            used = own in words or ('◌' in own and all(p in words for p in signs))
+            parts = [p for p in own.split('◌') if p]
+            used = own in words or ('◌' in own and all(p in words for p in parts)) or own == '[]' and '[]' in rest
             if used:
                 kept.append(n)
             else:

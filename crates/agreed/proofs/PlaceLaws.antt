@@ -141,7 +141,8 @@ module _ (xs ls : List ℕ) (c : ℕ) where
   unfolding records_on
   no-form f = sym (pick-false _ _ _ f)
 
-  not-a-box : memory_form xs ls ≡ true → is_box (get_or xs n_at 0) c ≡ false → [] ≡ records_on xs ls c
+  not-a-box : memory_form xs ls ≡ true → is_box (get_or xs n_at 0) c ≡ false
+      → [] ≡ records_on xs ls c
   unfolding records_on
   not-a-box f b = sym (pick_true _ _ _ f ∙ pick-false _ _ _ b)
 

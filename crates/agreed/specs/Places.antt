@@ -8,7 +8,9 @@ pub record Places : Type 0 where
   -- the part that `agreed_at` names is what `agreed_records` hands out, whatever the words are
   pub handed_out : (xs ls : List ℕ) (c : ℕ) → named xs (agreed_on xs ls c) ≡ records_on xs ls c
   -- of a box it is all of its agreed records, a number each
-  pub of-box : (xs ls : List ℕ) (c : ℕ) → memory_form xs ls ≡ true → is_box (get_or xs n_at 0) c ≡ true
+  pub of-box : (xs ls : List ℕ) (c : ℕ) → memory_form xs ls ≡ true
+      → is_box (get_or xs n_at 0) c ≡ true
       → records_on xs ls c ≡ agreed_records (box_at xs ls c)
   pub as_many : (xs ls : List ℕ) (c : ℕ) → memory_form xs ls ≡ true
-      → is_box (get_or xs n_at 0) c ≡ true → length (records_on xs ls c) ≡ agreed_count (box_at xs ls c)
+      → is_box (get_or xs n_at 0) c ≡ true → length (records_on xs ls c)
+      ≡ agreed_count (box_at xs ls c)

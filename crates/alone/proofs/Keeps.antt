@@ -80,7 +80,8 @@ module _ (n J L : ℕ) (sizes : sizes_form n J L ≡ true) where
     -- what it answers where it is asked
     module _ (b : ℕ) (h : In b n) (k left right : ℕ) where
       abbrev says : Box → Answer
-      says x = ruled Answer.Refused (need Refusal.Untrue (agreed_as x k left right) ∷ []) Answer.Done
+      says x = ruled Answer.Refused (need Refusal.Untrue (agreed_as x k left right)
+          ∷ []) Answer.Done
 
       row-says : asked y b k left right ≡ says (y.box b).row
       unfolding own_holds form_own

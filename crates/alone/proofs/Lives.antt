@@ -192,7 +192,8 @@ module _ (n J L : ℕ) (sizes : sizes_form n J L ≡ true) where
     still-told Answer.Taken base c o = λ e.
         upd-all (λ b x. In b y.n → x.epoch ≡ y.epoch) y.box c (all e c) (all e)
 
-    run-told : (base : Links) (c : ℕ) (o : OwnOutcome) → Everyone (carried y (with_links y base) c o)
+    run-told : (base : Links) (c : ℕ) (o : OwnOutcome)
+        → Everyone (carried y (with_links y base) c o)
     run-told base c o = still-told (answered (with_links y base) c o) base c o
 
     none-there : (a b : ℕ) → (delivered s a b []).next ≡ s

@@ -24,14 +24,14 @@ use Rattle.rules.specs.Steps.{elected}
 use Rattle.rules.specs.Answers.{is_refusal}
 use Rattle.rules.specs.Step.{refused, by_answer, acting, delivered, elect, did, step, holds}
 use Rattle.laws.proofs.Types.{Act, Answer, Call, Out, Refusal, Setting, Turn}
-use Rattle.laws.proofs.Logic.{In, left, right, Passed, eqb_yes, cond_elim, pick_elim}
+use Rattle.laws.proofs.Logic.{In, Passed, eqb_yes, cond_elim, pick_elim}
 use Rattle.laws.proofs.Logic.{every_made, made, none, ◌&◌, All-head}
 use Rattle.laws.proofs.Logic.{true≠false, both-no, and_yes, and_both, or_left, passed, every-at}
 use Rattle.laws.proofs.SetLaws.{has-zero}
 use Rattle.laws.proofs.FormLaws.{form-says, sizes-made, box-is, is-link}
 use Rattle.laws.proofs.FormLaws.{letter-made}
 use Rattle.laws.proofs.StepLaws.{mets, by_needs}
-use Rattle.alone.specs.Links.{Links, sent, room_for, held_back, after, joined_by, linked, call_of}
+use Rattle.alone.specs.Links.{Links, room_for, held_back, after, joined_by, linked, call_of}
 
 -- every need is met
 pub ruled-met {ℓ} : {A : Type ℓ} (refuse : Refusal → A) (ks : List Need) (a : A) → Passed (mets ks)
@@ -152,7 +152,8 @@ unfolding form
 epoch-form s f = (passed _ f).1.0
 
 module _ (s : Site) (f : form s ≡ true) (c : ℕ) (box : In c s.n) (e : Event)
-    (letter : form_event (setting s c) e ≡ true) (number : right_numbers (setting s c) e ≡ true) where
+    (letter : form_event (setting s c) e ≡ true) (number : right_numbers (setting s c)
+    e ≡ true) where
   abbrev t : Turn
   t = turn_of (setting s c) (s.box c) e
 

@@ -50,7 +50,8 @@ pub data Taken {n J L : ℕ} : (calls : List Call) (y : Yard) → Lived n J L ca
     before : {calls : List Call} {y z : Yard} {l : Lived n J L calls y} {d : Call} {a : Answer}
         (h : Happens y d a z) {j r : ℕ} → Taken calls y l j r → Taken (d ∷ calls) z (did l h) j r
     before-told : {calls : List Call} {y : Yard} {l : Lived n J L calls y} {b : ℕ} (h : Tells y b)
-        {j r : ℕ} → Taken calls y l j r → Taken calls (with_alone y b (told_of y b)) (told b l h) j r
+        {j r : ℕ} → Taken calls y l j r → Taken calls (with_alone y b (told_of y b))
+        (told b l h) j r
     before-waits : {calls : List Call} {y : Yard} {l : Lived n J L calls y} {b e w : ℕ}
         (i : In b y.n) (h : Waits y b e w) {j r : ℕ} → Taken calls y l j r
         → Taken calls (with_alone y b (waiting y b e w)) (waits b e w l i h) j r

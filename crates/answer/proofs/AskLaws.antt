@@ -8,7 +8,7 @@ use lib.Dec.{eqb, ltb}
 use lib.ListN.{length, take, drop, get_or, length-append, length-drop}
 use lib.Seq.{take-length, take_all, take-append_seam, drop-append-add, split_at}
 use borrow.Author.Tests.{eqb-true, eq-eqb, ne_eqb, ltb-false}
-use Rattle.bytes.specs.Bytes.{slice, index_after, index_of}
+use Rattle.scan.specs.Bytes.{slice, index_after, index_of}
 use Rattle.rules.specs.Pick.{pick_true, pick-false}
 use Rattle.laws.proofs.Logic.{both-no}
 use Rattle.hexed.specs.Hex.{hex_of, smalls, Bytes, HexIs, read, long, bad}

@@ -74,7 +74,7 @@ fn read_find(text: &[u8]) -> Ask
     if (n < 5) | (64 < n) {
         return Ask::Line(Line::Unreadable);
     }
-    let e = bytes::scan::find(text, 5, n, 32);
+    let e = scan::find(text, 5, n, 32);
     let c = lines::read_one(b"find ", &text[0..e]);
     let left = lines::read_one(b" ", &text[e..n]);
     find_of(c, left)
@@ -110,7 +110,7 @@ pub(crate) fn ask(line: &[u8], image: &mut [u8]) -> Asked
     ensures { AskIs line.now image.old result image.new }
 {
     let n = line.len();
-    let e = bytes::scan::find(line, 0, n, 32);
+    let e = scan::find(line, 0, n, 32);
     if e == n {
         return Asked::Unreadable;
     }

@@ -28,7 +28,7 @@ JobFits (Job.Each steps) = Unit {0}
 abbrev pub FilledIn : ℕ → Filled → Type 0
 FilledIn m (Filled.Whole k) = k ≤ m
 FilledIn m Filled.Full = Unit {0}
-FilledIn m Filled.Failed = Unit {0}
+FilledIn m (Filled.Failed e) = Unit {0}
 
 -- where larger buffers are asked for, with n bytes of an image, P n
 abbrev pub OnLarger : (ℕ → Type 0) → Done → Type 0

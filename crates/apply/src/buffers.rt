@@ -7,6 +7,7 @@ ghost use Rattle.apply.specs.Room.{JobFits};
 use crate::run::Run;
 use crate::{each, pieces, raw};
 use answer::reply::Ask;
+use streams::Streams;
 
 // Images of 128 KiB, and the links of most sites.
 const IMAGE: usize = 131072;
@@ -67,7 +68,8 @@ fn all_links() -> [u64; ALL_LINKS] {
     [0u64; ALL_LINKS]
 }
 
-fn lines_large(
+fn lines_large<S: Streams>(
+    rt: &S,
     run: Run,
     front: &[u8],
     rest: &[u8],
@@ -80,41 +82,41 @@ fn lines_large(
     let mut line = longest_line();
     let mut out = longest_out();
     pieces::serve_rest(
-        run, front, rest, &mut line, image, LONGEST, site, links, &mut out,
+        rt, run, front, rest, &mut line, image, LONGEST, site, links, &mut out,
     )
 }
 
 // front: what is there of the line, or of the image; text: the rest of the piece, or the call.
 // Lines and calls enter here alike: a compiler that merges the frame of a function that is called
 // once into its caller's does not merge this one.
-pub(crate) fn serve_large(job: Job, front: &[u8], text: &[u8]) -> u8
+pub(crate) fn serve_large<S: Streams>(rt: &S, job: Job, front: &[u8], text: &[u8]) -> u8
     requires { JobFits job }
 {
     let mut image = longer_image();
     let mut site = [0u64; SITE];
     let mut links = all_links();
     match job {
-        Job::Lines(run) => lines_large(run, front, text, &mut image, &mut site, &mut links),
-        Job::Call(l) => raw::call_rest(l, front, text, &mut image, &mut site, &mut links),
-        Job::Each(steps) => each::run_each(steps, text, &mut image, &mut site, &mut links),
+        Job::Lines(run) => lines_large(rt, run, front, text, &mut image, &mut site, &mut links),
+        Job::Call(l) => raw::call_rest(rt, l, front, text, &mut image, &mut site, &mut links),
+        Job::Each(steps) => each::run_each(rt, steps, text, &mut image, &mut site, &mut links),
     }
 }
 
-fn lines_small(image: &mut [u8], site: &mut [u64], links: &mut [u64]) -> u8 {
+fn lines_small<S: Streams>(rt: &S, image: &mut [u8], site: &mut [u64], links: &mut [u64]) -> u8 {
     let mut line = [0u8; LINE];
     let mut out = [0u8; OUT];
-    pieces::serve_lines(&mut line, image, site, links, &mut out)
+    pieces::serve_lines(rt, &mut line, image, site, links, &mut out)
 }
 
-pub(crate) fn serve() -> u8 {
+pub(crate) fn serve<S: Streams>(rt: &S) -> u8 {
     let mut image = [0u8; IMAGE];
     let mut site = [0u64; SITE];
     let mut links = [0u64; LINKS];
-    if streams::has_argument(2, b"call") {
-        return raw::serve_call(&mut image, &mut site, &mut links);
+    if streams::has_argument(rt, 2, b"call") {
+        return raw::serve_call(rt, &mut image, &mut site, &mut links);
     }
-    if streams::has_argument(2, b"each") {
-        return each::serve_each();
+    if streams::has_argument(rt, 2, b"each") {
+        return each::serve_each(rt);
     }
-    lines_small(&mut image, &mut site, &mut links)
+    lines_small(rt, &mut image, &mut site, &mut links)
 }

@@ -7,15 +7,16 @@ use crate::buffers::Job;
 use crate::raw::Filled;
 use crate::run::least;
 use crate::{buffers, ran, raw};
-use libc::STDOUT_FILENO;
 use lines::One;
 use rules::model::{Answer, Call, Refusal};
 use rules::numbers;
+use std::io::{Error, Result};
+use streams::Streams;
 use wait::model::{Next, Run};
 use wording::Place;
 use writer::Written;
 
-const IMAGE_FILENO: i32 = 4;
+const IMAGE: &str = "/proc/self/fd/4";
 
 const TEXT: usize = 128;
 
@@ -57,10 +58,10 @@ fn put_step(out: &mut [u8], d: Call) -> usize
     }
 }
 
-fn tell_step(d: Call) -> bool {
+fn tell_step<S: Streams>(rt: &S, d: Call) -> Result<()> {
     let mut out = [0u8; 64];
     let n = put_step(&mut out, d);
-    streams::send(STDOUT_FILENO, &out[0..n])
+    streams::write_output(rt, &out[0..n])
 }
 
 // What came of one step, or that it could not be told.
@@ -69,19 +70,19 @@ pub enum Step {
     Done,
     Over,
     Ended(Run),
-    Untold,
+    Untold(Error),
 }
 
 // The next step, after so many that were used.
-fn take(used: u32, site: &mut [u64], links: &mut [u64]) -> Step {
+fn take<S: Streams>(rt: &S, used: u32, site: &mut [u64], links: &mut [u64]) -> Step {
     match until::next_turn(site, links) {
         Next::Nothing => Step::Over,
         Next::Turn(d) => match until::run(site, links, 1) {
             Run::Ran(_) => {
-                if tell_step(d) {
-                    return Step::Done;
+                if let Err(error) = tell_step(rt, d) {
+                    return Step::Untold(error);
                 }
-                Step::Untold
+                Step::Done
             }
             Run::Stopped(why, _) => Step::Ended(Run::Stopped(why, used)),
             Run::Refused(why) => Step::Ended(Run::Refused(why)),
@@ -90,82 +91,109 @@ fn take(used: u32, site: &mut [u64], links: &mut [u64]) -> Step {
 }
 
 // At most so many steps, each told.
-fn take_each(steps: u32, site: &mut [u64], links: &mut [u64]) -> Step {
+fn take_each<S: Streams>(rt: &S, steps: u32, site: &mut [u64], links: &mut [u64]) -> Result<Run> {
     let mut used = 0;
     while used < steps {
-        match take(used, site, links) {
+        match take(rt, used, site, links) {
             Step::Done => used += 1,
-            Step::Over => return Step::Ended(Run::Ran(used)),
-            Step::Ended(r) => return Step::Ended(r),
-            Step::Untold => return Step::Untold,
+            Step::Over => return Ok(Run::Ran(used)),
+            Step::Ended(r) => return Ok(r),
+            Step::Untold(error) => return Err(error),
         }
     }
-    Step::Ended(Run::Ran(used))
+    Ok(Run::Ran(used))
+}
+
+fn send<S: Streams>(rt: &S, to: Result<S::File>, image: &[u8]) -> Result<()> {
+    let mut file = to?;
+    streams::send(rt, &mut file, image)
 }
 
 // The image after the run; what is lent has room for that of any site.
-fn send_image(image: &mut [u8], site: &[u64], links: &[u64]) -> u8 {
+fn send_image<S: Streams>(
+    rt: &S,
+    to: Result<S::File>,
+    image: &mut [u8],
+    site: &[u64],
+    links: &[u64],
+) -> u8 {
     match writer::write(site, links, image) {
         Written::Length(n) => {
             let n = least(n, image.len());
-            if streams::send(IMAGE_FILENO, &image[0..n]) {
-                return 0;
+            if let Err(error) = send(rt, to, &image[0..n]) {
+                streams::fail(rt, b"apply: the image", error);
+                return 3;
             }
-            os::fail(b"apply: the image");
-            3
+            0
         }
         Written::Refused(_) => 1,
     }
 }
 
-fn untold() -> u8 {
-    os::fail(b"apply: standard output");
+fn untold<S: Streams>(rt: &S, error: Error) -> u8 {
+    streams::fail(rt, b"apply: standard output", error);
     3
 }
 
 // The call is refused: no step, and no image.
-fn refuse(why: Refusal, text: &[u8]) -> u8 {
-    if !ran::tell(Run::Refused(why)) {
-        return untold();
+fn refuse<S: Streams>(rt: &S, why: Refusal, text: &[u8]) -> u8 {
+    if let Err(error) = ran::tell(rt, Run::Refused(why)) {
+        return untold(rt, error);
     }
     let n = numbers::answer_number(Answer::Refused(why));
-    wording::refuse(b"apply", Place::Alone, text, n as u64, b"");
+    wording::refuse(rt, b"apply", Place::Alone, text, n as u64, b"");
     1
 }
 
-fn end(r: Run, text: &[u8], image: &mut [u8], site: &[u64], links: &[u64]) -> u8 {
+fn end<S: Streams>(
+    rt: &S,
+    to: Result<S::File>,
+    r: Run,
+    text: &[u8],
+    image: &mut [u8],
+    site: &[u64],
+    links: &[u64],
+) -> u8 {
     match r {
-        Run::Refused(why) => refuse(why, text),
+        Run::Refused(why) => refuse(rt, why, text),
         Run::Ran(_) => {
-            if ran::tell(r) {
-                return send_image(image, site, links);
+            if let Err(error) = ran::tell(rt, r) {
+                return untold(rt, error);
             }
-            untold()
+            send_image(rt, to, image, site, links)
         }
         Run::Stopped(_, _) => {
-            if ran::tell(r) {
-                return send_image(image, site, links);
+            if let Err(error) = ran::tell(rt, r) {
+                return untold(rt, error);
             }
-            untold()
+            send_image(rt, to, image, site, links)
         }
     }
 }
 
-fn run_words(steps: u32, text: &[u8], image: &mut [u8], site: &mut [u64], links: &mut [u64]) -> u8 {
+fn run_words<S: Streams>(
+    rt: &S,
+    to: Result<S::File>,
+    steps: u32,
+    text: &[u8],
+    image: &mut [u8],
+    site: &mut [u64],
+    links: &mut [u64],
+) -> u8 {
     match until::run(site, links, 0) {
-        Run::Refused(why) => return refuse(why, text),
+        Run::Refused(why) => return refuse(rt, why, text),
         Run::Ran(_) => {}
         Run::Stopped(_, _) => {}
     }
-    match take_each(steps, site, links) {
-        Step::Ended(r) => end(r, text, image, site, links),
-        Step::Done => untold(),
-        Step::Over => untold(),
-        Step::Untold => untold(),
+    match take_each(rt, steps, site, links) {
+        Ok(r) => end(rt, to, r, text, image, site, links),
+        Err(error) => untold(rt, error),
     }
 }
 
-fn run_image(
+fn run_image<S: Streams>(
+    rt: &S,
+    to: Result<S::File>,
     steps: u32,
     n: usize,
     text: &[u8],
@@ -176,39 +204,42 @@ fn run_image(
     let n = least(n, image.len());
     let a = reader::read(&image[0..n], site, links);
     if numbers::answer_number(a) != 0 {
-        return refuse(Refusal::Form, text);
+        return refuse(rt, Refusal::Form, text);
     }
-    run_words(steps, text, image, site, links)
+    run_words(rt, to, steps, text, image, site, links)
 }
 
-// In the larger set: on the image of standard input.
-pub(crate) fn run_each(
+// In the larger set: on the image of standard input. Descriptor 4 is opened before that is read:
+// the reader of a pipe may be gone at the end.
+pub(crate) fn run_each<S: Streams>(
+    rt: &S,
     steps: u32,
     text: &[u8],
     image: &mut [u8],
     site: &mut [u64],
     links: &mut [u64],
 ) -> u8 {
-    match raw::fill(image, 0) {
-        Filled::Whole(n) => run_image(steps, n, text, image, site, links),
-        Filled::Full => refuse(Refusal::Form, text),
-        Filled::Failed => {
-            os::fail(b"apply: standard input");
+    let to = streams::open_to_write(rt, IMAGE);
+    match raw::fill(rt, image, 0) {
+        Filled::Whole(n) => run_image(rt, to, steps, n, text, image, site, links),
+        Filled::Full => refuse(rt, Refusal::Form, text),
+        Filled::Failed(error) => {
+            streams::fail(rt, b"apply: standard input", error);
             3
         }
     }
 }
 
-fn each_text(text: &[u8]) -> u8 {
+fn each_text<S: Streams>(rt: &S, text: &[u8]) -> u8 {
     match lines::read_one(b"run ", text) {
-        One::Number(steps) => buffers::serve_large(Job::Each(steps), b"", text),
-        One::Unreadable => refuse(Refusal::Line, text),
+        One::Number(steps) => buffers::serve_large(rt, Job::Each(steps), b"", text),
+        One::Unreadable => refuse(rt, Refusal::Line, text),
     }
 }
 
 // Argument 3 is `run` and the number of steps.
-pub(crate) fn serve_each() -> u8 {
+pub(crate) fn serve_each<S: Streams>(rt: &S) -> u8 {
     let mut text = [0u8; TEXT];
-    let n = raw::call_text(&mut text);
-    each_text(&text[0..n])
+    let n = raw::call_text(rt, &mut text);
+    each_text(rt, &text[0..n])
 }

@@ -8,59 +8,61 @@ ghost use Rattle.apply.specs.Room.{Room};
 use crate::refused;
 use crate::run::{Run, Stage, least};
 use answer::tell::Told;
-use libc::STDOUT_FILENO;
+use std::io::Error;
+use streams::Streams;
 use wording::number;
 
 // Where a write fails the run is over.
-fn failed(run: Run) -> Run {
-    os::fail(b"apply: standard output");
+fn failed<S: Streams>(rt: &S, run: Run, error: Error) -> Run {
+    streams::fail(rt, b"apply: standard output", error);
     run.with_stage(Stage::Failed)
 }
 
-fn tell(line: &[u8], answer: &[u8], run: Run) -> Run {
-    if !streams::send(STDOUT_FILENO, answer) {
-        return failed(run);
+fn tell<S: Streams>(rt: &S, line: &[u8], answer: &[u8], run: Run) -> Run {
+    if let Err(error) = streams::write_output(rt, answer) {
+        return failed(rt, run, error);
     }
     if !lines::starts(b"refused", answer) {
         return run.with_line(false);
     }
-    refused::say_refused(line, number::code(answer), run.number());
+    refused::say_refused(rt, line, number::code(answer), run.number());
     run.with_line(true)
 }
 
 // A line whose image is longer than any site's: the rules say 1.
-fn refuse_image(line: &[u8], run: Run) -> Run
+fn refuse_image<S: Streams>(rt: &S, line: &[u8], run: Run) -> Run
     requires { TooLong line.now }
 {
-    if !streams::send(STDOUT_FILENO, b"refused 1\n") {
-        return failed(run);
+    if let Err(error) = streams::write_output(rt, b"refused 1\n") {
+        return failed(rt, run, error);
     }
-    refused::say_long_line(line, 1, run.number());
+    refused::say_long_line(rt, line, 1, run.number());
     run.with_line(true)
 }
 
 // A line that is longer than any with a site's image: it is not read further.
-pub(crate) fn refuse_long(line: &[u8], run: Run) -> Run
+pub(crate) fn refuse_long<S: Streams>(rt: &S, line: &[u8], run: Run) -> Run
     requires { held_for longest_of_all ≤ length line.now }
 {
-    if !streams::send(STDOUT_FILENO, b"refused 11\n") {
-        return failed(run);
+    if let Err(error) = streams::write_output(rt, b"refused 11\n") {
+        return failed(rt, run, error);
     }
-    refused::say_long_line(line, 11, run.number());
+    refused::say_long_line(rt, line, 11, run.number());
     run.with_line(true)
 }
 
 // The last bytes of the input are no line where no newline ended them.
-pub(crate) fn refuse_unended(line: &[u8], run: Run) -> Run {
-    if !streams::send(STDOUT_FILENO, b"refused 11\n") {
-        return failed(run);
+pub(crate) fn refuse_unended<S: Streams>(rt: &S, line: &[u8], run: Run) -> Run {
+    if let Err(error) = streams::write_output(rt, b"refused 11\n") {
+        return failed(rt, run, error);
     }
-    refused::say_unreadable(line, false, run.number());
+    refused::say_unreadable(rt, line, false, run.number());
     run.with_line(true).with_stage(Stage::Ended)
 }
 
 // last: there are no larger buffers.
-pub(crate) fn answer_line(
+pub(crate) fn answer_line<S: Streams>(
+    rt: &S,
     line: &[u8],
     last: bool,
     run: Run,
@@ -76,11 +78,11 @@ pub(crate) fn answer_line(
     match t {
         Told::Length(n) => {
             let k = least(n, out.len());
-            tell(line, &out[0..k], run)
+            tell(rt, line, &out[0..k], run)
         }
         Told::Short => {
             if last {
-                return refuse_image(line, run);
+                return refuse_image(rt, line, run);
             }
             run.with_stage(Stage::Larger)
         }

@@ -6,13 +6,14 @@ use crate::buffers::Job;
 use crate::run::{Run, Stage, least};
 use crate::{buffers, line};
 use answer::hold;
-use libc::STDIN_FILENO;
-use streams::Got;
+use std::io::Error;
+use streams::{Got, Streams};
 
 const PIECE: usize = 65536;
 
 // The line that is held has ended. One that fills its buffer is not held whole.
-fn end_line(
+fn end_line<S: Streams>(
+    rt: &S,
     line: &[u8],
     held: usize,
     last: bool,
@@ -28,14 +29,15 @@ fn end_line(
         (length out.old) }
 {
     if last & (line.len() <= held) {
-        return line::refuse_long(line, run);
+        return line::refuse_long(rt, line, run);
     }
-    line::answer_line(&line[0..held], last, run, image, site, links, out)
+    line::answer_line(rt, &line[0..held], last, run, image, site, links, out)
 }
 
 // The next part of a line, which ends there or not. What is held stays where larger buffers have to
 // go on.
-fn take_part(
+fn take_part<S: Streams>(
+    rt: &S,
     part: &[u8],
     ended: bool,
     last: bool,
@@ -58,11 +60,12 @@ fn take_part(
     if !ended {
         return run.with_held(n);
     }
-    end_line(line, n, last, run, image, site, links, out)
+    end_line(rt, line, n, last, run, image, site, links, out)
 }
 
 // Answers the lines that end in piece.
-fn take_piece(
+fn take_piece<S: Streams>(
+    rt: &S,
     piece: &[u8],
     last: bool,
     run: Run,
@@ -80,8 +83,19 @@ fn take_piece(
     let mut r = run;
     let mut i = 0;
     while i < n {
-        let e = bytes::scan::find(piece, i, n, 10);
-        r = take_part(&piece[i..e], e < n, last, r, line, image, site, links, out);
+        let e = scan::find(piece, i, n, 10);
+        r = take_part(
+            rt,
+            &piece[i..e],
+            e < n,
+            last,
+            r,
+            line,
+            image,
+            site,
+            links,
+            out,
+        );
         if !r.goes_on() {
             return r.with_rest(i, n);
         }
@@ -91,20 +105,21 @@ fn take_piece(
 }
 
 // The input has ended.
-fn end(line: &[u8], run: Run) -> Run {
+fn end<S: Streams>(rt: &S, line: &[u8], run: Run) -> Run {
     let n = least(run.held, line.len());
     if n == 0 {
         return run.with_stage(Stage::Ended);
     }
-    line::refuse_unended(&line[0..n], run)
+    line::refuse_unended(rt, &line[0..n], run)
 }
 
-fn failed(run: Run) -> Run {
-    os::fail(b"apply: standard input");
+fn failed<S: Streams>(rt: &S, run: Run, error: Error) -> Run {
+    streams::fail(rt, b"apply: standard input", error);
     run.with_stage(Stage::Failed)
 }
 
-fn read_piece(
+fn read_piece<S: Streams>(
+    rt: &S,
     piece: &mut [u8],
     last: bool,
     run: Run,
@@ -118,16 +133,17 @@ fn read_piece(
     requires room { Room last (length image.old) (length site.old) (length links.old)
         (length out.old) }
 {
-    match streams::receive(STDIN_FILENO, piece) {
-        Got::Bytes(n) => take_piece(&piece[0..n], last, run, line, image, site, links, out),
-        Got::End => end(line, run),
-        Got::Failed => failed(run),
+    match streams::read_input(rt, piece) {
+        Got::Bytes(n) => take_piece(rt, &piece[0..n], last, run, line, image, site, links, out),
+        Got::End => end(rt, line, run),
+        Got::Failed(error) => failed(rt, run, error),
     }
 }
 
 // Reads to the end of the input. A proved loop has to end, and nothing says that an input does: so
 // the reads are counted down from a number that no run uses up.
-fn serve(
+fn serve<S: Streams>(
+    rt: &S,
     piece: &mut [u8],
     last: bool,
     run: Run,
@@ -144,7 +160,7 @@ fn serve(
     let mut r = run;
     let mut turns = u64::MAX;
     while turns > 0 {
-        r = read_piece(piece, last, r, line, image, site, links, out);
+        r = read_piece(rt, piece, last, r, line, image, site, links, out);
         if !r.goes_on() {
             return r;
         }
@@ -154,7 +170,8 @@ fn serve(
 }
 
 // Begins with the piece rest, if any, and goes on to the end of the input.
-fn serve_from(
+fn serve_from<S: Streams>(
+    rt: &S,
     rest: &[u8],
     last: bool,
     run: Run,
@@ -169,16 +186,17 @@ fn serve_from(
     requires room { Room last (length image.old) (length site.old) (length links.old)
         (length out.old) }
 {
-    let r = take_piece(rest, last, run, line, image, site, links, out);
+    let r = take_piece(rt, rest, last, run, line, image, site, links, out);
     if !r.goes_on() {
         return r;
     }
-    serve(piece, last, r, line, image, site, links, out)
+    serve(rt, piece, last, r, line, image, site, links, out)
 }
 
 // Goes on in the larger set, with what was held of a line, and the rest of a piece. Images are of
 // at most `most` bytes.
-pub(crate) fn serve_rest(
+pub(crate) fn serve_rest<S: Streams>(
+    rt: &S,
     run: Run,
     front: &[u8],
     rest: &[u8],
@@ -197,6 +215,7 @@ pub(crate) fn serve_rest(
     let n = hold::hold(line, 0, front);
     let r = run.with_held(n);
     let r = serve_from(
+        rt,
         rest,
         true,
         r,
@@ -211,17 +230,18 @@ pub(crate) fn serve_rest(
 }
 
 // Where a line does not fit the larger set goes on.
-fn finish(run: Run, piece: &[u8], line: &[u8]) -> u8 {
+fn finish<S: Streams>(rt: &S, run: Run, piece: &[u8], line: &[u8]) -> u8 {
     if !run.is_too_large() {
         return run.status();
     }
     let n = least(run.held, line.len());
     let end = least(run.end, piece.len());
     let at = least(run.at, end);
-    buffers::serve_large(Job::Lines(run), &line[0..n], &piece[at..end])
+    buffers::serve_large(rt, Job::Lines(run), &line[0..n], &piece[at..end])
 }
 
-pub(crate) fn serve_lines(
+pub(crate) fn serve_lines<S: Streams>(
+    rt: &S,
     line: &mut [u8],
     image: &mut [u8],
     site: &mut [u64],
@@ -230,6 +250,7 @@ pub(crate) fn serve_lines(
 ) -> u8 {
     let mut piece = [0u8; PIECE];
     let r = serve(
+        rt,
         &mut piece,
         false,
         Run::start(),
@@ -239,5 +260,5 @@ pub(crate) fn serve_lines(
         links,
         out,
     );
-    finish(r, &piece, line)
+    finish(rt, r, &piece, line)
 }

@@ -1,9 +1,10 @@
 // What a run did, in words: `ran USED`, `stopped N USED` or `refused N`.
 ghost use Rattle.std.specs.Prelude.{◌≤◌, length};
 
-use libc::STDOUT_FILENO;
 use rules::model::{Answer, Refusal};
 use rules::numbers;
+use std::io::Result;
+use streams::Streams;
 use wait::model::Run;
 
 fn put_number(out: &mut [u8], word: &[u8], x: u64) -> usize
@@ -41,15 +42,16 @@ fn put(out: &mut [u8], r: Run) -> usize
 }
 
 // To standard error.
-pub(crate) fn say(r: Run) {
+pub(crate) fn say<S: Streams>(rt: &S, r: Run) {
     let mut words = [0u8; 64];
     let n = put(&mut words, r);
-    wording::say(b"apply", &words[0..n]);
+    wording::say(rt, b"apply", &words[0..n]);
 }
 
-// As a line to standard output; false where the write failed.
-pub(crate) fn tell(r: Run) -> bool {
+// As a line to standard output.
+pub(crate) fn tell<S: Streams>(rt: &S, r: Run) -> Result<()> {
     let mut words = [0u8; 64];
     let n = put(&mut words, r);
-    streams::send(STDOUT_FILENO, &words[0..n]) && streams::send(STDOUT_FILENO, b"\n")
+    streams::write_output(rt, &words[0..n])?;
+    streams::write_output(rt, b"\n")
 }

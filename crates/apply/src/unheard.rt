@@ -9,32 +9,34 @@ use crate::raw::{Done, Filled};
 use answer::unheard;
 use answer::unheard::Seen;
 use rules::model::{Answer, Unheard};
+use streams::Streams;
 
-fn tell_boxes(set: u32, text: &[u8]) -> u8 {
+fn tell_boxes<S: Streams>(rt: &S, set: u32, text: &[u8]) -> u8 {
     let mut out = [0u8; 10];
     let n = unheard::put_boxes(&mut out, set);
-    raw::tell(Answer::Done, &out[0..n], text)
+    raw::tell(rt, Answer::Done, &out[0..n], text)
 }
 
-fn tell(u: Unheard, text: &[u8]) -> u8 {
+fn tell<S: Streams>(rt: &S, u: Unheard, text: &[u8]) -> u8 {
     match u {
-        Unheard::Boxes(set) => tell_boxes(set, text),
-        Unheard::Refused(why) => raw::tell(Answer::Refused(why), b"", text),
+        Unheard::Boxes(set) => tell_boxes(rt, set, text),
+        Unheard::Refused(why) => raw::tell(rt, Answer::Refused(why), b"", text),
     }
 }
 
 // What is said, by an image of n bytes.
-fn come(s: Seen, n: usize, text: &[u8]) -> Done
+fn come<S: Streams>(rt: &S, s: Seen, n: usize, text: &[u8]) -> Done
     ensures { OnLarger (λ k. (k ≡ n) × (s ≡ Seen.Short)) result }
 {
     match s {
-        Seen::Said(u) => Done::Status(tell(u, text)),
+        Seen::Said(u) => Done::Status(tell(rt, u, text)),
         Seen::Short => Done::Larger(n),
     }
 }
 
 // Of the image of standard input, of which there are n bytes already.
-pub(crate) fn ask_of_input(
+pub(crate) fn ask_of_input<S: Streams>(
+    rt: &S,
     c: u32,
     n: usize,
     text: &[u8],
@@ -45,12 +47,12 @@ pub(crate) fn ask_of_input(
     ensures { OnLarger (λ k. Ample (length image.old) (length site.old)
         (length links.old) → k ≡ length image.old) result }
 {
-    match raw::fill(image, n) {
+    match raw::fill(rt, image, n) {
         Filled::Whole(k) => {
             let s = unheard::unheard_on_image(c, &image[0..k], site, links);
-            come(s, k, text)
+            come(rt, s, k, text)
         }
         Filled::Full => Done::Larger(image.len()),
-        Filled::Failed => raw::failed(),
+        Filled::Failed(error) => raw::failed(rt, error),
     }
 }

@@ -8,7 +8,8 @@ use native.Mathlib.Numerals.{add-one}
 use native.Mathlib.Omega.{arith}
 use mathlib.Core.List.{List, [], ◌∷◌, ◌++◌}
 use lib.Dec.{leb, ltb}
-use lib.ListN.{length, take, drop, get_or, replicate, length-append, length-replicate, get_or-replicate}
+use lib.ListN.{length, take, drop, get_or, replicate, length-append, length-replicate}
+use lib.ListN.{get_or-replicate}
 use lib.Seq.{take_at, drop_at, drop-drop}
 use lib.Seq.{ext_get_or, take-suc, take_all, length-take-le, take-take, get_or-take}
 use borrow.Author.Tests.{leb-true, leb-false, ltb-true, ltb-false}
@@ -363,7 +364,8 @@ module _ (gs : List Group) (src : List ℕ) (at : ℕ) (w : List ℕ) where
       groups-next = record {
         width = length-splice next.from next.count v d inside n ∙ g.width;
         stands = stands_as
-            (sym (ap (chain (group_bytes now)) step ∙ chain_snoc (group_bytes now) (take i gs) next))
+            (sym (ap (chain (group_bytes now)) step ∙ chain_snoc (group_bytes now)
+            (take i gs) next))
             (stands_seq (stands_as (sym bytes) g.stands)
             (stands_as (sym (ap (cells next.width) new)) r.stands));
         below = subst (All (GroupFits now)) (sym step)

@@ -1,6 +1,7 @@
 -- Words as bytes in groups: so many words from a place on, so many bytes for each. A list of groups
 -- is the layout of a head, said once for whoever writes it, finds it or reads it.
-use Rattle.std.specs.Prelude.{◌≡◌, ℕ, ◌+◌, ◌*◌, ◌^◌, ◌≤◌, ◌<◌, List, [], ◌∷◌, ◌++◌, length, drop, get_or}
+use Rattle.std.specs.Prelude.{◌≡◌, ℕ, ◌+◌, ◌*◌, ◌^◌, ◌≤◌, ◌<◌, List, [], ◌∷◌, ◌++◌, length, drop}
+use Rattle.std.specs.Prelude.{get_or}
 use Rattle.words.specs.Rows.{part, splice}
 use Rattle.cells.specs.Cells.{chain, cells, All, Below, Stands, Read}
 

@@ -22,7 +22,8 @@ pub fn put_headed(
     row: &[u64],
 ) -> usize
     requires cut { Cut 0 (length row.now) (groups_of groups.now) }
-    requires count_in_bounds { (count < length row.now) × (head + get_or row.now count 0 ≤ length row.now) }
+    requires count_in_bounds { (count < length row.now)
+        × (head + get_or row.now count 0 ≤ length row.now) }
     requires room { Room (headed_bytes (groups_of groups.now) head count row.now) out.old at }
     ensures { Wrote (headed_bytes (groups_of groups.now) head count row.now)
         out.old at out.new result }

@@ -1,5 +1,7 @@
 -- The nearest word is the nearest: what was found is near, and nothing that is near goes before it.
-use Rattle.std.proofs.Common.{◌≡◌, ℕ, zero, suc, ◌<◌, ◌≤◌, true, false, not, ◌&&◌, ◌||◌, eqb, ltb, leb, List, [], ◌∷◌, length, get_or, sym, refl, ap, ◌∙◌, arith, ltb-false, ltb-true, eq-eqb, ne_eqb, eqb-true, le-leb, leb-true}
+use Rattle.std.proofs.Common.{◌≡◌, ℕ, zero, suc, ◌<◌, ◌≤◌, true, false, not, ◌&&◌, ◌||◌, eqb, ltb}
+use Rattle.std.proofs.Common.{leb, List, [], ◌∷◌, length, get_or, sym, refl, ap, ◌∙◌, arith}
+use Rattle.std.proofs.Common.{ltb-false, ltb-true, eq-eqb, ne_eqb, eqb-true, le-leb, leb-true}
 use borrow.Author.Tests.{eqb-false}
 use borrow.Author.Tests.{not-true}
 use Rattle.laws.proofs.Logic.{Or, left, right, decide, both-no, and_yes, and_both, or_cases, or_no}
@@ -69,7 +71,8 @@ before-no t w v e =
     let a = ltb-false _ _ p.0 in
     record { least = a; lower = λ q. go q (below p.1 (sym q)) }
   where
-    below : (eqb (apart t (tick_of w)) (apart t (tick_of v)) && ltb (frame_of w) (frame_of v)) ≡ false
+    below : (eqb (apart t (tick_of w)) (apart t (tick_of v)) && ltb (frame_of w) (frame_of v))
+        ≡ false
         → apart t (tick_of w) ≡ apart t (tick_of v) → ltb (frame_of w) (frame_of v) ≡ false
     below n q = go' (decide (ltb (frame_of w) (frame_of v)))
       where

@@ -1,5 +1,6 @@
 -- Both sides: the order of the refusals, and the part that is a side.
-use Rattle.std.proofs.Common.{◌≡◌, ℕ, ◌<◌, ◌≤◌, not, List, length, get_or, sym, refl, ap, ◌∙◌, zero-add, arith, le-ltb, lt-ltb, eq-eqb, ne_eqb}
+use Rattle.std.proofs.Common.{◌≡◌, ℕ, ◌<◌, ◌≤◌, not, List, length, get_or, sym, refl, ap, ◌∙◌}
+use Rattle.std.proofs.Common.{zero-add, arith, le-ltb, lt-ltb, eq-eqb, ne_eqb}
 use Rattle.rules.specs.Pick.{pick_true, pick-false}
 use Rattle.laws.proofs.Logic.{Or, left, right, below?}
 use Rattle.words.specs.Rows.{part, splice}

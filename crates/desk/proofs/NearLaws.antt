@@ -1,5 +1,6 @@
 -- Ticks round the wrap, and the search for the nearest word.
-use Rattle.std.proofs.Common.{◌≡◌, ℕ, ◌+◌, ◌%◌, ◌<◌, ◌≤◌, List, length, get_or, drop, add-one, arith, drop_of_length-le, drop-cons}
+use Rattle.std.proofs.Common.{◌≡◌, ℕ, ◌+◌, ◌%◌, ◌<◌, ◌≤◌, List, length, get_or, drop, add-one}
+use Rattle.std.proofs.Common.{arith, drop_of_length-le, drop-cons}
 use Rattle.desk.specs.Near.{ticks_from, better, nearest_from}
 
 pub ticks_is : (a b r : ℕ) → a < 4294967296 → b < 4294967296 → r < 4294967296

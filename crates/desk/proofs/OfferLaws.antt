@@ -1,5 +1,6 @@
 -- The engine's part of a pairing: the offer to the leader.
-use Rattle.std.proofs.Common.{◌≡◌, ℕ, Bool, true, false, not, List, [], ◌∷◌, sym, refl, ap, ◌∙◌, subst, eq-eqb, ne_eqb}
+use Rattle.std.proofs.Common.{◌≡◌, ℕ, Bool, true, false, not, List, [], ◌∷◌, sym, refl, ap, ◌∙◌}
+use Rattle.std.proofs.Common.{subst, eq-eqb, ne_eqb}
 use Rattle.rules.specs.Box.{own, turn_of}
 use Rattle.rules.specs.Form.{form}
 use Rattle.rules.specs.Needs.{Need, ruled}
@@ -112,7 +113,8 @@ module _ (xs ls : List ℕ) (f g : ℕ) where
 
 -- ---- the ways of `offer_pair` and `pair`; o is what the offer came to
 
-module _ {f g : ℕ} {ws xs ls ys ms : List ℕ} {o : Offered} (chosen : chosen_of f ws ≡ Chosen.Right g)
+module _ {f g : ℕ} {ws xs ls ys ms : List ℕ} {o : Offered} (chosen : chosen_of f ws
+    ≡ Chosen.Right g)
     (after : After (offered_on xs ls f g) xs ls ys ms (answer_by o)) where
   pub pair-accepted : {vs : List ℕ} → o ≡ Offered.Accepted → vs ≡ leaves f g ws
       → PairIs f ws xs ls vs ys ms (Pairing.Paired g)

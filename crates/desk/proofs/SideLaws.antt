@@ -1,5 +1,8 @@
 -- One side, place by place.
-use Rattle.std.proofs.Common.{◌≡◌, ℕ, suc, ◌+◌, ◌*◌, ◌<◌, ◌≤◌, true, false, not, eqb, List, [], ◌∷◌, ◌++◌, length, get_or, take, drop, set, sym, refl, ap, ◌∙◌, add-one, arith, drop_of_length-le, drop-cons, drop-set-lt, le-ltb, lt-ltb, eq-eqb, ne_eqb}
+use Rattle.std.proofs.Common.{◌≡◌, ℕ, suc, ◌+◌, ◌*◌, ◌<◌, ◌≤◌, true, false, not, eqb, List, [], ◌∷◌}
+use Rattle.std.proofs.Common.{◌++◌, length, get_or, take, drop, set, sym, refl, ap, ◌∙◌, add-one}
+use Rattle.std.proofs.Common.{arith, drop_of_length-le, drop-cons, drop-set-lt, le-ltb, lt-ltb}
+use Rattle.std.proofs.Common.{eq-eqb, ne_eqb}
 use Rattle.rules.specs.Pick.{pick_true, pick-false}
 use Rattle.laws.proofs.Logic.{pick_elim}
 use Rattle.words.proofs.WriteLaws.{write_more, write_end}

@@ -1,5 +1,7 @@
 -- What the definitions say of any desk.
-use Rattle.std.proofs.Common.{◌≡◌, ℕ, zero, suc, ◌+◌, ◌<◌, ◌≤◌, true, false, not, eqb, ltb, List, [], ◌∷◌, length, get_or, sym, refl, ap, ◌∙◌, subst, add-one, arith, ltb-false, ltb-true, lt-ltb, eq-eqb, eqb-true}
+use Rattle.std.proofs.Common.{◌≡◌, ℕ, zero, suc, ◌+◌, ◌<◌, ◌≤◌, true, false, not, eqb, ltb, List}
+use Rattle.std.proofs.Common.{[], ◌∷◌, length, get_or, sym, refl, ap, ◌∙◌, subst, add-one, arith}
+use Rattle.std.proofs.Common.{ltb-false, ltb-true, lt-ltb, eq-eqb, eqb-true}
 use borrow.Author.Tests.{eqb-false, not-false}
 use Rattle.rules.specs.Pick.{pick_true}
 use Rattle.laws.proofs.Logic.{Or, left, right, decide, both-no, pick_elim}
@@ -97,7 +99,8 @@ module _ (t : ℕ) (ws : List ℕ) where
       → 40 < apart t u
   none-near z g u w n = go (far_or_near g u w n)
     where
-      go : (i : ℕ) × (i < length ws) × (frame_of (get_or ws i 0) ≡ g) × (tick_of (get_or ws i 0) ≡ u)
+      go : (i : ℕ) × (i < length ws) × (frame_of (get_or ws i 0) ≡ g)
+          × (tick_of (get_or ws i 0) ≡ u)
           × Or (near t (get_or ws i 0) ≡ true) (40 < apart t u) → 40 < apart t u
       go (i, h, a, b, left y) = absurd (both-no y (((nearest-is t ws).nothing z).1 i h))
       go (i, h, a, b, right y) = y
@@ -127,7 +130,8 @@ module _ (t : ℕ) (ws : List ℕ) where
         × (apart t (tick_of (nearest_of t ws)) ≡ apart t v → frame_of (nearest_of t ws) ≤ h)
     first h v w k = go (far_or_near h v w k)
       where
-        go : (i : ℕ) × (i < length ws) × (frame_of (get_or ws i 0) ≡ h) × (tick_of (get_or ws i 0) ≡ v)
+        go : (i : ℕ) × (i < length ws) × (frame_of (get_or ws i 0) ≡ h)
+            × (tick_of (get_or ws i 0) ≡ v)
             × Or (near t (get_or ws i 0) ≡ true) (40 < apart t v)
             → (apart t (tick_of (nearest_of t ws)) ≤ apart t v)
             × (apart t (tick_of (nearest_of t ws)) ≡ apart t v → frame_of (nearest_of t ws) ≤ h)

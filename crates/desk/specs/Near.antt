@@ -1,5 +1,6 @@
 -- How far two ticks are apart, and the waiting right frame that is nearest to a tick (Q-13).
-use Rattle.std.specs.Prelude.{ℕ, ◌+◌, ◌-◌, ◌%◌, min, Bool, not, ◌&&◌, ◌||◌, List, [], ◌∷◌, ◌==◌, nat_le, nat_lt}
+use Rattle.std.specs.Prelude.{ℕ, ◌+◌, ◌-◌, ◌%◌, min, Bool, not, ◌&&◌, ◌||◌, List, [], ◌∷◌, ◌==◌}
+use Rattle.std.specs.Prelude.{nat_le, nat_lt}
 use Rattle.rules.specs.Pick.{pick}
 use Rattle.desk.specs.Sides.{frame_of, tick_of}
 

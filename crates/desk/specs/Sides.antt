@@ -1,5 +1,6 @@
 -- One side of the pairing desk (Q-13): words that each hold a waiting frame or are a free place.
-use Rattle.std.specs.Prelude.{◌≡◌, ℕ, ◌+◌, Bool, not, List, [], ◌∷◌, map, length, ◌==◌, nat_lt, slice_index, slice_set}
+use Rattle.std.specs.Prelude.{◌≡◌, ℕ, ◌+◌, Bool, not, List, [], ◌∷◌, map, length, ◌==◌, nat_lt}
+use Rattle.std.specs.Prelude.{slice_index, slice_set}
 use Rattle.rules.specs.Pick.{pick}
 use Rattle.rules.specs.Sizes.{record_of, left_of, right_of}
 use Rattle.desk.specs.declared.answers.Took.{Took}

@@ -41,7 +41,8 @@ module _ (ws v : List ℕ) (h : 64 ≤ length ws) (e : length v ≡ 32) where
   side_same Side.Left = part-splice 0 32 ws v (omega arith) e
   side_same Side.Right = part-splice 32 32 ws v (omega arith) e
 
-  pub side-other : (s : Side) → side_of (other s) (splice ws (side_at s) 32 v) ≡ side_of (other s) ws
+  pub side-other : (s : Side) → side_of (other s) (splice ws (side_at s) 32 v)
+      ≡ side_of (other s) ws
   side-other Side.Left = part-above 0 32 32 32 ws v (omega arith) (omega arith) e
   side-other Side.Right = part-below 32 32 0 32 ws v (omega arith) (omega arith)
 

@@ -181,20 +181,20 @@ module _ {n J L : ℕ} {ws xs ls ys ms : List ℕ} {es : List Event} {a : Answer
       go l r c j (right p) = later e (t.offers j l r (c, p))
 
 -- a pairing
-pair-told : {n J L : ℕ} {ws us xs ls vs ys ms : List ℕ} {es : List Event} {q : Pairing} (f : ℕ)
-    → runs.Fits f → runs.RightFits q
+pair-told : {n J L : ℕ} {ws us xs ls : List ℕ} (f : ℕ) {vs ys ms : List ℕ} {es : List Event}
+    {q : Pairing} → runs.Fits f → runs.RightFits q
     → ((s : Side) (h t : ℕ) → (h ≡ 0 → ⊥) → In s h t us → Waited ws s h t es)
     → PairIs f us xs ls vs ys ms q → Told n J L ws es xs ls
     → Told n J L ws (runs.paired f q ∷ es) ys ms
 pair-told f fits fits' known (PairIs.no-pair {why = why} c) t =
     silent (runs.paired f (Pairing.Refused why)) t
-pair-told {n} {J} {L} {ws} {us} {xs} {ls} {es = es} f fits fits' known
+pair-told {n} {J} {L} {ws} {us} {xs} {ls} f {es = es} fits fits' known
     (PairIs.kept {xs' = ys} {ls' = ms} {why = why} c after) t =
     let k = after.kept refl in
     let e = runs.paired f (Pairing.Refused (Why.Engine why)) in
     subst (λ x. Told n J L ws (e ∷ es) x ms) (sym k.0)
     (subst (λ y. Told n J L ws (e ∷ es) xs y) (sym k.1) (silent e t))
-pair-told {n} {J} {L} {ws} {us} {xs} {ls} {es = es} f fits fits' known
+pair-told {n} {J} {L} {ws} {us} {xs} {ls} f {es = es} fits fits' known
     (PairIs.accepted {g = g} {xs' = ys} {ls' = ms} c after) t =
     said_more (Call.Offer (leader_of (site_of xs ls)) f g) (runs.paired f (Pairing.Paired g)) t
     (stepped (Call.Offer (leader_of (site_of xs ls)) f g) (fits, fits') t.served

@@ -43,7 +43,8 @@ module _ (v : List ℕ) (p w f t : ℕ) where
             tick = ap tick_of (sym is) ∙ a.tick;
           })
 
-  pub set-stays : frame_of (get_or v p 0) ≡ 0 → (f ≡ 0 → ⊥) → WaitsAt f t v → WaitsAt f t (set v p w)
+  pub set-stays : frame_of (get_or v p 0) ≡ 0 → (f ≡ 0 → ⊥) → WaitsAt f t v
+      → WaitsAt f t (set v p w)
   set-stays z k a =
       let n : a.place ≡ p → ⊥ =
       λ e. k (sym a.frame ∙ ap (λ i. frame_of (get_or v i 0)) e ∙ z) in

@@ -1,2 +1,3 @@
 // For the stereo gate: what holds of any run of calls at the desk and of the engine (specs/,
 // proofs/). No code.
+#![tactic(auto)]

@@ -1,5 +1,6 @@
 -- The script: five numbers a question, the first of which says what is asked.
-use Rattle.std.specs.Prelude.{ℕ, zero, suc, ◌+◌, ◌*◌, ◌/◌, min, cond, List, [], ◌∷◌, ltb, length, get_or}
+use Rattle.std.specs.Prelude.{ℕ, zero, suc, ◌+◌, ◌*◌, ◌/◌, min, cond, List, [], ◌∷◌, ltb, length}
+use Rattle.std.specs.Prelude.{get_or}
 use Rattle.rules.specs.declared.model.Call.{Call}
 use Rattle.said.specs.Said.{Said, called, held}
 

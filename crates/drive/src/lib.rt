@@ -1,5 +1,7 @@
 // A driver: a fresh site, and the questions of a script one after another, each answered by its
 // number. What it promises of the answers is demand 3.
+#![tactic(auto)]
+
 ghost use Rattle.std.specs.Prelude.{◌≡◌};
 ghost use Rattle.drive.specs.Script.{call_of, asking, questions_of};
 ghost use Rattle.drive.specs.Driven.{Answered, Drives, Driven};

@@ -30,7 +30,7 @@ use Rattle.safety.specs.Heard as model
 use Rattle.safety.proofs.HeardRun.{heard, is-heard}
 use Rattle.said.specs.Said.{Talk, calls}
 use Rattle.said.proofs.Past.{in-range, run_is}
-use Rattle.engine_safety.specs.Served.{Served, stepped, asked, stored}
+use Rattle.engine_safety.specs.Served.{Served, made, stepped, asked, stored}
 use Rattle.engine_safety.specs.Leased.{Names, Out, Present, Took, Leased}
 use Rattle.engine_safety.specs.Leased as words
 use Rattle.engine_safety.proofs.Filed.{inner, Holds, holds-run}
@@ -134,6 +134,7 @@ module _ {n J L : ℕ} {h : Talk} {xs ls : List ℕ} (k : Holds n J L h xs ls) w
 -- the calls took a lease, and so did the words
 took-words : {n J L : ℕ} {h : Talk} {xs ls : List ℕ} (c b : ℕ) → In c n
     → (p : Served n J L h xs ls) → TookLease (start n J L) c b (calls h) → Took c b h xs ls p
+took-words {n = n} {L = L} c b hc (made {xs = xs} {ls = ls} _) t = elim t [ ]
 took-words c b hc (stepped d fits p after) (model.now cs t o) =
     let was = holds-run p in
     let now = holds-run (stepped d fits p after) in

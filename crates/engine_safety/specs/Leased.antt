@@ -31,7 +31,8 @@ Present xs ls b = has (site_of xs ls).present b ≡ true
 pub data Took {n J L : ℕ} (c b : ℕ) : (h : Talk) (xs ls : List ℕ) → Served n J L h xs ls → Type 0
   where
     now : {h : Talk} {xs ls xs' ls' : List ℕ} {a : Answer} {fits : CallFits (Call.Deliver c b)}
-        {p : Served n J L h xs ls} {after : After (step_on xs ls (Call.Deliver c b)) xs ls xs' ls' a}
+        {p : Served n J L h xs ls} {after : After (step_on xs ls (Call.Deliver c b))
+        xs ls xs' ls' a}
         → TakesLease (site_of xs ls) c b → a ≡ Answer.Taken → Out xs' ls' c
         → Took c b (called (Call.Deliver c b) a ∷ h) xs' ls'
         (stepped (Call.Deliver c b) fits p after)

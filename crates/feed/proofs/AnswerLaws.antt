@@ -146,7 +146,10 @@ answer-turn f xs ls xs' ls' l a t k q et em en es r w v h =
           v.next ls' ∙ (ap (λ (z : Told).
           record { run = record { run = told_next k z; site = site_of xs' ls' }; held = [] })
           w.answer
-          ∙ (ap (λ (z : Run). record { run = record { run = z; site = site_of xs' ls' }; held = [] })
+          ∙ (ap (λ (z : Run). record {
+            run = record { run = z; site = site_of xs' ls' };
+            held = [];
+          })
           (sym en) ∙ (ap
           (λ (z : Site). record { run = record { run = line_next run l; site = z }; held = [] })
           (w.holds ∙ sym es) ∙ ap (λ (z : Line). record {

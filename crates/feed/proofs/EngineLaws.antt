@@ -18,7 +18,8 @@ use Rattle.rules.specs.declared.model.Refusal.{Refusal}
 use Rattle.laws.proofs.Logic.{Or, and_yes, and_both, or_cases, or_no}
 use Rattle.laws.proofs.Logic.{both-no}
 use Rattle.laws.proofs.FormLaws.{sizes-says}
-use Rattle.memory.specs.Memory.{site_words, links_words, past_site, past_links, site_of, memory_form}
+use Rattle.memory.specs.Memory.{site_words, links_words, past_site, past_links, site_of}
+use Rattle.memory.specs.Memory.{memory_form}
 use Rattle.rules.specs.Answers.{is_refusal}
 use Rattle.site.specs.Entries.{After, FormedStep, FreshMade, fresh_on}
 use Rattle.site.proofs.AfterLaws.{no_needs, need-met, need-not}
@@ -33,7 +34,8 @@ use Rattle.row.specs.Row.{row_width}
 
 -- a line that is not done leaves the words, and one that is done holds what it left
 held_by : (a : Answer) (t : Told) (xs ls xs' ls' : List ℕ) → told a (site_of xs' ls') ≡ t
-    → (is_refusal a ≡ true → (xs' ≡ xs) × (ls' ≡ ls)) → site_of xs' ls' ≡ told_site (site_of xs ls) t
+    → (is_refusal a ≡ true → (xs' ≡ xs) × (ls' ≡ ls))
+    → site_of xs' ls' ≡ told_site (site_of xs ls) t
 unfolding told_site
 held_by Answer.Done t xs ls xs' ls' e k = ap (told_site (site_of xs ls)) e
 held_by Answer.Taken t xs ls xs' ls' e k = ap (told_site (site_of xs ls)) e
@@ -202,7 +204,8 @@ rows-enough n J m hn hj h =
     let rows : n * row_width J ≤ 5 * row_width 32 =
     mul-le-mul {n₂ = 5} {m₂ = row_width 32} hn (omega arith) in omega arith
 
-links-enough : (n J L m : ℕ) → n ≤ 5 → J ≤ 32 → L ≤ 8 → links_words 5 32 8 ≤ m → links_words n J L ≤ m
+links-enough : (n J L m : ℕ) → n ≤ 5 → J ≤ 32 → L ≤ 8 → links_words 5 32 8 ≤ m
+    → links_words n J L ≤ m
 links-enough n J L m hn hj hl h =
     let pairs : n * (n - 1) ≤ 5 * 4 = mul-le-mul {n₂ = 5} {m₂ = 4} hn (omega arith) in
     let places : L * (letter_head + J) ≤ 8 * (letter_head + 32) =
@@ -219,7 +222,8 @@ module _ (n J L : ℕ) (xs ls xs' ls' : List ℕ) (a : Answer) (w : FreshMade n 
     open_good j l hs hl s =
         let z = sizes-says s in
         let o = w.after in
-        let is : fresh_on xs ls n J L ≡ did (fresh n J L) = need-met _ _ _ _ _ s ∙ need-met _ _ _ _ _
+        let is : fresh_on xs ls n J L ≡ did (fresh n J L) = need-met _ _ _ _ _ s
+        ∙ need-met _ _ _ _ _
         (and_both (le-leb _ _ (rows-enough n J (length xs) z.few-boxes j hs))
         (le-leb _ _ (links-enough n J L (length ls) z.few-boxes j l hl))) ∙ no_needs _ _ in
         let done : a ≡ Answer.Done = o.answer ∙ ap (λ (r : Outcome). r.answer) is in

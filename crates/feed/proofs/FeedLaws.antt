@@ -180,10 +180,12 @@ kept_more s piece xs₀ ls₀ xs ls xs' ls' {x} {y} {z} n i e e' g {at} t short 
     let few : length q.held ≤ 65 = feed-held course_next course_text (take i piece) s short in
     let cut : take (e + 1) piece ≡ take i piece ++ (p ++ (10 ∷ [])) =
     take-line piece i e k.end.from (omega arith) (k.end.newline l) in
-    let join : feed_next course_next q (p ++ (10 ∷ [])) ≡ feed_next course_next s (take (e + 1) piece) =
+    let join : feed_next course_next q (p ++ (10 ∷ [])) ≡ feed_next course_next s
+    (take (e + 1) piece) =
     sym (next_append course_next course_text s (take i piece) (p ++ (10 ∷ [])))
     ∙ ap (feed_next course_next s) (sym cut) in
-    let text : length (course_text (feeding_of g xs ls).run (read_line (hold (feeding_of g xs ls).held
+    let text : length (course_text (feeding_of g xs ls).run
+    (read_line (hold (feeding_of g xs ls).held
     p)))
     ≡ length (course_text q.run (read_line (hold q.held p))) =
     ap (λ (u : Feeding Course). length (course_text u.run (read_line (hold u.held p))))

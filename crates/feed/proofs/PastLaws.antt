@@ -70,7 +70,8 @@ module _ {xs₀ ls₀ xs ls xs' ls' : List ℕ} (new : Past xs ls xs' ls') where
 
   -- one line more, at a stage: before the site line nothing was touched
   pub past-on : (t : Stage) (k : ℕ) (l : Line) → (t ≡ Stage.First → Untouched xs₀ ls₀ xs ls)
-      → Past xs₀ ls₀ xs ls → site_of xs' ls' ≡ line_site (run_of t k (site_of xs ls)) (site_of xs ls) l
+      → Past xs₀ ls₀ xs ls → site_of xs' ls' ≡ line_site (run_of t k (site_of xs ls))
+      (site_of xs ls) l
       → Past xs₀ ls₀ xs' ls'
   unfolding line_site
   past-on Stage.First k l first old e =

@@ -44,7 +44,8 @@ pub lasts-more : (xs : List ℕ) (w i : ℕ) {a b c : List ℕ} {at p q : ℕ} (
     → Wrote (21 * (i + 1)) a c at q (spaced (lasts_at xs w (i + 1)))
 lasts-more xs w i r e u v =
     let x = get_or xs (i * w + first_last) 0 in
-    spelled (ap (λ (j : ℕ). spaced (lasts_at xs w i) ++ (32 ∷ decimal (get_or xs (j + first_last) 0))) e
+    spelled (ap (λ (j : ℕ). spaced (lasts_at xs w i)
+    ++ (32 ∷ decimal (get_or xs (j + first_last) 0))) e
     ∙ (ap (λ (t : List ℕ). spaced (lasts_at xs w i) ++ t) (sym (spaced-one x))
     ∙ (sym (spaced_append (lasts_at xs w i) (x ∷ [])) ∙ (ap spaced (sym (last_more xs w i))
     ∙ ap (λ (j : ℕ). spaced (lasts_at xs w j)) (sym (add-one i))))))
@@ -52,7 +53,8 @@ lasts-more xs w i r e u v =
 
 -- ---- they are the lasts of the boxes
 
-map_same : (n : ℕ) (f g : ℕ → ℕ) → ((b : ℕ) → In b n → f b ≡ g b) → map f (up_to n) ≡ map g (up_to n)
+map_same : (n : ℕ) (f g : ℕ → ℕ) → ((b : ℕ) → In b n → f b ≡ g b)
+    → map f (up_to n) ≡ map g (up_to n)
 unfolding up_to
 map_same zero f g same = refl
 map_same (suc n) f g same =

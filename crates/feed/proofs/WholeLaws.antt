@@ -140,7 +140,11 @@ taken-part [] r s = omega arith
 taken-part (b ∷ p) r s =
     pick_elim (λ (n : ℕ). n ≤ length (b ∷ p)) (eqb b 10 && ltb r answer_most) (λ e. omega arith)
     (λ e.
-    omega (arith, taken-part p (r - length (byte_text course_text s b)) (byte_next course_next s b)))
+    omega (
+      arith,
+      taken-part p (r - length (byte_text course_text s b))
+          (byte_next course_next s b),
+    ))
 
 and-false : (b : Bool) → (b && false) ≡ false
 and-false true = refl

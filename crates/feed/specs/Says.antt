@@ -1,5 +1,6 @@
 -- What each function of the feeding says.
-use Rattle.std.specs.Prelude.{ℕ, suc, ◌-◌, ◌≤◌, ◌<◌, ◌≡◌, true, false, ◌&&◌, cond, List, [], ◌∷◌, eqb, ltb, length, take, get_or}
+use Rattle.std.specs.Prelude.{ℕ, suc, ◌-◌, ◌≤◌, ◌<◌, ◌≡◌, true, false, ◌&&◌, cond, List, [], ◌∷◌}
+use Rattle.std.specs.Prelude.{eqb, ltb, length, take, get_or}
 use Rattle.std.proofs.lemmas.List.Edits.{sets}
 use Rattle.words.specs.Rows.{part}
 use Rattle.rules.specs.Answers.{is_refusal}

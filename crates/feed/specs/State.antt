@@ -1,7 +1,8 @@
 -- The state of a feeding, and the run that it and the lent words stand for.
 use Rattle.std.specs.Prelude.{ℕ, ◌≤◌, ◌≡◌, Bool, true, false, List, [], ◌∷◌, length, take}
 use Rattle.rules.specs.Site.{Site}
-use Rattle.memory.specs.Memory.{site_words, links_words, past_site, past_links, site_of, memory_form}
+use Rattle.memory.specs.Memory.{site_words, links_words, past_site, past_links, site_of}
+use Rattle.memory.specs.Memory.{memory_form}
 use Rattle.lines.specs.declared.Line.{Line}
 use Rattle.trace.specs.Feeding.{Feeding, feed_text}
 use Rattle.trace.specs.Replay.{Run, first, going, ended, Told, done, refused, opened, judged}

@@ -1,4 +1,6 @@
 // Feeds a trace to the replay piece by piece, with the site in words that the caller lends.
+#![tactic(auto)]
+
 mod answer;
 mod entries;
 mod held;

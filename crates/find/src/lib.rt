@@ -1,4 +1,6 @@
 // Which load has this frame (Q-5): asked of a box of a site, answered by the index of its row.
+#![tactic(auto)]
+
 ghost use Rattle.std.specs.Prelude.{◌≡◌, true};
 ghost use Rattle.memory.specs.Memory.{site_of, memory_form};
 ghost use Rattle.find.specs.Find.{found_as, find as find_of, find_on};

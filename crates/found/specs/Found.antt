@@ -1,7 +1,8 @@
 -- "A body is kept where each of its fields is by form, in the image's order, and its length is just
 -- used up; else it is set aside at the first field that made it so (a body too short: the first
 -- field that does not fit; too long: `rest`)."
-use Rattle.std.specs.Prelude.{ℕ, zero, suc, ◌+◌, ◌-◌, ◌*◌, Bool, true, false, cond, List, [], ◌∷◌, leb, eqb, length, replicate}
+use Rattle.std.specs.Prelude.{ℕ, zero, suc, ◌+◌, ◌-◌, ◌*◌, Bool, true, false, cond, List, [], ◌∷◌}
+use Rattle.std.specs.Prelude.{leb, eqb, length, replicate}
 use Rattle.rules.specs.Pick.{pick}
 use Rattle.rules.specs.Sizes.{most_loads, most_mails, most_epoch, unknown, within, proper}
 use Rattle.rules.specs.Sets.{set_form}
@@ -113,7 +114,8 @@ kind_in src at = kind_of (word_at 4 src at)
 
 -- its words as a place has them; no first is 0
 abbrev pub letter_words_in : List ℕ → ℕ → List ℕ
-letter_words_in src at = groups_in (letter_groups (kind_in src at)) src at (replicate letter_words 0)
+letter_words_in src at = groups_in (letter_groups (kind_in src at)) src at
+    (replicate letter_words 0)
 
 -- of so many records from `at` on, the first m are proper
 unfoldable pub records_way : ℕ → ℕ → ℕ → ℕ → ℕ → ℕ → ℕ → Way

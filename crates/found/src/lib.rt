@@ -1,4 +1,6 @@
 // What a body of a damaged image is (Q-8): kept, or set aside at the first field that made it so.
+#![tactic(auto)]
+
 pub use boxes::box_found;
 pub use general::{general_found, is_kept, loads_of, mails_of};
 pub use mail::mail_found;

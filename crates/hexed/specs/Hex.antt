@@ -1,6 +1,7 @@
 -- Bytes as text: two digits for each, the higher one first, and `-` for no bytes; written in small
 -- letters, read in either case.
-use Rattle.std.specs.Prelude.{ℕ, ◌+◌, ◌-◌, ◌/◌, ◌%◌, ◌≤◌, ◌<◌, ◌≡◌, Bool, true, false, cond, List, [], ◌∷◌, ◌++◌, map, ltb, length, get_or, drop}
+use Rattle.std.specs.Prelude.{ℕ, ◌+◌, ◌-◌, ◌/◌, ◌%◌, ◌≤◌, ◌<◌, ◌≡◌, Bool, true, false, cond, List}
+use Rattle.std.specs.Prelude.{[], ◌∷◌, ◌++◌, map, ltb, length, get_or, drop}
 use Rattle.hexed.specs.declared.Hexed.{Hexed}
 
 -- 0 to 9, then a to f

@@ -57,7 +57,8 @@ pub length-letter : (y : Letter) → length (letter_bytes y) ≡ letter_length y
 unfolding letter_bytes
 length-letter y =
     let k = y.head.kind in
-    let head = length-groups (letter_groups k) 0 place.head_words (letter_words y) (letter-cut k) refl
+    let head = length-groups (letter_groups k) 0 place.head_words (letter_words y)
+    (letter-cut k) refl
     in
     simp (length-append, length-cells, head) (omega (arith, letter-groups-long k))
 

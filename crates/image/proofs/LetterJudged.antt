@@ -16,7 +16,8 @@ use Rattle.rules.specs.Form.{form_letter}
 use Rattle.laws.proofs.Logic.{passed, pass, all-each, and_yes, and_both}
 use Rattle.values.specs.Faults.{is_whole}
 use Rattle.values.proofs.FaultLaws.{whole-none}
-use Rattle.letter.specs.Place.{mail_at, kind_of, kind_at, pn_at, last_at, first_at, unagreed_at, count_at}
+use Rattle.letter.specs.Place.{mail_at, kind_of, kind_at, pn_at, last_at, first_at, unagreed_at}
+use Rattle.letter.specs.Place.{count_at}
 use Rattle.letter.specs.Place.{head_words}
 use Rattle.letter.specs.Faults.{head_fault}
 use Rattle.letter.proofs.KindLaws.{kind-back, kind-number-back, kind-in}
@@ -37,7 +38,8 @@ use Rattle.image.proofs.LetterLaws.{LetterOf, kind-known, kind-of, letter_headed
 use Rattle.image.proofs.Lengths.{length-letter}
 
 module _ (J : ℕ) (loads : J ≤ most_loads) where
-  pub letter-passes : (y : Letter) → GoodLetter J y → is_whole (head_fault J (letter_words y)) ≡ true
+  pub letter-passes : (y : Letter) → GoodLetter J y
+      → is_whole (head_fault J (letter_words y)) ≡ true
   unfolding form_letter
   letter-passes y g =
       let t = passed _ g in
@@ -45,7 +47,8 @@ module _ (J : ℕ) (loads : J ≤ most_loads) where
       (rw (kind-back y.head.kind) t.0)
       t.1.1.0 t.1.1.1.0 t.1.1.1.1.0)
 
-  pub letter-good : (w rs : List ℕ) → is_whole (head_fault J w) ≡ true → length rs ≡ get_or w count_at 0
+  pub letter-good : (w rs : List ℕ) → is_whole (head_fault J w) ≡ true
+      → length rs ≡ get_or w count_at 0
       → All GoodRecord rs → GoodLetter J (record { head = mail_at w; records = rs })
   unfolding form_letter
   letter-good w rs t n h =
@@ -66,12 +69,14 @@ module _ (J : ℕ) (loads : J ≤ most_loads) where
 
   -- Words that are by form are those of the letter that they say, with its records.
   pub words_are : (w rs : List ℕ) → length w ≡ head_words → is_whole (head_fault J w) ≡ true
-      → length rs ≡ get_or w count_at 0 → w ≡ letter_words (record { head = mail_at w; records = rs })
+      → length rs ≡ get_or w count_at 0
+      → w ≡ letter_words (record { head = mail_at w; records = rs })
   words_are w rs wide t n =
       let h = head-says J w (whole-none (head_fault J w) t) in
       let k = kind-number-back (get_or w kind_at 0) h.least h.most in
       sym (gets-all 0 w head_words wide)
-      ∙ (λ i. sym k i ∷ get_or w pn_at 0 ∷ get_or w last_at 0 ∷ get_or w first_at 0 ∷ get_or w unagreed_at 0
+      ∙ (λ i. sym k i ∷ get_or w pn_at 0 ∷ get_or w last_at 0 ∷ get_or w first_at 0
+      ∷ get_or w unagreed_at 0
       ∷ sym n i ∷ [])
 
   -- The words of a letter whose kind has the number x.
@@ -111,7 +116,8 @@ module _ (J : ℕ) (loads : J ≤ most_loads) where
           sym (told (first-parts 4 2 head_words 0 _ (omega arith)) x number.below
           (stands-le 4 src at x room number) w p here.0 here.1).0
 
-      pub letter-none : is_whole (head_fault J w) ≡ false → NoneAt letter_bytes (GoodLetter J) src at
+      pub letter-none : is_whole (head_fault J w) ≡ false
+          → NoneAt letter_bytes (GoodLetter J) src at
       letter-none f =
           known-walk (kind-known J loads room number) Walk.Bad
           (headed_none (letter_headed J loads x) (letter-judged x) ns e read (rw f))

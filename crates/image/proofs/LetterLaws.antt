@@ -16,7 +16,8 @@ use Rattle.rules.specs.Box.{Letter}
 use Rattle.laws.proofs.Types.{Kind, Mail}
 use Rattle.laws.proofs.Logic.{and_yes}
 use Rattle.laws.proofs.FormLaws.{FormedFirst, FormedLetter, FormedKind, letter-says}
-use Rattle.letter.specs.Place.{mail_at, kind_of, words_of_mail, kind_at, first_at, unagreed_at, count_at}
+use Rattle.letter.specs.Place.{mail_at, kind_of, words_of_mail, kind_at, first_at, unagreed_at}
+use Rattle.letter.specs.Place.{count_at}
 use Rattle.letter.specs.Place.{head_words, most_kind}
 use Rattle.letter.proofs.KindLaws.{kind-back, kind-in}
 use Rattle.cells.specs.Cells.{chain, cells, Each, All, Stands, Read}

@@ -176,7 +176,8 @@ boxes-code n J few loads x y r s gx gy e =
 -- .. and so are boxes and links.
 pub rest-code : (n J L : ℕ) → sizes_form n J L ≡ true → (x y : List Box) (k l : List (List Letter))
     (r s : List ℕ) → GoodBoxes n J x → GoodBoxes n J y → GoodLinks n J L k → GoodLinks n J L l
-    → (chain (box_body n) x ++ chain link_bytes k) ++ r ≡ (chain (box_body n) y ++ chain link_bytes l)
+    → (chain (box_body n) x ++ chain link_bytes k) ++ r
+    ≡ (chain (box_body n) y ++ chain link_bytes l)
     ++ s
     → (x ≡ y) × (k ≡ l)
 rest-code n J L sizes x y k l r s gx gy gk gl e =

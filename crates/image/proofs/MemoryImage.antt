@@ -13,7 +13,8 @@ use Rattle.laws.proofs.Logic.{passed}
 use Rattle.laws.proofs.FormLaws.{sizes-says}
 use Rattle.row.specs.Row.{box_of}
 use Rattle.link.specs.Link.{link_of}
-use Rattle.memory.specs.Memory.{site_words, links_words, row_at, link_at, site_of, roomy, memory_form}
+use Rattle.memory.specs.Memory.{site_words, links_words, row_at, link_at, site_of, roomy}
+use Rattle.memory.specs.Memory.{memory_form}
 use Rattle.image.specs.Image.{image_of, Bounded}
 use Rattle.image.specs.Longest.{longest, longest_of_all}
 use Rattle.image.proofs.OneImage.{one-site}

@@ -1,6 +1,7 @@
 -- "The site image": the bytes of a site, in the paper's order and words. There is no parser: bytes
 -- are by form where they are the image of a site by form.
-use Rattle.std.specs.Prelude.{ℕ, zero, suc, ◌+◌, ◌-◌, ◌*◌, ◌≡◌, false, List, [], ◌∷◌, ◌++◌, map, length}
+use Rattle.std.specs.Prelude.{ℕ, zero, suc, ◌+◌, ◌-◌, ◌*◌, ◌≡◌, false, List, [], ◌∷◌, ◌++◌, map}
+use Rattle.std.specs.Prelude.{length}
 use Rattle.rules.specs.Box.{Box, Letter}
 use Rattle.rules.specs.Site.{Site, fresh_box, is_box, is_link}
 use Rattle.rules.specs.declared.model.Kind.{Kind}

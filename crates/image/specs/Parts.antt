@@ -1,6 +1,7 @@
 -- The image part by part, for the functions that write, check and store it: when a part is by form,
 -- and a box's fields as the words of its row.
-use Rattle.std.specs.Prelude.{◌≡◌, true, cond, ℕ, ◌+◌, ◌-◌, ◌*◌, ◌^◌, ◌≤◌, List, [], ◌∷◌, ◌++◌, map, length, get_or}
+use Rattle.std.specs.Prelude.{◌≡◌, true, cond, ℕ, ◌+◌, ◌-◌, ◌*◌, ◌^◌, ◌≤◌, List, [], ◌∷◌, ◌++◌, map}
+use Rattle.std.specs.Prelude.{length, get_or}
 use Rattle.rules.specs.Sizes.{most_epoch, unknown, within, sizes_form, proper}
 use Rattle.rules.specs.Sets.{set_form}
 use Rattle.rules.specs.Box.{Box, Letter}

@@ -58,9 +58,11 @@ found-least left k rs b =
       kept = λ s. let w = first-within p k rs s in (w.low, w.high);
       has = λ s. eqb-true _ left (first_passes p k rs s);
       least = λ i h l e.
-          let f = (first-least p k i rs b h (eq-eqb (left_of (get_or rs i 0)) left e)).1 in omega arith;
+          let f = (first-least p k i rs b h (eq-eqb (left_of (get_or rs i 0)) left e)).1 in
+          omega arith;
       none = λ z i h e.
-          let f = (first-least p k i rs b h (eq-eqb (left_of (get_or rs i 0)) left e)).0 in omega arith;
+          let f = (first-least p k i rs b h (eq-eqb (left_of (get_or rs i 0)) left e)).0 in
+          omega arith;
     }
 
 module _ {left k x y : ℕ} {rs : List ℕ} (a : Answers left k rs x) (b : Answers left k rs y) where

@@ -157,7 +157,8 @@ module _ {k : ℕ} {rs ix hs : List ℕ} (w : Swept 0 k rs ix hs) (b : 1 ≤ k)
             ext_get_or 0 (part ix 0 slots) (heads_of k rs) (lh ∙ sym (length-heads k rs))
             (λ s h.
             let l : s < slots = rw lh at h in
-            get_or-take slots ix s 0 l ∙ (ends s l).head ∙ head-of s l ∙ sym (get_or-heads k rs s l));
+            get_or-take slots ix s 0 l ∙ (ends s l).head ∙ head-of s l
+            ∙ sym (get_or-heads k rs s l));
         tails =
             ext_get_or 0 (part ix tails_at slots) (tails_of k rs) (lt ∙ sym (length-tails k rs))
             (λ s h.

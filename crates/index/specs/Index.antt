@@ -1,7 +1,8 @@
 -- The index of a box's agreed records by the left frame (Q-5), "beside each box's records in the
 -- lent words": 64 heads, 64 tails, and beside each record the next number of its slot. Numbers
 -- begin at 1, so that 0 means none.
-use Rattle.std.specs.Prelude.{ℕ, zero, suc, ◌+◌, ◌%◌, Bool, true, false, ◌&&◌, List, [], ◌∷◌, leb, eqb, length}
+use Rattle.std.specs.Prelude.{ℕ, zero, suc, ◌+◌, ◌%◌, Bool, true, false, ◌&&◌, List, [], ◌∷◌, leb}
+use Rattle.std.specs.Prelude.{eqb, length}
 use Rattle.words.specs.Rows.{part}
 use Rattle.rules.specs.Every.{all}
 use Rattle.rules.specs.Pick.{pick}

@@ -1,5 +1,6 @@
 -- What the functions over the index words ask for and give.
-use Rattle.std.specs.Prelude.{◌≡◌, ℕ, ◌+◌, ◌-◌, ◌≤◌, ◌<◌, ◌^◌, Bool, true, false, ◌&&◌, ◌||◌, not, List, eqb, length, get_or, set, replicate}
+use Rattle.std.specs.Prelude.{◌≡◌, ℕ, ◌+◌, ◌-◌, ◌≤◌, ◌<◌, ◌^◌, Bool, true, false, ◌&&◌, ◌||◌, not}
+use Rattle.std.specs.Prelude.{List, eqb, length, get_or, set, replicate}
 use Rattle.words.specs.Rows.{part, splice}
 use Rattle.rules.specs.Pick.{pick}
 use Rattle.index.specs.Index.{slots, tails_at, nexts_at, index_form}

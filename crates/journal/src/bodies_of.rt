@@ -39,8 +39,7 @@ fn named_length(is: Named, length: usize) -> usize
     }
 }
 
-#[unsafe(no_mangle)]
-pub extern "C" fn journal_body(image: &[u8], begin: &mut usize, length: &mut usize, k: u32) -> u32
+pub fn journal_body(image: &[u8], begin: &mut usize, length: &mut usize, k: u32) -> u32
     ensures { BodyAnswered image.now k begin.old begin.new
         length.old length.new result }
 {
@@ -50,8 +49,7 @@ pub extern "C" fn journal_body(image: &[u8], begin: &mut usize, length: &mut usi
     named_number(is)
 }
 
-#[unsafe(no_mangle)]
-pub extern "C" fn journal_named(image: &[u8], begin: &mut usize, length: &mut usize, k: u32) -> u32
+pub fn journal_named(image: &[u8], begin: &mut usize, length: &mut usize, k: u32) -> u32
     ensures { NamedAnswered (named_in image.now k) begin.old begin.new
         length.old length.new result }
 {

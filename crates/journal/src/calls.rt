@@ -8,16 +8,14 @@ ghost use Rattle.journal.specs.Numbered.{Stepped, Freshened};
 use rules::model::Call;
 use rules::numbers::answer_number;
 
-#[unsafe(no_mangle)]
-pub extern "C" fn journal_fresh(site: &mut [u64], links: &mut [u64], n: u32, j: u32, l: u32) -> u32
+pub fn journal_fresh(site: &mut [u64], links: &mut [u64], n: u32, j: u32, l: u32) -> u32
     ensures { Freshened n j l site.old links.old site.new
         links.new result }
 {
     answer_number(site::fresh(site, links, n, j, l))
 }
 
-#[unsafe(no_mangle)]
-pub extern "C" fn journal_holds(
+pub fn journal_holds(
     site: &[u64],
     links: &[u64],
     c: u32,
@@ -38,8 +36,7 @@ fn stepped(site: &mut [u64], links: &mut [u64], call: Call) -> u32
 }
 
 // Box c alone leads; needs an odd epoch and a majority present.
-#[unsafe(no_mangle)]
-pub extern "C" fn journal_elect(site: &mut [u64], links: &mut [u64], c: u32) -> u32
+pub fn journal_elect(site: &mut [u64], links: &mut [u64], c: u32) -> u32
     ensures { Stepped (Call.Elect c) site.old links.old
         site.new links.new result }
 {
@@ -47,8 +44,7 @@ pub extern "C" fn journal_elect(site: &mut [u64], links: &mut [u64], c: u32) -> 
 }
 
 // Leader c takes a new proposal number.
-#[unsafe(no_mangle)]
-pub extern "C" fn journal_recover(site: &mut [u64], links: &mut [u64], c: u32) -> u32
+pub fn journal_recover(site: &mut [u64], links: &mut [u64], c: u32) -> u32
     ensures { Stepped (Call.Recover c) site.old links.old
         site.new links.new result }
 {
@@ -56,8 +52,7 @@ pub extern "C" fn journal_recover(site: &mut [u64], links: &mut [u64], c: u32) -
 }
 
 // Leader c asks the others for what they hold.
-#[unsafe(no_mangle)]
-pub extern "C" fn journal_collect(site: &mut [u64], links: &mut [u64], c: u32) -> u32
+pub fn journal_collect(site: &mut [u64], links: &mut [u64], c: u32) -> u32
     ensures { Stepped (Call.Collect c) site.old links.old
         site.new links.new result }
 {
@@ -65,8 +60,7 @@ pub extern "C" fn journal_collect(site: &mut [u64], links: &mut [u64], c: u32) -
 }
 
 // All present have answered: leader c starts an unagreed record again, or leases.
-#[unsafe(no_mangle)]
-pub extern "C" fn journal_ready(site: &mut [u64], links: &mut [u64], c: u32) -> u32
+pub fn journal_ready(site: &mut [u64], links: &mut [u64], c: u32) -> u32
     ensures { Stepped (Call.Ready c) site.old links.old
         site.new links.new result }
 {
@@ -74,8 +68,7 @@ pub extern "C" fn journal_ready(site: &mut [u64], links: &mut [u64], c: u32) -> 
 }
 
 // A pair of frames waits at leader c.
-#[unsafe(no_mangle)]
-pub extern "C" fn journal_offer(
+pub fn journal_offer(
     site: &mut [u64],
     links: &mut [u64],
     c: u32,
@@ -89,8 +82,7 @@ pub extern "C" fn journal_offer(
 }
 
 // Leader c starts the waiting pair under the next number.
-#[unsafe(no_mangle)]
-pub extern "C" fn journal_propose(site: &mut [u64], links: &mut [u64], c: u32) -> u32
+pub fn journal_propose(site: &mut [u64], links: &mut [u64], c: u32) -> u32
     ensures { Stepped (Call.Propose c) site.old links.old
         site.new links.new result }
 {
@@ -98,8 +90,7 @@ pub extern "C" fn journal_propose(site: &mut [u64], links: &mut [u64], c: u32) -
 }
 
 // All present have accepted: the number is agreed.
-#[unsafe(no_mangle)]
-pub extern "C" fn journal_agree(site: &mut [u64], links: &mut [u64], c: u32) -> u32
+pub fn journal_agree(site: &mut [u64], links: &mut [u64], c: u32) -> u32
     ensures { Stepped (Call.Agree c) site.old links.old
         site.new links.new result }
 {
@@ -107,8 +98,7 @@ pub extern "C" fn journal_agree(site: &mut [u64], links: &mut [u64], c: u32) -> 
 }
 
 // Leader c is Active again.
-#[unsafe(no_mangle)]
-pub extern "C" fn journal_finish(site: &mut [u64], links: &mut [u64], c: u32) -> u32
+pub fn journal_finish(site: &mut [u64], links: &mut [u64], c: u32) -> u32
     ensures { Stepped (Call.Finish c) site.old links.old
         site.new links.new result }
 {
@@ -116,8 +106,7 @@ pub extern "C" fn journal_finish(site: &mut [u64], links: &mut [u64], c: u32) ->
 }
 
 // All present have answered the lease of leader c.
-#[unsafe(no_mangle)]
-pub extern "C" fn journal_heard(site: &mut [u64], links: &mut [u64], c: u32) -> u32
+pub fn journal_heard(site: &mut [u64], links: &mut [u64], c: u32) -> u32
     ensures { Stepped (Call.Heard c) site.old links.old
         site.new links.new result }
 {
@@ -125,8 +114,7 @@ pub extern "C" fn journal_heard(site: &mut [u64], links: &mut [u64], c: u32) -> 
 }
 
 // Box c drops its agreed loads below k.
-#[unsafe(no_mangle)]
-pub extern "C" fn journal_trim(site: &mut [u64], links: &mut [u64], c: u32, k: u32) -> u32
+pub fn journal_trim(site: &mut [u64], links: &mut [u64], c: u32, k: u32) -> u32
     ensures { Stepped (Call.Trim c k) site.old links.old
         site.new links.new result }
 {
@@ -134,8 +122,7 @@ pub extern "C" fn journal_trim(site: &mut [u64], links: &mut [u64], c: u32, k: u
 }
 
 // Box c is switched off.
-#[unsafe(no_mangle)]
-pub extern "C" fn journal_stop(site: &mut [u64], links: &mut [u64], c: u32) -> u32
+pub fn journal_stop(site: &mut [u64], links: &mut [u64], c: u32) -> u32
     ensures { Stepped (Call.Stop c) site.old links.old
         site.new links.new result }
 {
@@ -143,8 +130,7 @@ pub extern "C" fn journal_stop(site: &mut [u64], links: &mut [u64], c: u32) -> u
 }
 
 // Box c comes back.
-#[unsafe(no_mangle)]
-pub extern "C" fn journal_return(site: &mut [u64], links: &mut [u64], c: u32) -> u32
+pub fn journal_return(site: &mut [u64], links: &mut [u64], c: u32) -> u32
     ensures { Stepped (Call.Return c) site.old links.old
         site.new links.new result }
 {
@@ -152,8 +138,7 @@ pub extern "C" fn journal_return(site: &mut [u64], links: &mut [u64], c: u32) ->
 }
 
 // Box c misses its leader: an election is due.
-#[unsafe(no_mangle)]
-pub extern "C" fn journal_timeout(site: &mut [u64], links: &mut [u64], c: u32) -> u32
+pub fn journal_timeout(site: &mut [u64], links: &mut [u64], c: u32) -> u32
     ensures { Stepped (Call.Timeout c) site.old links.old
         site.new links.new result }
 {
@@ -161,8 +146,7 @@ pub extern "C" fn journal_timeout(site: &mut [u64], links: &mut [u64], c: u32) -
 }
 
 // The head of the link from a to b is dropped.
-#[unsafe(no_mangle)]
-pub extern "C" fn journal_lose(site: &mut [u64], links: &mut [u64], a: u32, b: u32) -> u32
+pub fn journal_lose(site: &mut [u64], links: &mut [u64], a: u32, b: u32) -> u32
     ensures { Stepped (Call.Lose a b) site.old links.old
         site.new links.new result }
 {
@@ -170,8 +154,7 @@ pub extern "C" fn journal_lose(site: &mut [u64], links: &mut [u64], a: u32, b: u
 }
 
 // The head of the link from a to b stands twice.
-#[unsafe(no_mangle)]
-pub extern "C" fn journal_repeat(site: &mut [u64], links: &mut [u64], a: u32, b: u32) -> u32
+pub fn journal_repeat(site: &mut [u64], links: &mut [u64], a: u32, b: u32) -> u32
     ensures { Stepped (Call.Repeat a b) site.old links.old
         site.new links.new result }
 {
@@ -179,8 +162,7 @@ pub extern "C" fn journal_repeat(site: &mut [u64], links: &mut [u64], a: u32, b:
 }
 
 // The head of the link from a to b is handed over.
-#[unsafe(no_mangle)]
-pub extern "C" fn journal_deliver(site: &mut [u64], links: &mut [u64], a: u32, b: u32) -> u32
+pub fn journal_deliver(site: &mut [u64], links: &mut [u64], a: u32, b: u32) -> u32
     ensures { Stepped (Call.Deliver a b) site.old links.old
         site.new links.new result }
 {

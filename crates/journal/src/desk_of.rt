@@ -7,32 +7,28 @@ ghost use Rattle.std.specs.Prelude.{◌≡◌};
 use desk::answers;
 use desk::answers::{Pairing, Side};
 
-#[unsafe(no_mangle)]
-pub extern "C" fn journal_desk_left(desk: &mut [u64], frame: u32, tick: u32) -> u32
+pub fn journal_desk_left(desk: &mut [u64], frame: u32, tick: u32) -> u32
     ensures { DeskAnswered (given Side.Left frame tick desk.old) desk.new result }
 {
     let t = desk::give(desk, Side::Left, frame, tick);
     answers::took_number(t)
 }
 
-#[unsafe(no_mangle)]
-pub extern "C" fn journal_desk_right(desk: &mut [u64], frame: u32, tick: u32) -> u32
+pub fn journal_desk_right(desk: &mut [u64], frame: u32, tick: u32) -> u32
     ensures { DeskAnswered (given Side.Right frame tick desk.old) desk.new result }
 {
     let t = desk::give(desk, Side::Right, frame, tick);
     answers::took_number(t)
 }
 
-#[unsafe(no_mangle)]
-pub extern "C" fn journal_desk_withdraw_left(desk: &mut [u64], frame: u32) -> u32
+pub fn journal_desk_withdraw_left(desk: &mut [u64], frame: u32) -> u32
     ensures { DeskAnswered (withdrawn Side.Left frame desk.old) desk.new result }
 {
     let t = desk::withdraw(desk, Side::Left, frame);
     answers::took_number(t)
 }
 
-#[unsafe(no_mangle)]
-pub extern "C" fn journal_desk_withdraw_right(desk: &mut [u64], frame: u32) -> u32
+pub fn journal_desk_withdraw_right(desk: &mut [u64], frame: u32) -> u32
     ensures { DeskAnswered (withdrawn Side.Right frame desk.old) desk.new result }
 {
     let t = desk::withdraw(desk, Side::Right, frame);
@@ -48,8 +44,7 @@ fn right_then(p: Pairing, before: u32) -> u32
     }
 }
 
-#[unsafe(no_mangle)]
-pub extern "C" fn journal_desk_pair(
+pub fn journal_desk_pair(
     desk: &mut [u64],
     site: &mut [u64],
     links: &mut [u64],

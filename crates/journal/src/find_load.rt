@@ -26,8 +26,7 @@ fn found_number(w: Found, before: u32) -> u32
     }
 }
 
-#[unsafe(no_mangle)]
-pub extern "C" fn journal_find(
+pub fn journal_find(
     site: &[u64],
     links: &[u64],
     c: u32,

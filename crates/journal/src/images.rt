@@ -29,8 +29,7 @@ fn written_length(w: Written, before: usize) -> usize
     }
 }
 
-#[unsafe(no_mangle)]
-pub extern "C" fn journal_image_length(site: &[u64], links: &[u64], length: &mut usize) -> u32
+pub fn journal_image_length(site: &[u64], links: &[u64], length: &mut usize) -> u32
     ensures { LengthAnswered site.now links.now length.old
         length.new result }
 {
@@ -39,8 +38,7 @@ pub extern "C" fn journal_image_length(site: &[u64], links: &[u64], length: &mut
     written_number(w)
 }
 
-#[unsafe(no_mangle)]
-pub extern "C" fn journal_write(
+pub fn journal_write(
     site: &[u64],
     links: &[u64],
     image: &mut [u8],
@@ -54,8 +52,7 @@ pub extern "C" fn journal_write(
     written_number(w)
 }
 
-#[unsafe(no_mangle)]
-pub extern "C" fn journal_read(image: &[u8], site: &mut [u64], links: &mut [u64]) -> u32
+pub fn journal_read(image: &[u8], site: &mut [u64], links: &mut [u64]) -> u32
     ensures { ReadAnswered image.now site.old links.old
         site.new links.new result }
 {

@@ -13,8 +13,7 @@ ghost use Rattle.journal.specs.Longer.{
 use agreed::Agreed;
 use rules::numbers::refusal_number;
 
-#[unsafe(no_mangle)]
-pub extern "C" fn journal_longer(first: &[u64], second: &[u64]) -> u32
+pub fn journal_longer(first: &[u64], second: &[u64]) -> u32
     ensures { result ≡ longer_number (longer_of first.now second.now) }
 {
     longer::longer_number(longer::longer_is(first, second))
@@ -56,8 +55,7 @@ fn agreed_many(a: Agreed, before: usize) -> usize
     }
 }
 
-#[unsafe(no_mangle)]
-pub extern "C" fn journal_agreed(
+pub fn journal_agreed(
     site: &[u64],
     links: &[u64],
     c: u32,

@@ -46,8 +46,7 @@ fn handed(
     answer_number(answer)
 }
 
-#[unsafe(no_mangle)]
-pub extern "C" fn journal_own_recover(
+pub fn journal_own_recover(
     row: &mut [u64],
     out: &mut [u64],
     to: &mut u32,
@@ -75,8 +74,7 @@ pub extern "C" fn journal_own_recover(
     acted(row, out, to, s, Act::Recover)
 }
 
-#[unsafe(no_mangle)]
-pub extern "C" fn journal_own_collect(
+pub fn journal_own_collect(
     row: &mut [u64],
     out: &mut [u64],
     to: &mut u32,
@@ -104,8 +102,7 @@ pub extern "C" fn journal_own_collect(
     acted(row, out, to, s, Act::Collect)
 }
 
-#[unsafe(no_mangle)]
-pub extern "C" fn journal_own_ready(
+pub fn journal_own_ready(
     row: &mut [u64],
     out: &mut [u64],
     to: &mut u32,
@@ -133,8 +130,7 @@ pub extern "C" fn journal_own_ready(
     acted(row, out, to, s, Act::Ready)
 }
 
-#[unsafe(no_mangle)]
-pub extern "C" fn journal_own_offer(
+pub fn journal_own_offer(
     row: &mut [u64],
     out: &mut [u64],
     to: &mut u32,
@@ -164,8 +160,7 @@ pub extern "C" fn journal_own_offer(
     acted(row, out, to, s, Act::Offer(left, right))
 }
 
-#[unsafe(no_mangle)]
-pub extern "C" fn journal_own_propose(
+pub fn journal_own_propose(
     row: &mut [u64],
     out: &mut [u64],
     to: &mut u32,
@@ -193,8 +188,7 @@ pub extern "C" fn journal_own_propose(
     acted(row, out, to, s, Act::Propose)
 }
 
-#[unsafe(no_mangle)]
-pub extern "C" fn journal_own_agree(
+pub fn journal_own_agree(
     row: &mut [u64],
     out: &mut [u64],
     to: &mut u32,
@@ -222,8 +216,7 @@ pub extern "C" fn journal_own_agree(
     acted(row, out, to, s, Act::Agree)
 }
 
-#[unsafe(no_mangle)]
-pub extern "C" fn journal_own_finish(
+pub fn journal_own_finish(
     row: &mut [u64],
     out: &mut [u64],
     to: &mut u32,
@@ -251,8 +244,7 @@ pub extern "C" fn journal_own_finish(
     acted(row, out, to, s, Act::Finish)
 }
 
-#[unsafe(no_mangle)]
-pub extern "C" fn journal_own_heard(
+pub fn journal_own_heard(
     row: &mut [u64],
     out: &mut [u64],
     to: &mut u32,
@@ -280,8 +272,7 @@ pub extern "C" fn journal_own_heard(
     acted(row, out, to, s, Act::Heard)
 }
 
-#[unsafe(no_mangle)]
-pub extern "C" fn journal_own_trim(
+pub fn journal_own_trim(
     row: &mut [u64],
     out: &mut [u64],
     to: &mut u32,
@@ -310,8 +301,7 @@ pub extern "C" fn journal_own_trim(
     acted(row, out, to, s, Act::Trim(k))
 }
 
-#[unsafe(no_mangle)]
-pub extern "C" fn journal_own_mail(
+pub fn journal_own_mail(
     row: &mut [u64],
     letter: &[u64],
     out: &mut [u64],

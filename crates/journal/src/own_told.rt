@@ -7,8 +7,7 @@ ghost use Rattle.journal.specs.Numbered.{ToldAlone, setting_of};
 use rules::model::Setting;
 use rules::numbers::answer_number;
 
-#[unsafe(no_mangle)]
-pub extern "C" fn journal_own_fresh(row: &mut [u64], n: u32, j: u32, l: u32) -> u32
+pub fn journal_own_fresh(row: &mut [u64], n: u32, j: u32, l: u32) -> u32
     ensures { ToldAlone n j (fresh_on n j l row.old)
         row.old row.new result }
 {
@@ -16,8 +15,7 @@ pub extern "C" fn journal_own_fresh(row: &mut [u64], n: u32, j: u32, l: u32) -> 
 }
 
 // Box c is elected; what the box is told of its site is what there is to know after it.
-#[unsafe(no_mangle)]
-pub extern "C" fn journal_own_elected(
+pub fn journal_own_elected(
     row: &mut [u64],
     n: u32,
     j: u32,
@@ -41,8 +39,7 @@ pub extern "C" fn journal_own_elected(
     answer_number(own::elected(row, s, c))
 }
 
-#[unsafe(no_mangle)]
-pub extern "C" fn journal_own_holds(
+pub fn journal_own_holds(
     row: &[u64],
     n: u32,
     j: u32,

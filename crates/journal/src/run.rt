@@ -34,8 +34,7 @@ fn run_used(r: Run, before: u32) -> u32
     }
 }
 
-#[unsafe(no_mangle)]
-pub extern "C" fn journal_run(
+pub fn journal_run(
     site: &mut [u64],
     links: &mut [u64],
     steps: u32,

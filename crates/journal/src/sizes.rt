@@ -6,8 +6,7 @@ ghost use Rattle.memory.specs.Memory.{site_words, links_words};
 use rules::ranges;
 
 // The words of `site`; 0 for sizes outside their ranges.
-#[unsafe(no_mangle)]
-pub extern "C" fn journal_site_words(n: u32, j: u32, l: u32) -> usize
+pub fn journal_site_words(n: u32, j: u32, l: u32) -> usize
     ensures { result ≡ cond (sizes_form n j l) (site_words n j) 0 }
 {
     if !ranges::are_sizes(n as u64, j as u64, l as u64) {
@@ -17,8 +16,7 @@ pub extern "C" fn journal_site_words(n: u32, j: u32, l: u32) -> usize
 }
 
 // The words of `links`; 0 for sizes outside their ranges, and for a site of one box.
-#[unsafe(no_mangle)]
-pub extern "C" fn journal_links_words(n: u32, j: u32, l: u32) -> usize
+pub fn journal_links_words(n: u32, j: u32, l: u32) -> usize
     ensures { result ≡ cond (sizes_form n j l) (links_words n j l) 0 }
 {
     if !ranges::are_sizes(n as u64, j as u64, l as u64) {

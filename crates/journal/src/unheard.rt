@@ -26,8 +26,7 @@ fn unheard_set(u: Unheard, before: u32) -> u32
     }
 }
 
-#[unsafe(no_mangle)]
-pub extern "C" fn journal_unheard(site: &[u64], links: &[u64], c: u32, set: &mut u32) -> u32
+pub fn journal_unheard(site: &[u64], links: &[u64], c: u32, set: &mut u32) -> u32
     ensures { UnheardAnswered (unheard_on site.now links.now c)
         set.old set.new result }
 {
@@ -36,8 +35,7 @@ pub extern "C" fn journal_unheard(site: &[u64], links: &[u64], c: u32, set: &mut
     unheard_number(u)
 }
 
-#[unsafe(no_mangle)]
-pub extern "C" fn journal_own_unheard(
+pub fn journal_own_unheard(
     row: &[u64],
     set: &mut u32,
     n: u32,

@@ -15,7 +15,8 @@ use Rattle.rules.specs.Parts.{is_held, higher, room_next}
 use Rattle.rules.specs.Turns.{first_cause, unless}
 use Rattle.rules.specs.Last.{last_verdict}
 use Rattle.rules.specs.Mails.{begin_verdict, accept_verdict, lease_ack_verdict}
-use Rattle.rules.specs.Steps.{can_recover, can_collect, can_ready, has_previous, can_offer, can_propose}
+use Rattle.rules.specs.Steps.{can_recover, can_collect, can_ready, has_previous, can_offer}
+use Rattle.rules.specs.Steps.{can_propose}
 use Rattle.rules.specs.Steps.{can_agree, can_finish, can_heard, can_trim}
 use Rattle.laws.proofs.Types.{BoxState, Held, Mail, Phase, Refusal, Setting, State, Verdict}
 use Rattle.laws.proofs.Logic.{Or, left, right, both-no, eqb_yes, eqb_no, and_yes, and4}

@@ -14,7 +14,8 @@ use Rattle.rules.specs.Sizes.{unknown, within, sizes_form, left_of, right_of, pr
 use Rattle.rules.specs.Sets.{set_form}
 use Rattle.rules.specs.Box.{Box, Letter}
 use Rattle.rules.specs.Site.{Site, is_box, is_link}
-use Rattle.rules.specs.Form.{first_form, count_form, peer_form, form_box, bare, form_kind, form_letter}
+use Rattle.rules.specs.Form.{first_form, count_form, peer_form, form_box, bare, form_kind}
+use Rattle.rules.specs.Form.{form_letter}
 use Rattle.rules.specs.Form.{form_link, form}
 use Rattle.laws.proofs.Types.{Kind}
 use Rattle.laws.proofs.Logic.{Or, left, right, In, eqb_yes, eqb_no, same?, and_yes, and3}

@@ -8,7 +8,8 @@ use lib.Dec.{eqb, ltb}
 use lib.ListN.{get_or}
 use Rattle.rules.specs.Parts.{higher, dropped, took_kept}
 use Rattle.rules.specs.Last.{told, raised, counted, uncounted, replied, on_last}
-use Rattle.rules.specs.Mails.{on_collect, on_begin, on_accept, on_commit, on_lease, on_lease_ack, of_kind}
+use Rattle.rules.specs.Mails.{on_collect, on_begin, on_accept, on_commit, on_lease, on_lease_ack}
+use Rattle.rules.specs.Mails.{of_kind}
 use Rattle.rules.specs.Mails.{on_mail}
 use Rattle.rules.specs.Steps.{elected, recover, collect, started, leased, ready, offer, propose}
 use Rattle.rules.specs.Steps.{agree, finish, lease_heard, trim, acted}
@@ -134,7 +135,8 @@ module _ (s : Setting) (x : Box) (shape : Shaped (store x)) where
 
     grow_kind : (k : Kind)
         → Mailed (of_kind k x.head s a y.head (get_or y.records 0 0) (next_of y) (mine x))
-    unfolding of_kind on_collect on_last on_begin on_accept on_commit on_lease on_lease_ack told took_kept
+    unfolding of_kind on_collect on_last on_begin on_accept on_commit on_lease
+        on_lease_ack told took_kept
         written
     grow_kind Kind.Collect =
         by-verdict Mailed _ _ _ (λ a. stays) (λ go. grows-promised (store x) _)

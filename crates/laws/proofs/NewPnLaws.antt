@@ -52,7 +52,8 @@ new_pn-only old rank m few h =
     omega (arith, here, there)
 
 -- a number that is not above the old one wherever it has the rank is not the new one
-pub new_pn-nowhere : (old rank v : ℕ) → rank < 100 → (v % 100 ≡ rank → v ≤ old) → v ≡ new_pn old rank
+pub new_pn-nowhere : (old rank v : ℕ) → rank < 100 → (v % 100 ≡ rank → v ≤ old)
+    → v ≡ new_pn old rank
     → ⊥
 new_pn-nowhere old rank v few f e =
     let h : v ≤ old = f (ap (λ (t : ℕ). t % 100) e ∙ new_pn-rank old rank few) in

@@ -152,7 +152,8 @@ unfolding set_form
 set-zero zero = refl
 set-zero (suc n) = set-zero n
 
-pub set_or : (n a b : ℕ) → set_form n a ≡ true → set_form n b ≡ true → set_form n (bit_or a b) ≡ true
+pub set_or : (n a b : ℕ) → set_form n a ≡ true → set_form n b ≡ true
+    → set_form n (bit_or a b) ≡ true
 unfolding set_form
 set_or zero a b p q = rw (eqb_yes a 0 p, eqb_yes b 0 q) refl
 set_or (suc n) a b p q = rw (or_parts a b).0 (set_or n (a / 2) (b / 2) p q)

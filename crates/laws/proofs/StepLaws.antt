@@ -16,7 +16,8 @@ use Rattle.rules.specs.Box.{Box, Letter, Event, own, mail, turn_of, brought}
 use Rattle.rules.specs.Site.{Site, Outcome, setting, room, played, popped, doubled}
 use Rattle.rules.specs.Form.{form}
 use Rattle.rules.specs.Needs.{Need, ruled}
-use Rattle.rules.specs.Step.{refused, by_answer, by_turn, at_box, acting, delivered, elect, presented}
+use Rattle.rules.specs.Step.{refused, by_answer, by_turn, at_box, acting, delivered, elect}
+use Rattle.rules.specs.Step.{presented}
 use Rattle.rules.specs.Step.{step, run}
 use Rattle.laws.proofs.Types.{Act, Answer, BoxState, Call, Cause, Refusal, Turn, Verdict}
 use Rattle.laws.proofs.Logic.{In, Passed, both-no, cond_elim}

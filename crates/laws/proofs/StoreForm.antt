@@ -11,7 +11,8 @@ use lib.Seq.{get_or-set_same, get_or-set_other}
 use Rattle.rules.specs.Sizes.{most_boxes, most_number, most_pn, unknown}
 use Rattle.rules.specs.Sets.{set_form}
 use Rattle.rules.specs.Fields.{promised, lasting, keeping, storing}
-use Rattle.rules.specs.Parts.{all_unknown, is_held, under_of, span, higher, took_kept, took_book, none}
+use Rattle.rules.specs.Parts.{all_unknown, is_held, under_of, span, higher, took_kept, took_book}
+use Rattle.rules.specs.Parts.{none}
 use Rattle.rules.specs.Parts.{cleared}
 use Rattle.rules.specs.Last.{noted, improves, bettered}
 use Rattle.rules.specs.Steps.{best_held}

@@ -7,7 +7,8 @@ use native.Mathlib.Omega.{arith}
 use lib.Dec.{ltb}
 use lib.ListN.{length, get_or, take, length-take}
 use borrow.Author.Tests.{ltb-true, leb-true, le-leb, lt-ltb}
-use Rattle.rules.specs.Sizes.{most_boxes, most_number, most_pn, record_of, left_of, right_of, proper}
+use Rattle.rules.specs.Sizes.{most_boxes, most_number, most_pn, record_of, left_of, right_of}
+use Rattle.rules.specs.Sizes.{proper}
 use Rattle.rules.specs.Sets.{set_form, bit}
 use Rattle.rules.specs.NewPn.{new_pn}
 use Rattle.rules.specs.Turns.{settled, still, mail_of, mail_from}
@@ -16,7 +17,8 @@ use Rattle.rules.specs.Last.{noted, told, lagging, raised, counted, uncounted, r
 use Rattle.rules.specs.Mails.{unagreed_of, on_collect, on_begin, on_accept, on_commit, on_lease}
 use Rattle.rules.specs.Mails.{on_lease_ack, of_kind, on_mail}
 use Rattle.rules.specs.Steps.{recover, collect, started, leased, has_previous, can_ready, ready}
-use Rattle.rules.specs.Steps.{offer, can_propose, propose, can_agree, agree, finish, lease_heard, trim}
+use Rattle.rules.specs.Steps.{offer, can_propose, propose, can_agree, agree, finish, lease_heard}
+use Rattle.rules.specs.Steps.{trim}
 use Rattle.rules.specs.Steps.{acted}
 use Rattle.rules.specs.Box.{Box, Letter, Event, own, mail, mine, next_of, written, enclosed}
 use Rattle.rules.specs.Box.{BookFits, letter_of, turn_of, turned, brought}

@@ -34,7 +34,8 @@ enclosed-part Kind.LeaseAck l rs h = refl
 pub count-enclosed : (k : Kind) (l : ℕ) (rs : List ℕ)
     → enclosed_from k l + enclosed_count k l (length rs) ≤ length rs
     → length (enclosed k l rs) ≡ enclosed_count k l (length rs)
-count-enclosed k l rs h = ap length (enclosed-part k l rs h) ∙ length_part (enclosed_from k l) _ rs h
+count-enclosed k l rs h = ap length (enclosed-part k l rs h)
+    ∙ length_part (enclosed_from k l) _ rs h
 
 module _ (p : List ℕ) (m : Mail) (ys : List ℕ) (count : ℕ) (long : length ys ≡ count) where
   -- the place, its words written and then its records

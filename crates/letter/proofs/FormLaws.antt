@@ -143,7 +143,8 @@ module _ (J pn last first unagreed count : ℕ) where
   }
 
   pub kind_fits : (k : Kind) → form_kind k J pn last first unagreed count ≡ true
-      → leb pn most_pn ≡ true → leb unagreed most_pn ≡ true → leb last most_number ≡ true → KindFits k
+      → leb pn most_pn ≡ true → leb unagreed most_pn ≡ true → leb last most_number
+      ≡ true → KindFits k
   unfolding form_kind
   kind_fits Kind.Collect g p u l = bare-fits Kind.Collect p l (bare-says g)
   kind_fits Kind.Last g p u l =

@@ -183,7 +183,8 @@ printed-read l e r =
     let t = parted (line_numbers l) in
     let g = again l e in
     pick-false _ _ _ (le-ltb 64 (length (line_bytes l)) (omega (arith, short l r)))
-    ∙ (ap (λ (v : Word). line_of v (numbers_of (drop (length (word_bytes v)) (line_bytes l)))) (g.1 t)
+    ∙ (ap (λ (v : Word). line_of v (numbers_of (drop (length (word_bytes v)) (line_bytes l))))
+    (g.1 t)
     ∙ (ap (λ (u : List ℕ). line_of (line_word l) (numbers_of u)) (drop-append_seam w t)
     ∙ (ap (line_of (line_word l)) (numbers-again (line_numbers l) g.2 g.3 r) ∙ g.0)))
 

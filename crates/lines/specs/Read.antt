@@ -1,5 +1,6 @@
 -- What a line says: a word at its start, and then the word's numbers, parted by one space.
-use Rattle.std.specs.Prelude.{ℕ, ◌+◌, ◌-◌, ◌*◌, Bool, true, false, not, ◌&&◌, ◌||◌, List, [], ◌∷◌, ltb, eqb, length, drop}
+use Rattle.std.specs.Prelude.{ℕ, ◌+◌, ◌-◌, ◌*◌, Bool, true, false, not, ◌&&◌, ◌||◌, List, [], ◌∷◌}
+use Rattle.std.specs.Prelude.{ltb, eqb, length, drop}
 use Rattle.rules.specs.Pick.{pick}
 use Rattle.rules.specs.declared.model.Call.{Call}
 use Rattle.lines.specs.Table.{word_bytes, arity_of, starts, word_of}

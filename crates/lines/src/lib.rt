@@ -1,4 +1,6 @@
 // Reads a line of a trace: a fixed word at its start, then decimals parted by one space.
+#![tactic(auto)]
+
 ghost use Rattle.std.specs.Prelude.{◌≡◌, ◌+◌, ltb, length, drop};
 ghost use Rattle.rules.specs.Pick.{pick};
 ghost use Rattle.lines.specs.Table.{word_bytes, arity_of, starts as starts_with, word_of};

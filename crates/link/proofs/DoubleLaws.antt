@@ -73,8 +73,10 @@ head-count {J} {L} {a} {r} at =
 
 -- a is where the head's place begins, and the code's other numbers are those of the words
 module _ {J L a : ℕ} {r : List ℕ} (ok : ReadableLink J L r) (at : HeadAt J L r a)
-    (few : length (link_of J L r) < L) {s c b p x : ℕ} (es : s ≡ get_or r 0 0) (ec : c ≡ get_or r 1 0)
-    (eb : b ≡ previous L s) (ep : p ≡ place_start J L b 0) (ex : x ≡ get_or r (a + count_at) 0) where
+    (few : length (link_of J L r) < L) {s c b p x : ℕ} (es : s ≡ get_or r 0 0) (ec : c
+    ≡ get_or r 1 0)
+    (eb : b ≡ previous L s) (ep : p ≡ place_start J L b 0) (ex : x
+    ≡ get_or r (a + count_at) 0) where
   front_at : p ≡ front_start J L r
   front_at =
       let w = place_width J in

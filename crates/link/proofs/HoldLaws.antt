@@ -27,7 +27,8 @@ use Rattle.link.proofs.LinkLaws.{fits-says, fits-made, length-link, two-set}
 use Rattle.link.proofs.LinkLaws.{link-none, fits-none, places_pop, places_push, form-held}
 
 -- the one product of a link's sizes
-pub places-most : {J L : ℕ} → LinkSizes J L → L * place_width J ≤ most_mails * place_width most_loads
+pub places-most : {J L : ℕ} → LinkSizes J L
+    → L * place_width J ≤ most_mails * place_width most_loads
 places-most h =
     mul-le-mul {n₂ = most_mails} {m₂ = place_width most_loads} h.few-mails (omega arith)
 

@@ -11,7 +11,7 @@ use borrow.Author.Tests.{eqb-true, ne_eqb, eq-eqb, leb-true, ltb-true, not-true}
 use Rattle.rules.specs.Pick.{pick, pick_true, pick-false}
 use Rattle.rules.specs.Every.{each}
 use Rattle.rules.specs.Sizes.{record_of, left_of, right_of, proper}
-use Rattle.bytes.specs.Bytes.{index_after, index_of}
+use Rattle.scan.specs.Bytes.{index_after, index_of}
 use Rattle.print.specs.Decimal.{decimal}
 use Rattle.laws.proofs.Logic.{Or, left, right, decide, below?, or_no, and_yes, and_both, and3}
 use Rattle.laws.proofs.Logic.{both-no}

@@ -5,7 +5,7 @@ use mathlib.Core.List.{List, []}
 use native.Mathlib.Omega.{arith}
 use lib.ListN.{length, take, drop, length-drop, drop_of_length-le}
 use lib.Seq.{take-length, take_all}
-use Rattle.bytes.specs.Bytes.{slice, index_of}
+use Rattle.scan.specs.Bytes.{slice, index_of}
 use Rattle.lists.specs.Lists.{up_to, behind}
 
 module _ (b : ℕ) (s : List ℕ) {e : ℕ} (found : e ≡ 0 + index_of b (slice 0 (length s) s)) where

@@ -12,7 +12,7 @@ use lib.Seq.{take_all, take-suc-set, drop-drop, length-take-le}
 use borrow.Author.Tests.{le-leb, lt-leb, ne_eqb}
 use Rattle.rules.specs.Pick.{pick_true, pick-false}
 use Rattle.rules.specs.Every.{each}
-use Rattle.bytes.specs.Bytes.{index_of}
+use Rattle.scan.specs.Bytes.{index_of}
 use Rattle.laws.proofs.Logic.{and_yes, and_both}
 use Rattle.lists.specs.Lists.{up_to, behind, record_in, records_by, is_held, listed_as}
 use Rattle.lists.specs.Lists.{Reads}

@@ -7,7 +7,7 @@ use native.Mathlib.Omega.{arith}
 use lib.Dec.{eqb}
 use lib.ListN.{length, take, drop}
 use Rattle.rules.specs.Pick.{pick}
-use Rattle.bytes.specs.Bytes.{index_after, index_of}
+use Rattle.scan.specs.Bytes.{index_after, index_of}
 use Rattle.laws.proofs.Logic.{Or, left, right, below?}
 use Rattle.lists.specs.Lists.{up_to, behind, ahead, parted_by}
 

@@ -5,7 +5,7 @@ use Rattle.std.specs.Prelude.{ℕ, ◌+◌, ◌≡◌, Bool, not, ◌&&◌, ◌|
 use Rattle.rules.specs.Pick.{pick}
 use Rattle.rules.specs.Every.{each}
 use Rattle.rules.specs.Sizes.{record_of}
-use Rattle.bytes.specs.Bytes.{index_of}
+use Rattle.scan.specs.Bytes.{index_of}
 use Rattle.print.specs.Bytes.{bytes}
 use Rattle.lines.specs.Read.{read_one}
 use Rattle.lines.specs.declared.One.{One}

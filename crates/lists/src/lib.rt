@@ -1,7 +1,9 @@
 // A line of two load lists, and its answer: two lists parted by a space, each `-` or its records
 // `LEFT:RIGHT` parted by commas.
+#![tactic(auto)]
+
 ghost use Rattle.std.specs.Prelude.{◌≡◌, ◌+◌, ◌≤◌, length, take};
-ghost use Rattle.bytes.specs.Bytes.{index_of};
+ghost use Rattle.scan.specs.Bytes.{index_of};
 ghost use Rattle.print.specs.Text.{Wrote};
 ghost use Rattle.lists.specs.Lists.{
   up_to,
@@ -43,7 +45,7 @@ fn place_of(s: &[u8], b: u8) -> usize
     ensures upper_bound { result ≤ length s.now }
 {
     let n = s.len();
-    bytes::scan::find(s, 0, n, b)
+    scan::find(s, 0, n, b)
 }
 
 // What stands before the first b.
@@ -51,7 +53,7 @@ fn up_to(s: &[u8], b: u8) -> &[u8]
     ensures { result.now ≡ up_to b s.now }
 {
     let n = s.len();
-    let e = bytes::scan::find(s, 0, n, b);
+    let e = scan::find(s, 0, n, b);
     &s[0..e]
 }
 
@@ -60,7 +62,7 @@ fn behind(s: &[u8], b: u8) -> &[u8]
     ensures { result.now ≡ rest_behind b s.now }
 {
     let n = s.len();
-    let e = bytes::scan::find(s, 0, n, b);
+    let e = scan::find(s, 0, n, b);
     if e < n {
         return &s[e + 1..n];
     }

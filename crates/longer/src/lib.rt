@@ -1,5 +1,7 @@
 // The longer of two load lists (Q-14), and the part of a list from a later first number on. A list
 // is lent words, a record each: left × 2^32 + right.
+#![tactic(auto)]
+
 ghost use Rattle.std.specs.Prelude.{◌≡◌, ◌≤◌, length};
 ghost use Rattle.longer.specs.Longer.{begins, longer_of, longer_number, Part, from_first};
 

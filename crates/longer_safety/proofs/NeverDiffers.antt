@@ -34,7 +34,8 @@ use Rattle.longer_safety.proofs.Lists.{never, whole_lists, some_record}
 module _ (n J L : ℕ) (size : In n most_boxes) (calls : List Call) (b d : ℕ) (b-in : In b n)
     (d-in : In d n) where
   later : (further : List Call)
-      → longer_of_boxes ((run (start n J L) calls).box b) ((run (start n J L) (further ++ calls)).box d)
+      → longer_of_boxes ((run (start n J L) calls).box b)
+      ((run (start n J L) (further ++ calls)).box d)
       ≡ Which.Differs → ⊥
   later further =
       never ((run (start n J L) calls).box b) ((run (start n J L) (further ++ calls)).box d)
@@ -106,7 +107,8 @@ at-two {n} {J} {L} g {h} {xs' = xs'} {ls' = ls'} p q =
     (subst (Stands n J L xs' ls') (calls-more g h) (stands (holds-run q)))
 
 named-first : {n J L : ℕ} {xs ls : List ℕ} {calls : List Call} → Stands n J L xs ls calls → (b : ℕ)
-    → In b n → (at : ℕ) × (count : ℕ) × (agreed_on xs ls b ≡ Agreed.Kept (firsts_in xs ls b) at count)
+    → In b n → (at : ℕ) × (count : ℕ)
+    × (agreed_on xs ls b ≡ Agreed.Kept (firsts_in xs ls b) at count)
 unfolding agreed_on agreed_in
 named-first {xs} {ls} p b i =
     (_, _, pick_true _ _ _ p.form ∙ pick_true _ _ _ (p.is-box b i))

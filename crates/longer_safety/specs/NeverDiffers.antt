@@ -27,7 +27,8 @@ longer_of_boxes x y =
 -- .. of what `agreed_records` hands out of the words xs and ls for box b, and of xs' and ls' for d
 abbrev pub longer_of_words : List ℕ → List ℕ → ℕ → List ℕ → List ℕ → ℕ → Which
 longer_of_words xs ls b xs' ls' d =
-    longer_from (firsts_in xs ls b) (firsts_in xs' ls' d) (records_on xs ls b) (records_on xs' ls' d)
+    longer_from (firsts_in xs ls b) (firsts_in xs' ls' d) (records_on xs ls b)
+    (records_on xs' ls' d)
 
 pub record NeverDiffers : Type 0 where
   -- For every n from 1 to 5, every J and L, and any calls from the fresh site.
@@ -44,7 +45,8 @@ pub record NeverDiffers : Type 0 where
   -- Over time: one list may be older than the other by any calls, as the weigh house may have it.
   pub over-time : (n J L : ℕ) → In n most_boxes → (calls further : List Call) (b d : ℕ)
       → In b n → In d n
-      → longer_of_boxes ((run (start n J L) calls).box b) ((run (start n J L) (further ++ calls)).box d)
+      → longer_of_boxes ((run (start n J L) calls).box b)
+      ((run (start n J L) (further ++ calls)).box d)
       ≡ Which.Differs → ⊥
   -- Of the words that `fresh` and `step` made, the site stored and loaded in between: the same.
   pub of_words : {n J L : ℕ} {h : Talk} {xs ls : List ℕ} → Served n J L h xs ls → (b d : ℕ)

@@ -118,7 +118,8 @@ module _ (a b : ℕ) {s : Setting} {ls : List ℕ} {p e : ℕ} (lent : LinksLent
   -- one letter more goes from a to b, which is in the set
   pub send_done : (set : ℕ) → has set b ≡ true → (y : Letter) {ys : List ℕ}
       → Holds s.j s.l ys (link_of s.j s.l held ++ (y ∷ []))
-      → LinksPut s (sent (links_of s ls) a (λ c. has set c && eqb c b) y) ls (splice ls p (e - p) ys)
+      → LinksPut s (sent (links_of s ls) a (λ c. has set c && eqb c b) y) ls
+      (splice ls p (e - p) ys)
   send_done set in-set y {ys} holds =
       link-done ys _ holds _
       (λ x c. cond_same (eqb x a && eqb c b) (same-link (λ l. l ++ (y ∷ [])) x c) (λ d. refl)

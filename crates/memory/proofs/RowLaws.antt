@@ -164,4 +164,5 @@ leads-yes {r} {q} e f = rw (eq-eqb (get_or q 0 0) 1 (ap (λ (l : List ℕ). get_
 
 pub leads-no : {r q : List ℕ} → r ≡ q → (get_or r 0 0 ≡ 1 → ⊥)
     → ◌≡◌ {A = ℕ} 0 (cond (eqb (get_or q 0 0) 1) 1 0)
-leads-no {r} {q} e f = rw (ne_eqb (get_or q 0 0) 1 (λ g. f (ap (λ (l : List ℕ). get_or l 0 0) e ∙ g)))
+leads-no {r} {q} e f =
+    rw (ne_eqb (get_or q 0 0) 1 (λ g. f (ap (λ (l : List ℕ). get_or l 0 0) e ∙ g)))

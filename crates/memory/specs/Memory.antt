@@ -1,7 +1,8 @@
 -- The site in two lists of words that the caller lends. `site`: n, J, L, epoch, present set, and
 -- then a row for each box. `links`: a row for each ordered pair of different boxes, by sender then
 -- receiver. All other words are unused room.
-use Rattle.std.specs.Prelude.{ℕ, ◌+◌, ◌-◌, ◌*◌, Bool, ◌&&◌, ◌||◌, cond, List, [], ◌∷◌, leb, ltb, eqb, length, drop, get_or}
+use Rattle.std.specs.Prelude.{ℕ, ◌+◌, ◌-◌, ◌*◌, Bool, ◌&&◌, ◌||◌, cond, List, [], ◌∷◌, leb, ltb}
+use Rattle.std.specs.Prelude.{eqb, length, drop, get_or}
 use Rattle.words.specs.Rows.{part}
 use Rattle.rules.specs.Every.{all, every}
 use Rattle.rules.specs.Sizes.{sizes_form}

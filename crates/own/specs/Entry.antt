@@ -1,6 +1,7 @@
 -- The box by itself in lent words: its row, its setting, one event in; the row, one letter and its
 -- receivers out.
-use Rattle.std.specs.Prelude.{ℕ, ◌+◌, ◌≡◌, Bool, true, false, not, ◌&&◌, ◌||◌, cond, List, [], ◌∷◌, eqb, leb, ltb, length, take, drop}
+use Rattle.std.specs.Prelude.{ℕ, ◌+◌, ◌≡◌, Bool, true, false, not, ◌&&◌, ◌||◌, cond, List, [], ◌∷◌}
+use Rattle.std.specs.Prelude.{eqb, leb, ltb, length, take, drop}
 use Rattle.rules.specs.Sizes.{sizes_form}
 use Rattle.rules.specs.Answers.{is_refusal, is_accepted}
 use Rattle.rules.specs.Box.{Box, Letter, Event, own, mail}

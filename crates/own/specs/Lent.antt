@@ -1,5 +1,6 @@
 -- What the functions over a box's own row and the places of its letters ask for and give.
-use Rattle.std.specs.Prelude.{◌≡◌, ℕ, ◌+◌, ◌≤◌, Bool, true, not, ◌&&◌, ◌||◌, cond, List, [], ◌∷◌, eqb, length}
+use Rattle.std.specs.Prelude.{◌≡◌, ℕ, ◌+◌, ◌≤◌, Bool, true, not, ◌&&◌, ◌||◌, cond, List, [], ◌∷◌}
+use Rattle.std.specs.Prelude.{eqb, length}
 use Rattle.rules.specs.Sizes.{most_epoch, within, sizes_form}
 use Rattle.rules.specs.Sets.{set_form}
 use Rattle.rules.specs.Needs.{Need, need, ruled}

@@ -126,7 +126,8 @@ fn judge(row: &[u64], letter: &[u64], s: Setting, mailed: bool, numbers: bool) -
 
 // 12 where the turn goes on and the place for its letter has too few words.
 fn answer_in(a: Answer, place: usize, j: u32) -> Answer
-    ensures { result ≡ cond (is_accepted a && ltb place (head_words + j)) (Answer.Refused Refusal.Buffer) a }
+    ensures { result ≡ cond (is_accepted a && ltb place (head_words + j))
+        (Answer.Refused Refusal.Buffer) a }
 {
     let room = letter::HEAD + j as usize;
     let accepted = answers::is_accepted(a);

@@ -16,7 +16,8 @@ use Rattle.laws.proofs.Types.{Answer, Refusal, Setting}
 use Rattle.laws.proofs.Logic.{true≠false}
 use Rattle.letter.specs.Place.{head_words as letter_head}
 use Rattle.row.specs.Row.{box_of, row_width}
-use Rattle.own.specs.Entry.{row_of, own_box, row_reads, buffered, own_on, fresh_on, elected_on, holds_on}
+use Rattle.own.specs.Entry.{row_of, own_box, row_reads, buffered, own_on, fresh_on, elected_on}
+use Rattle.own.specs.Entry.{holds_on}
 
 module _ (s : Setting) where
   -- a turn is the box's own step

@@ -24,7 +24,8 @@ use Rattle.alone.specs.Yard.{Alone, Lived}
 use Rattle.alone.proofs.Keeps.{demand_3_alone}
 use Rattle.alone.specs.Alone.{AllFit}
 use Rattle.own_safety.specs.Boards.{Boards, asks}
-use Rattle.own_safety.specs.Worked.{Worked, did, told, waits, asked, box_in, firsts_in, Reads}
+use Rattle.own_safety.specs.Worked.{Worked, began, did, told, waits, asked, box_in, firsts_in}
+use Rattle.own_safety.specs.Worked.{Reads}
 use Rattle.own_safety.specs.Worked.{WorkedSafely}
 use Rattle.own_safety.proofs.Read.{yard_of, box-at}
 use Rattle.own_safety.proofs.Alike.{alike}
@@ -35,6 +36,8 @@ use Rattle.own_safety.proofs.Lives.{alive}
 -- only boxes are asked
 asked-box : {n J L : ℕ} {h : Talk} {y : Boards} {i b k l r : ℕ} {a : Answer} → Worked n J L h y
     → At h i (held b k l r a) → In b n
+asked-box {n = n} {L = L} {i = i} {b = b} {k = k} {l = l} {r = r} {a = a} (began words rows _ _) q =
+    elim q [ ]
 asked-box (did w happens) (before q) = asked-box w q
 asked-box (told b r w tells) q = asked-box w q
 asked-box (waits b e w i old t) q = asked-box old q

@@ -12,7 +12,8 @@ use Rattle.own.specs.Entry as entry
 use Rattle.own.specs.Entry.{Owned, act_on, mail_on, elected_on, holds_on}
 use Rattle.own.specs.Lent.{StillReads}
 use Rattle.alone.specs.Links.{call_of}
-use Rattle.alone.specs.Apart.{Apart, known, now, without-head, answered_as, carried_as, Told, Untold}
+use Rattle.alone.specs.Apart.{Apart, known, now, without-head, answered_as, carried_as, Told}
+use Rattle.alone.specs.Apart.{Untold}
 use Rattle.alone.specs.Apart.{Head, Brings}
 
 -- a row is its words, and a letter those of its place: the carrier copies words

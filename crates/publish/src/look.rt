@@ -2,16 +2,17 @@
 use crate::pieces::{Piece, least};
 use crate::run::{Run, Stage};
 use crate::{pieces, say, way};
-use libc::STDIN_FILENO;
 use renamed::judge;
+use std::io::Input;
+use streams::Streams;
 use wording::put;
 
 // The lines of part; of the first that has no name the text goes into shown.
-fn look_at(back: bool, part: &[u8], shown: &mut [u8], run: Run) -> Run {
+fn look_at<S: Streams>(rt: &S, back: bool, part: &[u8], shown: &mut [u8], run: Run) -> Run {
     let j = judge::judge(run.judged(), part, way::from(back), way::to(back));
     if j.unreadable != 0 {
         let k = std::num::wrapping_sub_u64(std::num::wrapping_sub_u64(j.unreadable, run.lines), 1);
-        say::unreadable(back, j.unreadable, pieces::from_line(part, k));
+        say::unreadable(rt, back, j.unreadable, pieces::from_line(part, k));
         return run.with_judged(j, 0).with_stage(Stage::Refused);
     }
     if (run.unnamed != 0) | (j.unnamed == 0) {
@@ -23,23 +24,30 @@ fn look_at(back: bool, part: &[u8], shown: &mut [u8], run: Run) -> Run {
 }
 
 // The buffer is filled to n. More than 64 bytes that no newline has ended are no line.
-fn look_lines(back: bool, piece: &mut [u8], n: usize, shown: &mut [u8], run: Run) -> Run {
+fn look_lines<S: Streams>(
+    rt: &S,
+    back: bool,
+    piece: &mut [u8],
+    n: usize,
+    shown: &mut [u8],
+    run: Run,
+) -> Run {
     let n = least(n, piece.len());
     let e = pieces::whole(&piece[0..n]);
-    let r = look_at(back, &piece[0..e], shown, run);
+    let r = look_at(rt, back, &piece[0..e], shown, run);
     if !r.goes_on() {
         return r;
     }
     if 64 < n - e {
-        return look_at(back, &piece[e..n], shown, r);
+        return look_at(rt, back, &piece[e..n], shown, r);
     }
     r.with_held(pieces::move_down(piece, e, n))
 }
 
 // The input has ended; the last bytes are no line where no newline ended them.
-fn look_end(back: bool, piece: &[u8], shown: &mut [u8], run: Run) -> Run {
+fn look_end<S: Streams>(rt: &S, back: bool, piece: &[u8], shown: &mut [u8], run: Run) -> Run {
     let n = least(run.held, piece.len());
-    let r = look_at(back, &piece[0..n], shown, run);
+    let r = look_at(rt, back, &piece[0..n], shown, run);
     if !r.goes_on() {
         return r;
     }
@@ -47,32 +55,43 @@ fn look_end(back: bool, piece: &[u8], shown: &mut [u8], run: Run) -> Run {
         return r.with_stage(Stage::Ended);
     }
     let k = least(r.shown, shown.len());
-    say::unnamed(back, r.unnamed, &shown[0..k]);
+    say::unnamed(rt, back, r.unnamed, &shown[0..k]);
     r.with_stage(Stage::Refused)
 }
 
 // The buffer is filled to n: what is new is kept, where that is to be.
-fn look_filled(
+fn look_filled<S: Streams>(
+    rt: &S,
     back: bool,
     kept: bool,
+    file: &mut S::File,
     piece: &mut [u8],
     n: usize,
     shown: &mut [u8],
     run: Run,
 ) -> Run {
-    if !pieces::keep(kept, piece, run.held, n) {
-        say::keeping_failed(back);
+    if let Err(error) = pieces::keep(rt, kept, file, piece, run.held, n) {
+        say::keeping_failed(rt, back, error);
         return run.with_stage(Stage::Failed);
     }
-    look_lines(back, piece, n, shown, run)
+    look_lines(rt, back, piece, n, shown, run)
 }
 
-fn look_piece(back: bool, kept: bool, piece: &mut [u8], shown: &mut [u8], run: Run) -> Run {
-    match pieces::fill(STDIN_FILENO, piece, run.held) {
-        Piece::Filled(n) => look_filled(back, kept, piece, n, shown, run),
-        Piece::End => look_end(back, piece, shown, run),
-        Piece::Failed => {
-            say::input_failed(back);
+fn look_piece<S: Streams>(
+    rt: &S,
+    back: bool,
+    kept: bool,
+    file: &mut S::File,
+    piece: &mut [u8],
+    shown: &mut [u8],
+    run: Run,
+) -> Run {
+    let mut from = rt.reader();
+    match pieces::fill(rt, &mut from, piece, run.held) {
+        Piece::Filled(n) => look_filled(rt, back, kept, file, piece, n, shown, run),
+        Piece::End => look_end(rt, back, piece, shown, run),
+        Piece::Failed(error) => {
+            say::input_failed(rt, back, error);
             run.with_stage(Stage::Failed)
         }
     }
@@ -80,11 +99,18 @@ fn look_piece(back: bool, kept: bool, piece: &mut [u8], shown: &mut [u8], run: R
 
 // Reads to the end of the input, or to a line that cannot be read. A proved loop has to end, and
 // nothing says that an input does: so the reads are counted down from a number that no run uses up.
-pub(crate) fn look(back: bool, kept: bool, piece: &mut [u8], shown: &mut [u8]) -> Run {
+pub(crate) fn look<S: Streams>(
+    rt: &S,
+    back: bool,
+    kept: bool,
+    file: &mut S::File,
+    piece: &mut [u8],
+    shown: &mut [u8],
+) -> Run {
     let mut r = Run::start();
     let mut turns = u64::MAX;
     while turns > 0 {
-        r = look_piece(back, kept, piece, shown, r);
+        r = look_piece(rt, back, kept, file, piece, shown, r);
         if !r.goes_on() {
             return r;
         }

@@ -1,18 +1,18 @@
 // An input in a lent buffer, in whole lines: what no newline has ended yet stands at its front.
 ghost use Rattle.std.specs.Prelude.{◌≤◌, length};
 
-use libc::STDIN_FILENO;
-use streams::Got;
+use std::io::{Error, Read, Result};
+use streams::{Got, Streams};
 
 // The file that keeps an input which cannot be read twice.
-const KEPT: i32 = 4;
+const KEPT: &str = "/proc/self/fd/4";
 
 // So many bytes stand in the buffer; or the input has ended; or the reading failed.
 #[derive(Clone, Copy)]
 pub enum Piece {
     Filled(usize),
     End,
-    Failed,
+    Failed(Error),
 }
 
 pub(crate) fn least(a: usize, b: usize) -> usize
@@ -22,32 +22,44 @@ pub(crate) fn least(a: usize, b: usize) -> usize
     if a < b { a } else { b }
 }
 
-// What is read the second time.
-pub(crate) fn source(kept: bool) -> i32 {
+// What is read the second time; it stands where the trace begins.
+pub(crate) fn source<S: Streams>(rt: &S, kept: bool) -> Result<S::File> {
     if kept {
-        return KEPT;
+        return streams::open_to_keep(rt, KEPT);
     }
-    STDIN_FILENO
+    streams::open_input_again(rt)
 }
 
-// The bytes from start to end are kept, where that is to be; false: it failed.
-pub(crate) fn keep(kept: bool, piece: &[u8], start: usize, end: usize) -> bool {
+// The bytes from start to end are kept in the file, where that is to be.
+pub(crate) fn keep<S: Streams>(
+    rt: &S,
+    kept: bool,
+    file: &mut S::File,
+    piece: &[u8],
+    start: usize,
+    end: usize,
+) -> Result<()> {
     if !kept {
-        return true;
+        return Ok(());
     }
     let e = least(end, piece.len());
     let s = least(start, e);
-    streams::send(KEPT, &piece[s..e])
+    streams::send(rt, file, &piece[s..e])
 }
 
 // One read behind the bytes that are held.
-pub(crate) fn fill(fd: i32, piece: &mut [u8], held: usize) -> Piece {
+pub(crate) fn fill<S: Streams, R: Read>(
+    rt: &S,
+    from: &mut R,
+    piece: &mut [u8],
+    held: usize,
+) -> Piece {
     let h = least(held, piece.len());
     let room = piece.len() - h;
-    match streams::receive(fd, &mut piece[h..]) {
+    match streams::receive(rt, from, &mut piece[h..]) {
         Got::Bytes(n) => Piece::Filled(h + least(n, room)),
         Got::End => Piece::End,
-        Got::Failed => Piece::Failed,
+        Got::Failed(error) => Piece::Failed(error),
     }
 }
 
@@ -96,7 +108,7 @@ pub(crate) fn from_line(s: &[u8], k: u64) -> &[u8] {
     let mut i = 0;
     let mut left = k;
     while left > 0 {
-        let e = bytes::scan::find(s, i, n, 10);
+        let e = scan::find(s, i, n, 10);
         if n <= e {
             return &s[n..n];
         }
@@ -109,6 +121,6 @@ pub(crate) fn from_line(s: &[u8], k: u64) -> &[u8] {
 // The first line, without its newline.
 pub(crate) fn first_line(s: &[u8]) -> &[u8] {
     let n = s.len();
-    let e = bytes::scan::find(s, 0, n, 10);
+    let e = scan::find(s, 0, n, 10);
     &s[0..e]
 }

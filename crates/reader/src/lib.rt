@@ -1,4 +1,6 @@
 // The reader of the site image: everything is checked before the first word is stored.
+#![tactic(auto)]
+
 ghost use Rattle.whole.specs.Whole.{ImageFound};
 ghost use Rattle.reader.specs.Reader.{ReadIs};
 

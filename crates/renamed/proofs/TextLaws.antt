@@ -8,7 +8,7 @@ use lib.Dec.{leb}
 use lib.ListN.{length, take, drop, length-append, length-drop}
 use borrow.Author.Tests.{le-leb, lt-leb}
 use Rattle.rules.specs.Every.{each}
-use Rattle.bytes.specs.Bytes.{index_of, slice}
+use Rattle.scan.specs.Bytes.{index_of, slice}
 use Rattle.laws.proofs.Logic.{Or, left, right, below?, and_yes, both-no}
 use Rattle.lines.specs.Printed.{line_numbers, parted, readable}
 use Rattle.lines.specs.declared.Line.{Line}

@@ -10,7 +10,7 @@ use lib.Seq.{take-length, drop-drop}
 use borrow.Author.Tests.{ne_eqb, lt-ltb, ltb-true}
 use Rattle.rules.specs.Pick.{pick, pick_true, pick-false}
 use Rattle.rules.specs.Every.{each}
-use Rattle.bytes.specs.Bytes.{index_after, index_of, slice}
+use Rattle.scan.specs.Bytes.{index_after, index_of, slice}
 use Rattle.laws.proofs.Logic.{Or, left, right, decide, below?, and_yes, and_both, both-no}
 use Rattle.laws.proofs.Logic.{pick_elim}
 use Rattle.lines.specs.Printed.{readable}

@@ -79,7 +79,7 @@ pub fn judge(j: Judged, s: &[u8], from: Names, to: Names) -> Judged
     let mut so_far = j;
     let mut i = 0;
     while i < n {
-        let e = bytes::scan::find(s, i, n, 10);
+        let e = scan::find(s, i, n, 10);
         if n <= e {
             return judge_line(so_far, Line::Unreadable, false);
         }

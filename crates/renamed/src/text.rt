@@ -49,7 +49,7 @@ pub(crate) fn has_room(s: &[u8], from: Names, to: Names, room: usize) -> bool
     let mut left = room;
     let mut i = 0;
     while i < n {
-        let e = bytes::scan::find(s, i, n, 10);
+        let e = scan::find(s, i, n, 10);
         let k = line_length(&s[i..e], from, to);
         if left < k {
             return false;
@@ -87,7 +87,7 @@ pub(crate) fn put_lines(out: &mut [u8], s: &[u8], from: Names, to: Names) -> usi
     let mut p = 0;
     let mut i = 0;
     while i < n {
-        let e = bytes::scan::find(s, i, n, 10);
+        let e = scan::find(s, i, n, 10);
         p = put_line(out, p, &s[i..e], from, to);
         i = e + 1;
     }

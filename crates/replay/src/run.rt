@@ -7,8 +7,7 @@ ghost use Rattle.replay.specs.Fed.{FedAll, Goes, Over, ReadOn};
 
 use crate::tell::{tell_refused, tell_unended};
 use feed::state::Feed;
-use libc::{STDIN_FILENO, STDOUT_FILENO};
-use streams::Got;
+use streams::{Got, Streams};
 
 // The state after a piece, and whether all that was said of it was written.
 #[derive(Clone, Copy)]
@@ -26,17 +25,24 @@ struct Going {
 }
 
 // Writes what is said. Where that fails, it is told why.
-fn write(said: &[u8]) -> bool {
-    let sent = streams::send(STDOUT_FILENO, said);
-    if !sent {
-        os::fail(b"replay: standard output");
+fn write<S: Streams>(rt: &S, said: &[u8]) -> bool {
+    if let Err(error) = streams::write_output(rt, said) {
+        streams::fail(rt, b"replay: standard output", error);
+        return false;
     }
-    sent
+    true
 }
 
 // Feeds the whole piece, and writes what is said of it whenever out is full and at the end. It
 // stops where that fails.
-fn feed_all(f: Feed, piece: &[u8], site: &mut [u64], links: &mut [u64], out: &mut [u8]) -> Sent
+fn feed_all<S: Streams>(
+    rt: &S,
+    f: Feed,
+    piece: &[u8],
+    site: &mut [u64],
+    links: &mut [u64],
+    out: &mut [u8],
+) -> Sent
     requires { (answer_most ≤ length out.old) × Lent f.stage site.old links.old }
     ensures { FedAll f piece.now site.old links.old site.new
         links.new result }
@@ -47,13 +53,13 @@ fn feed_all(f: Feed, piece: &[u8], site: &mut [u64], links: &mut [u64], out: &mu
         let t = feed::feed_formed(g, &piece[i..], site, links, out);
         let at = t.at;
         let next = t.feed;
-        if !write(&out[..at]) {
+        if !write(rt, &out[..at]) {
             return Sent {
                 feed: next,
                 whole: false,
             };
         }
-        tell_refused(g, next, &piece[i..], &out[..at]);
+        tell_refused(rt, g, next, &piece[i..], &out[..at]);
         g = next;
         i += t.took;
     }
@@ -64,16 +70,16 @@ fn feed_all(f: Feed, piece: &[u8], site: &mut [u64], links: &mut [u64], out: &mu
 }
 
 // What is left to say when the input has ended; gives the status.
-fn write_end(f: Feed, out: &mut [u8]) -> u8 {
+fn write_end<S: Streams>(rt: &S, f: Feed, out: &mut [u8]) -> u8 {
     let e = feed::feed_end(f, out);
     let at = e.at;
     if at == 0 {
         return 0;
     }
-    if !write(&out[..at]) {
+    if !write(rt, &out[..at]) {
         return 3;
     }
-    tell_unended(f);
+    tell_unended(rt, f);
     1
 }
 
@@ -103,7 +109,8 @@ fn after(s: Sent) -> Going
 }
 
 // Reads once, and feeds what came.
-fn read_some(
+fn read_some<S: Streams>(
+    rt: &S,
     f: Feed,
     site: &mut [u64],
     links: &mut [u64],
@@ -114,31 +121,37 @@ fn read_some(
     ensures { ReadOn f site.old links.old site.new links.new
         input.new result }
 {
-    match streams::receive(STDIN_FILENO, input) {
+    match streams::read_input(rt, input) {
         Got::Bytes(n) => {
-            let s = feed_all(f, &input[..n], site, links, out);
+            let s = feed_all(rt, f, &input[..n], site, links, out);
             after(s)
         }
         Got::End => {
-            let status = write_end(f, out);
+            let status = write_end(rt, f, out);
             over(f, status)
         }
-        Got::Failed => {
-            os::fail(b"replay: standard input");
+        Got::Failed(error) => {
+            streams::fail(rt, b"replay: standard input", error);
             over(f, 3)
         }
     }
 }
 
 // Reads until the input or the run is at its end, and gives the status.
-pub(crate) fn run(site: &mut [u64], links: &mut [u64], input: &mut [u8], out: &mut [u8]) -> u8
+pub(crate) fn run<S: Streams>(
+    rt: &S,
+    site: &mut [u64],
+    links: &mut [u64],
+    input: &mut [u8],
+    out: &mut [u8],
+) -> u8
     requires { (site_words 5 32 ≤ length site.old) × (links_words 5 32 8 ≤ length links.old)
         × (answer_most ≤ length out.old) }
 {
     let mut f = feed::start();
     let mut turns = u64::MAX;
     while turns > 0 {
-        let g = read_some(f, site, links, input, out);
+        let g = read_some(rt, f, site, links, input, out);
         f = g.feed;
         if !g.more {
             return g.status;

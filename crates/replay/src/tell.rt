@@ -5,6 +5,7 @@ ghost use Rattle.io.specs.Counts.{IsPrefixLen};
 
 use feed::state::Feed;
 use lines::Line;
+use streams::Streams;
 use wording::Place;
 use wording::fault::{Fault, fault_of};
 use wording::put::put;
@@ -52,7 +53,7 @@ fn gather(text: &mut [u8], f: Feed, piece: &[u8], n: u64) -> usize
     ensures { IsPrefixLen result text.new }
 {
     let a = past_lines(piece, n);
-    let e = bytes::scan::find(piece, a, piece.len(), 10);
+    let e = scan::find(piece, a, piece.len(), 10);
     if n == 0 {
         let p = held(text, f);
         return put(text, p, &piece[a..e]);
@@ -61,24 +62,24 @@ fn gather(text: &mut [u8], f: Feed, piece: &[u8], n: u64) -> usize
 }
 
 // A line that can be read, and not here.
-fn tell_misplaced(k: u64, text: &[u8]) {
+fn tell_misplaced<S: Streams>(rt: &S, k: u64, text: &[u8]) {
     if k == 1 {
-        say(k, text, b"the first line has to be a site line");
+        say(rt, k, text, b"the first line has to be a site line");
         return;
     }
-    say(k, text, b"a trace has at most 4,294,967,295 lines");
+    say(rt, k, text, b"a trace has at most 4,294,967,295 lines");
 }
 
-fn say(k: u64, text: &[u8], words: &[u8]) {
-    wording::refuse(b"replay", Place::Line(k), text, UNREADABLE, words);
+fn say<S: Streams>(rt: &S, k: u64, text: &[u8], words: &[u8]) {
+    wording::refuse(rt, b"replay", Place::Line(k), text, UNREADABLE, words);
 }
 
-fn tell_other(k: u64, text: &[u8]) {
+fn tell_other<S: Streams>(rt: &S, k: u64, text: &[u8]) {
     match lines::read_line(text) {
-        Line::Site(_, _, _) => say(k, text, b"a site line stands first and nowhere else"),
-        Line::Call(_) => tell_misplaced(k, text),
-        Line::Holds(_, _, _, _) => tell_misplaced(k, text),
-        Line::Unreadable => say(k, text, b""),
+        Line::Site(_, _, _) => say(rt, k, text, b"a site line stands first and nowhere else"),
+        Line::Call(_) => tell_misplaced(rt, k, text),
+        Line::Holds(_, _, _, _) => tell_misplaced(rt, k, text),
+        Line::Unreadable => say(rt, k, text, b""),
     }
 }
 
@@ -93,22 +94,22 @@ fn fault_in(seen: &mut [u8], text: &[u8], ended: bool) -> Fault {
     fault_of(&seen[..p], ended)
 }
 
-fn tell_unreadable(k: u64, text: &[u8], ended: bool) {
+fn tell_unreadable<S: Streams>(rt: &S, k: u64, text: &[u8], ended: bool) {
     let mut seen = [0u8; 65];
     let why = fault_in(&mut seen, text, ended);
     if let Fault::Other = why {
-        tell_other(k, text);
+        tell_other(rt, k, text);
     } else {
-        wording::refuse_unreadable(b"replay", Place::Line(k), text, why);
+        wording::refuse_unreadable(rt, b"replay", Place::Line(k), text, why);
     }
 }
 
-fn tell_line(k: u64, text: &[u8], code: u64) {
+fn tell_line<S: Streams>(rt: &S, k: u64, text: &[u8], code: u64) {
     if code == UNREADABLE {
-        tell_unreadable(k, text, true);
+        tell_unreadable(rt, k, text, true);
         return;
     }
-    wording::refuse(b"replay", Place::Line(k), text, code, b"");
+    wording::refuse(rt, b"replay", Place::Line(k), text, code, b"");
 }
 
 // How many lines k is after first.
@@ -117,31 +118,31 @@ fn lines_after(first: u64, k: u64) -> u64 {
 }
 
 // Line k was refused as piece was fed to f, and said ends with the answer.
-fn tell_in(text: &mut [u8], f: Feed, k: u64, piece: &[u8], said: &[u8]) {
+fn tell_in<S: Streams>(rt: &S, text: &mut [u8], f: Feed, k: u64, piece: &[u8], said: &[u8]) {
     let code = wording::number::code(said);
     let n = gather(text, f, piece, lines_after(f.k, k));
-    tell_line(k, &text[..n], code);
+    tell_line(rt, k, &text[..n], code);
 }
 
 // Tells of the line that ended the run as piece was fed, where one did. f and g are the states
 // before and after it.
-pub(crate) fn tell_refused(f: Feed, g: Feed, piece: &[u8], said: &[u8]) {
+pub(crate) fn tell_refused<S: Streams>(rt: &S, f: Feed, g: Feed, piece: &[u8], said: &[u8]) {
     if feed::is_ended(f) {
         return;
     }
     if feed::is_ended(g) {
         let mut text = [0u8; 65];
-        tell_in(&mut text, f, g.k, piece, said);
+        tell_in(rt, &mut text, f, g.k, piece, said);
     }
 }
 
-fn tell_held(text: &mut [u8], f: Feed) {
+fn tell_held<S: Streams>(rt: &S, text: &mut [u8], f: Feed) {
     let n = held(text, f);
-    tell_unreadable(f.k, &text[..n], false);
+    tell_unreadable(rt, f.k, &text[..n], false);
 }
 
 // Tells of the last line, which has begun and which no newline ended.
-pub(crate) fn tell_unended(f: Feed) {
+pub(crate) fn tell_unended<S: Streams>(rt: &S, f: Feed) {
     let mut text = [0u8; 65];
-    tell_held(&mut text, f);
+    tell_held(rt, &mut text, f);
 }

@@ -5,4 +5,4 @@ use Rattle.rescue.specs.declared.whole_input.Filled.{Filled}
 abbrev pub FilledIn : ℕ → Filled → Type 0
 FilledIn room (Filled.Whole n) = n ≤ room
 FilledIn room Filled.Full = Unit {0}
-FilledIn room Filled.Failed = Unit {0}
+FilledIn room (Filled.Failed e) = Unit {0}

@@ -3,6 +3,8 @@
 // Each block is what `salvage` says, whose statement says what that is; there is no other way from
 // an image to the output here, and none to an image. No contract can say what is read or written:
 // the functions here are proved safe and to end.
+#![tactic(auto)]
+
 mod answer;
 mod buffers;
 mod pieces;
@@ -10,9 +12,9 @@ mod run;
 mod whole_input;
 
 // `report`: the status goes to descriptor 3.
-fn main() {
-    let status = buffers::serve();
-    if streams::has_argument(1, b"report") {
-        streams::report(status);
+fn main(rt: HostRuntime) {
+    let status = buffers::serve(&rt);
+    if streams::has_argument(&rt, 1, b"report") {
+        streams::report(&rt, status);
     }
 }

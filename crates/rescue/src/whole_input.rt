@@ -6,27 +6,27 @@ ghost use Rattle.rescue.specs.Filled.{FilledIn};
 use crate::answer;
 use crate::answer::Answered;
 use crate::run::least;
-use libc::STDIN_FILENO;
-use streams::Got;
+use std::io::Error;
+use streams::{Got, Streams};
 
 // What was read: the whole input, or as much as there is room for.
 #[derive(Clone, Copy)]
 pub enum Filled {
     Whole(usize),
     Full,
-    Failed,
+    Failed(Error),
 }
 
 // Reads to the end of the input.
-fn fill(buf: &mut [u8], n: usize) -> Filled
+fn fill<S: Streams>(rt: &S, buf: &mut [u8], n: usize) -> Filled
     ensures { FilledIn (length buf.new) result }
 {
     let mut k = n;
     while k < buf.len() {
-        match streams::receive(STDIN_FILENO, &mut buf[k..]) {
+        match streams::read_input(rt, &mut buf[k..]) {
             Got::Bytes(m) => k += m,
             Got::End => return Filled::Whole(k),
-            Got::Failed => return Filled::Failed,
+            Got::Failed(error) => return Filled::Failed(error),
         }
     }
     Filled::Full
@@ -35,7 +35,7 @@ fn fill(buf: &mut [u8], n: usize) -> Filled
 // The text without the newline that may end it.
 fn line_of(text: &[u8]) -> &[u8] {
     let n = text.len();
-    let e = bytes::scan::find(text, 0, n, 10);
+    let e = scan::find(text, 0, n, 10);
     if e + 1 == n {
         return &text[0..e];
     }
@@ -49,26 +49,26 @@ fn is_hex(input: &[u8]) -> bool {
     8 <= input[0]
 }
 
-fn tell(input: &[u8], image: &mut [u8], out: &mut [u8]) -> Answered {
+fn tell<S: Streams>(rt: &S, input: &[u8], image: &mut [u8], out: &mut [u8]) -> Answered {
     if is_hex(input) {
-        return answer::tell_hex(line_of(input), image, out);
+        return answer::tell_hex(rt, line_of(input), image, out);
     }
-    answer::tell(input, out)
+    answer::tell(rt, input, out)
 }
 
-fn failed() -> u8 {
-    os::fail(b"salvage: standard input");
+fn failed<S: Streams>(rt: &S, error: Error) -> u8 {
+    streams::fail(rt, b"salvage: standard input", error);
     3
 }
 
 // An input that fills its buffer is longer than any image.
-pub(crate) fn serve(input: &mut [u8], image: &mut [u8], out: &mut [u8]) -> u8 {
-    match fill(input, 0) {
+pub(crate) fn serve<S: Streams>(rt: &S, input: &mut [u8], image: &mut [u8], out: &mut [u8]) -> u8 {
+    match fill(rt, input, 0) {
         Filled::Whole(n) => {
             let n = least(n, input.len());
-            answer::status(tell(&input[0..n], image, out))
+            answer::status(rt, tell(rt, &input[0..n], image, out))
         }
-        Filled::Full => answer::status(answer::refused()),
-        Filled::Failed => failed(),
+        Filled::Full => answer::status(rt, answer::refused(rt)),
+        Filled::Failed(error) => failed(rt, error),
     }
 }

@@ -8,7 +8,7 @@ use Rattle.rules.specs.Pick.{pick}
 use Rattle.rules.specs.Numbers.{in_phase}
 use Rattle.rules.specs.Steps.{elected}
 use Rattle.rules.specs.Turns.{settled}
-use Rattle.rules.specs.Box.{Box, written}
+use Rattle.rules.specs.Box.{Box}
 use Rattle.laws.proofs.Types.{Best, BoxState, Phase, Setting, Turn, Verdict}
 use Rattle.laws.proofs.Logic.{both-no}
 

@@ -5,7 +5,6 @@ use mathlib.Core.Path.{◌≡◌, refl, sym, ap, subst}
 use mathlib.Core.Bool.{Bool, true, false, cond}
 use mathlib.Core.List.{List, [], ◌∷◌}
 use lib.Dec.{eqb}
-use Rattle.rules.specs.Sets.{without}
 use Rattle.rules.specs.Box.{Box, Letter, Event, own, mail, turned, turn_of, brought}
 use Rattle.rules.specs.Site.{Site, Outcome, setting, upd, room, played, popped}
 use Rattle.rules.specs.Site.{doubled}

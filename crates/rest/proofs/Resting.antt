@@ -12,7 +12,8 @@ use Rattle.rules.specs.Sizes.{even, record_of}
 use Rattle.rules.specs.Fields.{with_waiting}
 use Rattle.rules.specs.Turns.{still, unless, settled, done}
 use Rattle.rules.specs.Mails.{on_mail}
-use Rattle.rules.specs.Steps.{can_recover, recover, can_collect, collect, can_ready, ready, can_offer}
+use Rattle.rules.specs.Steps.{can_recover, recover, can_collect, collect, can_ready, ready}
+use Rattle.rules.specs.Steps.{can_offer}
 use Rattle.rules.specs.Steps.{offer, can_propose, propose, can_agree, agree, can_finish, finish}
 use Rattle.rules.specs.Steps.{can_heard, lease_heard, can_trim, trim, acted}
 use Rattle.rules.specs.Box.{Box, Letter, mine}
@@ -65,7 +66,8 @@ module _ (b : BoxState) (s : Setting) (odd : even s.epoch ≡ false) (m : Held) 
 
   no-act : (a : Act) → acted a b s m ≡ still b (Answer.Refused (oddly a))
   unfolding acted recover can_recover collect can_collect ready can_ready propose can_propose
-      agree can_agree finish can_finish lease_heard can_heard trim can_trim unless oddly pick settled
+      agree can_agree finish can_finish lease_heard can_heard trim can_trim unless
+      oddly pick settled
   no-act Act.Recover = rw odd refl
   no-act Act.Collect = rw odd refl
   no-act Act.Ready = rw odd refl

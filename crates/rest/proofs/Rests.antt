@@ -1,7 +1,7 @@
 -- The step `rest` is not seen by what comes after it.
 use Prim.Native.Nat.{ℕ, ◌≤◌}
 use mathlib.Core.Path.{◌≡◌, refl, sym, ap, ap₂, ◌∙◌, subst}
-use mathlib.Core.Bool.{true, false, not}
+use mathlib.Core.Bool.{true, false}
 use mathlib.Core.List.{List, [], ◌∷◌}
 use native.Mathlib.Omega.{arith}
 use lib.ListN.{length, drop}
@@ -11,7 +11,7 @@ use Rattle.rules.specs.Site.{Site, fresh_head, fresh, setting}
 use Rattle.rules.specs.Form.{form}
 use Rattle.rules.specs.Needs.{ruled}
 use Rattle.rules.specs.Step.{refused, did, elect, presented, step, run}
-use Rattle.rules.specs.Unheard.{unheard_by, unheard}
+use Rattle.rules.specs.Unheard.{unheard_by}
 use Rattle.laws.proofs.Types.{Call, Refusal}
 use Rattle.laws.proofs.Logic.{left, right, In, nil, both-no, cond_elim}
 use Rattle.laws.proofs.SetLaws.{set-zero}

@@ -5,18 +5,21 @@ use mathlib.Core.Bool.{Bool, true, false, not}
 use lib.ListN.{get_or}
 use borrow.Author.Tests.{eq-eqb}
 use Rattle.rules.specs.Pick.{pick}
-use Rattle.rules.specs.Sizes.{even}
 use Rattle.rules.specs.Sets.{joined}
 use Rattle.rules.specs.Numbers.{in_phase}
 use Rattle.rules.specs.Fields.{with_state, with_peers, with_waiting}
 use Rattle.rules.specs.Parts.{all_unknown, took_kept, cleared}
 use Rattle.rules.specs.Turns.{first_cause, unless, settled}
 use Rattle.rules.specs.Last.{told, raised, counted, uncounted, replied, last_verdict, on_last}
-use Rattle.rules.specs.Mails.{on_collect, begin_verdict, on_begin, accept_verdict, on_accept, on_commit}
+use Rattle.rules.specs.Mails.{on_collect, begin_verdict, on_begin, accept_verdict, on_accept}
+use Rattle.rules.specs.Mails.{on_commit}
 use Rattle.rules.specs.Mails.{on_lease, lease_ack_verdict, on_lease_ack, of_kind, on_mail}
-use Rattle.rules.specs.Steps.{can_recover, recover, can_collect, collect, started, leased, can_ready}
-use Rattle.rules.specs.Steps.{has_previous, ready, can_offer, offer, can_propose, propose, can_agree}
-use Rattle.rules.specs.Steps.{agree, can_finish, finish, can_heard, lease_heard, can_trim, trim, acted}
+use Rattle.rules.specs.Steps.{can_recover, recover, can_collect, collect, started, leased}
+use Rattle.rules.specs.Steps.{can_ready}
+use Rattle.rules.specs.Steps.{has_previous, ready, can_offer, offer, can_propose, propose}
+use Rattle.rules.specs.Steps.{can_agree}
+use Rattle.rules.specs.Steps.{agree, can_finish, finish, can_heard, lease_heard, can_trim, trim}
+use Rattle.rules.specs.Steps.{acted}
 use Rattle.rules.specs.Box.{Box, Event, own, mail, mine, next_of, turn_of}
 use Rattle.laws.proofs.Types.{Act, Best, BoxState, Held, Kind, Mail, Phase, Refusal, Setting, State}
 use Rattle.laws.proofs.Types.{Turn, Verdict}
@@ -337,7 +340,8 @@ module _ (b : BoxState) (o : Aside) (h : Unread b.phase (aside_of b) o) (s : Set
   unfolding on_last last_verdict
   not_last c a m next e = rw e (shut c.leads _ c _ _)
 
-  on-last : (a : ℕ) (m : Mail) (next : Held) → TurnAlike (on_last b s a m next) (on_last d s a m next)
+  on-last : (a : ℕ) (m : Mail) (next : Held)
+      → TurnAlike (on_last b s a m next) (on_last d s a m next)
   on-last a m next = go (decide (in_phase b.phase Phase.Collect))
     where
       go : Or (in_phase b.phase Phase.Collect ≡ true) (in_phase b.phase Phase.Collect ≡ false)

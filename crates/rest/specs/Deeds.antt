@@ -53,7 +53,8 @@ pub record RestsKeep (n J L : ℕ) : Type 0 where
   -- epoch.
   pub answers : (ds : List Deed) → AllFit (calls_of ds) → (d : Call)
       → (even (run (start n J L) (calls_of ds)).epoch ≡ false → sees_links d ≡ false)
-      → (step (run (start n J L) (calls_of ds)) d).answer ≡ (step (done_by (start n J L) ds) d).answer
+      → (step (run (start n J L) (calls_of ds)) d).answer
+      ≡ (step (done_by (start n J L) ds) d).answer
 
 pub record Demand3Rests : Type 0 where
   pub keeps : (n J L : ℕ) → sizes_form n J L ≡ true → RestsKeep n J L

@@ -31,7 +31,8 @@ made {xs} {ls} {ys} {ms} f after = record {
       (ap form after.site ∙ rest-form (site_of xs ls) (form-site xs ls f));
 }
 
-module _ {xs ls : List ℕ} {s : Setting} (f : memory_form xs ls ≡ true) (k : s ≡ setting_at xs 1) where
+module _ {xs ls : List ℕ} {s : Setting} (f : memory_form xs ls ≡ true) (k : s
+    ≡ setting_at xs 1) where
   -- the epoch is even
   pub not-due : s.epoch % 2 ≡ 0 → FormedRest xs ls xs ls (Answer.Refused Refusal.Condition)
   unfolding site_of

@@ -64,5 +64,6 @@ module _ (s : Setting) (r : List ℕ) (k left right : ℕ) where
     unfolding agreed_as
     agreed-here = rw (e, le-leb first k h, le-leb k last l, here) refl
       where
-        here : get_or (part r head_words count) (k - first) 0 ≡ get_or r (head_words + (k - first)) 0
+        here : get_or (part r head_words count) (k - first) 0
+            ≡ get_or r (head_words + (k - first)) 0
         here = get_or_part head_words count (k - first) 0 r (omega (arith, held))

@@ -117,7 +117,8 @@ module _ (n J b : ℕ) (w : List ℕ) where
         agreeing = all-at 5 _ two.0;
         peers = sym (every-five (peer_form n b (head_of n w).peers)) ∙ five three.0;
         counted = sym (held-is w J first last) ∙ counted;
-        count = held-room J (get_or w first_at 0) (get_or w last_at 0) (get_or w count_at 0) counted;
+        count = held-room J (get_or w first_at 0) (get_or w last_at 0)
+            (get_or w count_at 0) counted;
       }
     where
       five : all (peer_form n b (head_of n w).peers 1
@@ -216,7 +217,8 @@ booked n J b r z g = record {
   words = z.words;
   loads = z.loads;
   count = g.count;
-  numbers = numbered J (get_or r first_at 0) (get_or r last_at 0) (get_or r count_at 0) g.first g.last
+  numbers = numbered J (get_or r first_at 0) (get_or r last_at 0)
+      (get_or r count_at 0) g.first g.last
       g.counted;
 }
 
@@ -273,7 +275,8 @@ module _ (n J b : ℕ) (r : List ℕ) (z : RowSized n J r) where
 
   -- What the code of `is_by_form` has: no word is amiss ..
   pub form-go : head_fault n J b r ≡ Fault.None
-      → (each proper (records_of r) && index_form (get_or r first_at 0) (agreed_of r) (index_of J r))
+      → (each proper (records_of r) && index_form (get_or r first_at 0) (agreed_of r)
+      (index_of J r))
       ≡ row_form n J b r
   unfolding row_form row_fits form_box all
   form-go e =

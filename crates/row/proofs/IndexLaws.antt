@@ -67,7 +67,8 @@ module _ (J : ℕ) (r : List ℕ) (words : length r ≡ row_width J) where
   index-length = length_part (index_at J) (index_width J) r (omega (arith, words))
 
   -- as the code cuts it out, and puts it back
-  pub index-cut : take (index_at J + index_width J - index_at J) (drop (index_at J) r) ≡ index_of J r
+  pub index-cut : take (index_at J + index_width J - index_at J) (drop (index_at J) r)
+      ≡ index_of J r
   index-cut = cut_at {a = index_at J} {k = index_width J} r refl refl
 
   pub index-put : (ix : List ℕ)
@@ -80,7 +81,8 @@ module _ (J : ℕ) (r : List ℕ) (words : length r ≡ row_width J) where
   reindexed {p} {k} {rs} ix q e eq h =
       let long = e ∙ index-length in
       let within : index_at J + index_width J ≤ length r = omega (arith, words) in
-      let front : take (index_at J) (splice r (index_at J) (index_width J) ix) ≡ take (index_at J) r =
+      let front : take (index_at J) (splice r (index_at J) (index_width J) ix)
+      ≡ take (index_at J) r =
       take_at (take (index_at J) r) _ (index_at J)
       (length-take-le (index_at J) r (omega (arith, words))) in
       rw eq
@@ -146,7 +148,8 @@ module _ (J : ℕ) (r : List ℕ) (ok : RowBooked J r) where
       (omega (arith, n, ok.numbers.held, ok.count))) in
       let shape : drop i (agreed_of r) ≡ x ∷ drop (i + 1) (agreed_of r) =
       drop-cons (agreed_of r) i 0 h ∙ ap (λ (n : ℕ). x ∷ drop n (agreed_of r)) (sym (add-one i)) in
-      let here = subst (λ (rs : List ℕ). Indexed i (get_or r first_at 0 + i) rs (index_of J q)) shape
+      let here =
+      subst (λ (rs : List ℕ). Indexed i (get_or r first_at 0 + i) rs (index_of J q)) shape
       s.index in
       let number : get_or r first_at 0 + i + 1 ≡ get_or r first_at 0 + (i + 1) = omega arith in
       let after = indexed-leave here in
@@ -293,7 +296,8 @@ module _ (J : ℕ) (r : List ℕ) (ok : RowBooked J r) (b : Book) (first last : 
     pub known-all : span (get_or r first_at 0) (get_or r last_at 0) ≤ known b (get_or r count_at 0)
     pub later : get_or r last_at 0 ≤ last
 
-  pub stays : agreed_stay r (span (get_or r first_at 0) (get_or r last_at 0)) b first last ≡ true → Stays
+  pub stays : agreed_stay r (span (get_or r first_at 0) (get_or r last_at 0)) b first last ≡ true
+      → Stays
   stays e =
       let many = span (get_or r first_at 0) (get_or r last_at 0) in
       let three = first-of (eqb (get_or r first_at 0 + leaving b) first && leb (leaving b) many
@@ -320,7 +324,8 @@ module _ (J : ℕ) (r : List ℕ) (ok : RowBooked J r) (b : Book) (first last : 
         kept = λ ms f.
             let same = written-front J (records_of r) ms b
             (span (get_or r first_at 0) (get_or r last_at 0)) f t.leave
-            (subst (λ (n : ℕ). span (get_or r first_at 0) (get_or r last_at 0) ≤ known b n) (sym long)
+            (subst (λ (n : ℕ). span (get_or r first_at 0) (get_or r last_at 0) ≤ known
+            b n) (sym long)
             t.known-all) in
             subst (λ (k : ℕ). Reindexed J 0 k (take stayed (written b (records_of r) ms)) r q)
             t.number

@@ -52,7 +52,8 @@ module _ (n : ℕ) (r : List ℕ) (k : ℕ) where
 
 module _ (n b : ℕ) (r : List ℕ) (k : ℕ) (least : 1 ≤ k) (most : k ≤ most_boxes) where
   peer-form : peer_form n b (head_of n r).peers k
-      ≡ (eqb (peer_of n r k) unknown || (leb k n && not (eqb k b) && leb (peer_of n r k) most_number))
+      ≡ (eqb (peer_of n r k) unknown
+      || (leb k n && not (eqb k b) && leb (peer_of n r k) most_number))
   unfolding peer_form
   peer-form = rw (peers-at n r k least most)
 

@@ -50,7 +50,8 @@ peer_tests n b w =
 
 abbrev pub count_test : ℕ → List ℕ → List Test
 count_test J w =
-    test Field.Count (held_count J (get_or w first_at 0) (get_or w last_at 0) (get_or w count_at 0)) ∷ []
+    test Field.Count (held_count J (get_or w first_at 0) (get_or w last_at 0) (get_or w count_at 0))
+    ∷ []
 
 -- the first of a box's words that is not by form
 unfoldable pub head_fault : ℕ → ℕ → ℕ → List ℕ → Fault

@@ -1,5 +1,6 @@
 -- What the functions over a lent row ask for and give.
-use Rattle.std.specs.Prelude.{◌≡◌, ℕ, ◌+◌, ◌-◌, ◌≤◌, ◌<◌, ◌^◌, Bool, true, ◌&&◌, List, [], leb, eqb, length, take, drop, get_or}
+use Rattle.std.specs.Prelude.{◌≡◌, ℕ, ◌+◌, ◌-◌, ◌≤◌, ◌<◌, ◌^◌, Bool, true, ◌&&◌, List, [], leb, eqb}
+use Rattle.std.specs.Prelude.{length, take, drop, get_or}
 use Rattle.words.specs.Rows.{part, splice}
 use Rattle.index.specs.Lent.{Indexed}
 use Rattle.rules.specs.Sizes.{most_boxes, most_loads, most_number, unknown}

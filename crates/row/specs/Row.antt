@@ -136,7 +136,11 @@ head_of n r = record {
     first = get_or r first_at 0;
     stored = record { pn = get_or r stored_pn_at 0; number = get_or r stored_number_at 0 };
   };
-  best = record { pn = get_or r best_pn_at 0; number = get_or r best_number_at 0; value = get_or r best_at 0 };
+  best = record {
+    pn = get_or r best_pn_at 0;
+    number = get_or r best_number_at 0;
+    value = get_or r best_at 0;
+  };
   answered = get_or r answered_at 0;
   accepts = get_or r accepts_at 0;
   heard = get_or r heard_at 0;

@@ -82,7 +82,8 @@ fn leave_one(row: &mut [u64], j: u32, i: usize)
 // The first d of the agreed records leave the index; nothing has moved yet.
 fn leave_first(row: &mut [u64], j: u32, d: usize)
     requires row_booked { RowBooked j row.old }
-    requires indexed { Indexed 0 (get_or row.old first_at 0) (agreed_of row.old) (index_of j row.old) }
+    requires indexed { Indexed 0 (get_or row.old first_at 0) (agreed_of row.old)
+        (index_of j row.old) }
     requires d_in_bounds { d ≤ length (agreed_of row.old) }
     ensures { Reindexed j d (get_or row.old first_at 0 + d)
         (drop d (agreed_of row.old)) row.old row.new }
@@ -97,7 +98,8 @@ fn leave_first(row: &mut [u64], j: u32, d: usize)
 // .. and the next words of the others move down.
 fn drop_first(row: &mut [u64], j: u32, d: usize, a: usize)
     requires row_booked { RowBooked j row.old }
-    requires indexed { Indexed 0 (get_or row.old first_at 0) (agreed_of row.old) (index_of j row.old) }
+    requires indexed { Indexed 0 (get_or row.old first_at 0) (agreed_of row.old)
+        (index_of j row.old) }
     requires d_le_a { (d ≤ a) × (a ≡ length (agreed_of row.old)) }
     ensures { Reindexed j 0 (get_or row.old first_at 0 + d)
         (drop d (agreed_of row.old)) row.old row.new }
@@ -126,7 +128,8 @@ pub(crate) fn clear(row: &mut [u64], j: u32)
 // The record at place i, whose number is k, comes to the index behind all others.
 fn enter_one(row: &mut [u64], j: u32, k: u32, i: usize)
     requires row_len { (length row.old ≡ row_width j) × (j ≤ most_loads) × (i < j) }
-    requires appends { Appends (slot_of (get_or row.old (head_words + i) 0)) k i (index_of j row.old) }
+    requires appends { Appends (slot_of (get_or row.old (head_words + i) 0)) k i
+        (index_of j row.old) }
     ensures { row.new ≡ splice row.old (index_at j) (index_width j)
         (appended (slot_of (get_or row.old (head_words + i) 0)) k i
         (index_of j row.old)) }
@@ -206,7 +209,8 @@ fn do_stay(row: &[u64], j: u32, b: Book, count: u32, first: u32, last: u32) -> b
 // number, as in a book that is taken whole, all leave at once.
 pub(crate) fn release(row: &mut [u64], j: u32, b: Book, count: u32, first: u32, last: u32) -> usize
     requires row_booked { RowBooked j row.old }
-    requires indexed { Indexed 0 (get_or row.old first_at 0) (agreed_of row.old) (index_of j row.old) }
+    requires indexed { Indexed 0 (get_or row.old first_at 0) (agreed_of row.old)
+        (index_of j row.old) }
     requires count_value { (count ≡ get_or row.old count_at 0) × (1 ≤ first) × (first ≤ last + 1) }
     ensures { Released j b first last row.old result row.new }
 {

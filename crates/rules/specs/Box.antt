@@ -1,6 +1,7 @@
 -- A box and a letter with their records; "A box runs the same rules for its own part": an event in,
 -- a turn out.
-use Rattle.std.specs.Prelude.{ℕ, ◌+◌, ◌-◌, ◌≤◌, ◌<◌, List, [], ◌∷◌, ◌++◌, ltb, length, take, drop, get_or}
+use Rattle.std.specs.Prelude.{ℕ, ◌+◌, ◌-◌, ◌≤◌, ◌<◌, List, [], ◌∷◌, ◌++◌, ltb, length, take, drop}
+use Rattle.std.specs.Prelude.{get_or}
 use Rattle.rules.specs.Pick.{pick}
 use Rattle.rules.specs.Parts.{span}
 use Rattle.rules.specs.Mails.{on_mail}

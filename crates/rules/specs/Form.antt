@@ -1,5 +1,6 @@
 -- "By form": what every entry refuses (1) where it is broken, for a box, a letter and a site.
-use Rattle.std.specs.Prelude.{ℕ, ◌+◌, ◌-◌, Bool, not, ◌&&◌, ◌||◌, List, [], ◌∷◌, leb, ltb, eqb, length, get_or}
+use Rattle.std.specs.Prelude.{ℕ, ◌+◌, ◌-◌, Bool, not, ◌&&◌, ◌||◌, List, [], ◌∷◌, leb, ltb, eqb}
+use Rattle.std.specs.Prelude.{length, get_or}
 use Rattle.rules.specs.Every.{all, each, every, tally}
 use Rattle.rules.specs.Sizes.{most_boxes, most_epoch, most_number, most_pn, unknown, within}
 use Rattle.rules.specs.Sizes.{sizes_form, proper, record_form}

@@ -1,5 +1,6 @@
 -- "Mail", the kind Last: what a leader that collects does with a peer's answer.
-use Rattle.std.specs.Prelude.{ℕ, ◌+◌, ◌-◌, Bool, false, not, ◌&&◌, ◌||◌, List, leb, ltb, eqb, set, get_or}
+use Rattle.std.specs.Prelude.{ℕ, ◌+◌, ◌-◌, Bool, false, not, ◌&&◌, ◌||◌, List, leb, ltb, eqb, set}
+use Rattle.std.specs.Prelude.{get_or}
 use Rattle.std.specs.Int.Bits.{bit_and, bit_or}
 use Rattle.rules.specs.Pick.{pick}
 use Rattle.rules.specs.Sizes.{most_boxes, most_pn, unknown}

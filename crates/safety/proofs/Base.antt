@@ -53,8 +53,10 @@ module _ {n : ℕ} {box : ℕ → Box} {g : Agreement} (k : Core n box g) (d : �
 
 module _ {n : ℕ} {box : ℕ → Box} (u : Ranks n box) (d : ℕ) (v : Box) where
   pub ranks-put : (store (box d)).pn ≤ (store v).pn
-      → ((x : ℕ) → In x n → (x ≡ d → ⊥) → (store v).pn % 100 ≡ x → (store v).pn ≤ (store (box x)).pn)
-      → ((x : ℕ) → In x n → (store v).stored_pn % 100 ≡ x → (store v).stored_pn ≤ (store (box x)).pn)
+      → ((x : ℕ) → In x n → (x ≡ d → ⊥) → (store v).pn % 100 ≡ x
+      → (store v).pn ≤ (store (box x)).pn)
+      → ((x : ℕ) → In x n → (store v).stored_pn % 100 ≡ x
+      → (store v).stored_pn ≤ (store (box x)).pn)
       → Ranks n (upd box d v)
   ranks-put pn-up pn-ok stored_ok = record {
     few = u.few;
@@ -63,7 +65,8 @@ module _ {n : ℕ} {box : ℕ → Box} (u : Ranks n box) (d : ℕ) (v : Box) whe
         (mine x)
         (λ b hx hb r. omega (arith, u.pns x b hx hb r, ups x));
     stored_pns = λ x.
-        upd-all (λ b y. In x n → In b n → (store y).stored_pn % 100 ≡ x → (store y).stored_pn ≤ Now x)
+        upd-all (λ b y. In x n → In b n → (store y).stored_pn % 100 ≡ x
+        → (store y).stored_pn ≤ Now x)
         box d
         (λ hx hb r. omega (arith, stored_ok x hx r, ups x))
         (λ b hx hb r. omega (arith, u.stored_pns x b hx hb r, ups x));

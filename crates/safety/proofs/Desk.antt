@@ -4,7 +4,8 @@ use mathlib.Core.Path.{◌≡◌, refl}
 use lib.Dec.{eqb, ltb}
 use lib.ListN.{get_or}
 use Rattle.rules.specs.Last.{told, raised, counted, uncounted, replied, on_last}
-use Rattle.rules.specs.Mails.{on_collect, on_begin, on_accept, on_commit, on_lease, on_lease_ack, of_kind}
+use Rattle.rules.specs.Mails.{on_collect, on_begin, on_accept, on_commit, on_lease, on_lease_ack}
+use Rattle.rules.specs.Mails.{of_kind}
 use Rattle.rules.specs.Mails.{on_mail}
 use Rattle.rules.specs.Steps.{recover, collect, started, leased, ready, agree, finish, lease_heard}
 use Rattle.rules.specs.Steps.{trim, acted}

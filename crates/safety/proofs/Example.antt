@@ -17,9 +17,12 @@ use Rattle.rules.specs.Parts.{others, is_held, under_of, higher, took_kept, took
 use Rattle.rules.specs.Parts.{cleared}
 use Rattle.rules.specs.Last.{noted, told, behind, lagging, improves, bettered, raised, counted}
 use Rattle.rules.specs.Last.{uncounted, replied, last_verdict, on_last}
-use Rattle.rules.specs.Mails.{unagreed_of, on_collect, begin_verdict, on_begin, accept_verdict, on_accept}
-use Rattle.rules.specs.Mails.{on_commit, on_lease, lease_ack_verdict, on_lease_ack, of_kind, on_mail}
-use Rattle.rules.specs.Steps.{elected, can_recover, recover, can_collect, best_held, collect, started}
+use Rattle.rules.specs.Mails.{unagreed_of, on_collect, begin_verdict, on_begin, accept_verdict}
+use Rattle.rules.specs.Mails.{on_accept}
+use Rattle.rules.specs.Mails.{on_commit, on_lease, lease_ack_verdict, on_lease_ack, of_kind}
+use Rattle.rules.specs.Mails.{on_mail}
+use Rattle.rules.specs.Steps.{elected, can_recover, recover, can_collect, best_held, collect}
+use Rattle.rules.specs.Steps.{started}
 use Rattle.rules.specs.Steps.{leased, can_ready, has_previous, ready, can_offer, offer, can_propose}
 use Rattle.rules.specs.Steps.{propose, can_agree, agree, can_finish, finish, can_heard, lease_heard}
 use Rattle.rules.specs.Steps.{can_trim, trim, acted}
@@ -232,11 +235,14 @@ pub record Computed : Type 0 where
 pub computed : Computed
 unfolding replayed replayed-further recovered load two-loads third_load epoch2 epoch4 epoch6
     epoch8 parted pick all each every tally sizes_form proper record_form bit joined without digit
-    has set_form full_set in_state in_phase new_pn first_cause unless settled others is_held under_of
+    has set_form full_set in_state in_phase new_pn first_cause unless settled others
+    is_held under_of
     took_kept took_book cleared noted told behind lagging improves bettered raised counted
-    uncounted replied last_verdict on_last unagreed_of on_collect begin_verdict on_begin accept_verdict
+    uncounted replied last_verdict on_last unagreed_of on_collect begin_verdict
+    on_begin accept_verdict
     on_accept on_commit on_lease lease_ack_verdict on_lease_ack of_kind on_mail elected can_recover
-    recover can_collect best_held collect started leased can_ready has_previous ready can_offer offer
+    recover can_collect best_held collect started leased can_ready has_previous ready
+    can_offer offer
     can_propose propose can_agree agree can_finish finish can_heard lease_heard can_trim trim acted
     held_at written enclosed fresh_head fresh posted room count_form peer_form form_box form_kind
     form_letter form_link form ruled by_answer delivered elect presented step run agreed_as holds

@@ -8,7 +8,8 @@ use lib.ListN.{get_or}
 use Rattle.rules.specs.Sizes.{most_boxes}
 use Rattle.rules.specs.Sets.{bit, has}
 use Rattle.rules.specs.Last.{on_last}
-use Rattle.rules.specs.Mails.{on_collect, on_begin, on_accept, on_commit, on_lease, on_lease_ack, of_kind}
+use Rattle.rules.specs.Mails.{on_collect, on_begin, on_accept, on_commit, on_lease, on_lease_ack}
+use Rattle.rules.specs.Mails.{of_kind}
 use Rattle.rules.specs.Mails.{on_mail}
 use Rattle.rules.specs.Steps.{recover, collect, ready, offer, propose, agree, finish, lease_heard}
 use Rattle.rules.specs.Steps.{trim, acted}

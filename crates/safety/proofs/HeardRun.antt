@@ -56,7 +56,8 @@ module _ (s : Site) (c : ℕ) where
       go (right e) = ap stage (in-phase _ _ e)
 
   -- .. is begun neither by Ready nor by Finish
-  one-lease : LeaseOut s c → ((step s (Call.Ready c)).next ≡ s) × ((step s (Call.Finish c)).next ≡ s)
+  one-lease : LeaseOut s c → ((step s (Call.Ready c)).next ≡ s)
+      × ((step s (Call.Finish c)).next ≡ s)
   unfolding step acted ready finish
   one-lease o = (
     by-acting (λ (t : Site). t ≡ s) s c _ _ _ refl

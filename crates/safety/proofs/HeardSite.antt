@@ -21,7 +21,7 @@ use Rattle.laws.proofs.View.{Links, store, phase_of, read_as}
 use Rattle.laws.proofs.StepLaws.{changed, Plays, recovers, collects, readies, offers, proposes}
 use Rattle.laws.proofs.LeftAlone.{posted-other, relinked-other}
 use Rattle.laws.proofs.StepLaws.{agrees, finishes, hears, trims, delivers, by-step}
-use Rattle.safety.specs.Heard.{TakesLease, Heard}
+use Rattle.safety.specs.Heard.{TakesLease}
 use Rattle.safety.proofs.Inv.{MailOk, Inv}
 use Rattle.safety.proofs.Leader.{Led, led}
 use Rattle.safety.proofs.Quiet.{odd-risen}

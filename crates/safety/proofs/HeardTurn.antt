@@ -13,9 +13,11 @@ use Rattle.rules.specs.Numbers.{phase_number}
 use Rattle.rules.specs.Parts.{others}
 use Rattle.rules.specs.Turns.{still}
 use Rattle.rules.specs.Last.{told, raised, counted, uncounted, replied, on_last}
-use Rattle.rules.specs.Mails.{on_collect, on_begin, on_accept, on_commit, on_lease, on_lease_ack, of_kind}
+use Rattle.rules.specs.Mails.{on_collect, on_begin, on_accept, on_commit, on_lease, on_lease_ack}
+use Rattle.rules.specs.Mails.{of_kind}
 use Rattle.rules.specs.Mails.{on_mail}
-use Rattle.rules.specs.Steps.{recover, collect, started, leased, has_previous, ready, offer, propose}
+use Rattle.rules.specs.Steps.{recover, collect, started, leased, has_previous, ready, offer}
+use Rattle.rules.specs.Steps.{propose}
 use Rattle.rules.specs.Steps.{agree, finish, lease_heard, trim, acted}
 use Rattle.rules.specs.Box.{Box, Letter, next_of, mine}
 use Rattle.laws.proofs.Types.{Act, Answer, BoxState, Held, Kind, Out, Setting, Turn}

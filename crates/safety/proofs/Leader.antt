@@ -13,7 +13,8 @@ use Rattle.laws.proofs.Types.{Kind}
 use Rattle.laws.proofs.Logic.{In, eqb_same, All, All-head, All-map}
 use Rattle.laws.proofs.Counts.{Major}
 use Rattle.laws.proofs.FrameLaws.{upd-all, upd_same, upd_other}
-use Rattle.laws.proofs.View.{Links, Store, store, keeping, phase_of, state_of, at, HeldNext, Reading}
+use Rattle.laws.proofs.View.{Links, Store, store, keeping, phase_of, state_of, at, HeldNext}
+use Rattle.laws.proofs.View.{Reading}
 use Rattle.laws.proofs.View.{Collect, Last, Begin, Accept, Commit, Inert, read, read_as}
 use Rattle.safety.proofs.Inv.{Agreement, VotedFor, MailOk, PostOk, LastOk, Told, BeginOk}
 use Rattle.safety.proofs.Inv.{AcceptOk, Ripe, Asking, Hearing, Settled, Live}

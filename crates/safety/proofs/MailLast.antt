@@ -160,7 +160,8 @@ module _ (s : Site) (i : Inv s) (a c : ℕ) (y : Letter) (ys : List Letter)
   -- shut, so that `rw` does not look into it
   link' : Links
   link' b d =
-      cond (eqb b c && has lag d) ((popped s a c).link b d ++ (commit ∷ [])) ((popped s a c).link b d)
+      cond (eqb b c && has lag d) ((popped s a c).link b d ++ (commit ∷ []))
+      ((popped s a c).link b d)
 
   lag-here : (d : ℕ) → has lag d ≡ true → has s.present d ≡ true
   unfolding lag lagging others

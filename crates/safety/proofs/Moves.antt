@@ -10,7 +10,8 @@ use lib.Seq.{get_or-take}
 use Rattle.rules.specs.Parts.{span, none, took_kept, cleared}
 use Rattle.rules.specs.Last.{improves, bettered, told, raised, counted, uncounted, replied}
 use Rattle.rules.specs.Last.{on_last}
-use Rattle.rules.specs.Mails.{on_collect, on_begin, on_accept, on_commit, on_lease, on_lease_ack, of_kind}
+use Rattle.rules.specs.Mails.{on_collect, on_begin, on_accept, on_commit, on_lease, on_lease_ack}
+use Rattle.rules.specs.Mails.{of_kind}
 use Rattle.rules.specs.Mails.{on_mail}
 use Rattle.rules.specs.Steps.{elected, recover, best_held, collect, started, leased, has_previous}
 use Rattle.rules.specs.Steps.{ready, offer, propose, agree, finish, lease_heard, trim, acted}
@@ -199,7 +200,8 @@ module _ (G : ℕ → ℕ → Type 0) where
     same ms a = record { box = record { records = h.records; best = h.best }; sent = tt }
 
     turn-act : (a : Act) → Comes x (own a) → TurnG x [] (acted a x.head s (mine x))
-    unfolding acted recover collect ready offer propose agree finish lease_heard trim leased best_held
+    unfolding acted recover collect ready offer propose agree finish lease_heard trim
+        leased best_held
         written enclosed
     turn-act Act.Recover g =
         by-verdict (TurnG x []) _ _ _ (same [])
@@ -276,7 +278,8 @@ module _ (G : ℕ → ℕ → Type 0) where
       turn-kind : (k : Kind) → MailG (read_as k y)
           → FormedKind k s.j y.head.pn l F y.head.unagreed (length ms)
           → TurnG x ms (of_kind k x.head s a y.head (get_or ms 0 0) (next_of y) (mine x))
-      unfolding of_kind on_collect on_last on_begin on_accept on_commit on_lease on_lease_ack told took_kept
+      unfolding of_kind on_collect on_last on_begin on_accept on_commit on_lease
+          on_lease_ack told took_kept
           written enclosed
       turn-kind Kind.Collect g f =
           by-verdict (TurnG x ms) _ _ _ (same ms)

@@ -2,7 +2,6 @@
 use Prim.Native.Nat.{ℕ, ◌<◌}
 use mathlib.Core.Path.{◌≡◌, refl, sym, subst}
 use native.Mathlib.Omega.{arith}
-use Rattle.rules.specs.Sizes.{even}
 use Rattle.rules.specs.NewPn.{new_pn}
 use Rattle.rules.specs.Fields.{with_phase, with_kept, promised as promising}
 use Rattle.rules.specs.Steps.{recover, acted}

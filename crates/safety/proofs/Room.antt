@@ -13,11 +13,13 @@ use Rattle.rules.specs.Parts.{span, took_kept, cleared}
 use Rattle.rules.specs.Turns.{still}
 use Rattle.rules.specs.Last.{improves, bettered, told, raised, counted, uncounted, replied}
 use Rattle.rules.specs.Last.{on_last}
-use Rattle.rules.specs.Mails.{on_collect, on_begin, on_accept, on_commit, on_lease, on_lease_ack, of_kind}
+use Rattle.rules.specs.Mails.{on_collect, on_begin, on_accept, on_commit, on_lease, on_lease_ack}
+use Rattle.rules.specs.Mails.{of_kind}
 use Rattle.rules.specs.Mails.{on_mail}
 use Rattle.rules.specs.Steps.{elected, recover, best_held, collect, started, leased, has_previous}
 use Rattle.rules.specs.Steps.{ready, offer, propose, agree, finish, lease_heard, trim, acted}
-use Rattle.rules.specs.Box.{Box, Letter, Event, own, mail, held_at, next_of, mine, letter_of, turn_of}
+use Rattle.rules.specs.Box.{Box, Letter, Event, own, mail, held_at, next_of, mine, letter_of}
+use Rattle.rules.specs.Box.{turn_of}
 use Rattle.rules.specs.Box.{turned, brought}
 use Rattle.rules.specs.Site.{Site, setting, is_box, relinked, twice, fresh, fresh_head, played}
 use Rattle.rules.specs.Step.{elect, presented, step, run}
@@ -208,7 +210,8 @@ module _ (s : Setting) (x : Box) (h : BoxRoom s.j x.head)
           → FormedKind k s.j y.head.pn y.head.last y.head.first y.head.unagreed
           (length ms)
           → After ms (of_kind k x.head s a y.head (get_or ms 0 0) (next_of y) (mine x))
-      unfolding of_kind on_collect on_last on_begin on_accept on_commit on_lease on_lease_ack took_kept
+      unfolding of_kind on_collect on_last on_begin on_accept on_commit on_lease
+          on_lease_ack took_kept
       room-kind Kind.Collect f =
           by-verdict (After ms) _ _ _ (same ms)
           (λ go. record { box = stays (omega arith); sent = tt })

@@ -11,7 +11,8 @@ use Rattle.rules.specs.Numbers.{phase_number, refusal_number}
 use Rattle.rules.specs.Parts.{higher, room_next}
 use Rattle.rules.specs.Turns.{first_cause, unless, settled}
 use Rattle.rules.specs.Last.{last_verdict, on_last}
-use Rattle.rules.specs.Mails.{on_collect, begin_verdict, on_begin, accept_verdict, on_accept, on_commit}
+use Rattle.rules.specs.Mails.{on_collect, begin_verdict, on_begin, accept_verdict, on_accept}
+use Rattle.rules.specs.Mails.{on_commit}
 use Rattle.rules.specs.Mails.{on_lease, lease_ack_verdict, on_lease_ack, of_kind, on_mail}
 use Rattle.rules.specs.Steps.{started, leased, can_ready, has_previous, ready, acted}
 use Rattle.rules.specs.Box.{Letter, next_of, mine}
@@ -109,7 +110,8 @@ module _ (s : Setting) (b : BoxState) where
     -- a Begin is taken at its own last, with at least its own first
     other-kind : (k : Kind) → MailRoom s.j (read_as k y)
         → no_room (of_kind k b s a y.head one next mine).answer ≡ false
-    unfolding of_kind on_collect on_last last_verdict on_begin begin_verdict on_accept accept_verdict
+    unfolding of_kind on_collect on_last last_verdict on_begin begin_verdict
+        on_accept accept_verdict
         on_commit on_lease lease_ack_verdict on_lease_ack wants_room no_room
     other-kind Kind.Collect g =
         other-settled b _ _ (other_cause _ _ _ _ _ (λ e. refl)) refl

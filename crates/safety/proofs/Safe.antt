@@ -4,7 +4,7 @@ use mathlib.Core.Path.{◌≡◌, refl, ◌∙◌}
 use mathlib.Core.List.{List, [], ◌∷◌, ◌++◌}
 use native.Mathlib.Omega.{arith}
 use lib.ListN.{length, get_or}
-use Rattle.rules.specs.Sizes.{most_boxes, even}
+use Rattle.rules.specs.Sizes.{most_boxes}
 use Rattle.rules.specs.Sets.{joined, without}
 use Rattle.rules.specs.Mails.{of_kind, on_mail}
 use Rattle.rules.specs.Box.{Letter, next_of, mine}

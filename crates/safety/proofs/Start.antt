@@ -7,7 +7,8 @@ use native.Mathlib.Omega.{arith}
 use lib.ListN.{length, get_or, take}
 use Rattle.rules.specs.Sizes.{most_boxes, even}
 use Rattle.rules.specs.Sets.{has, bit, without}
-use Rattle.rules.specs.Fields.{with_state, with_phase, with_kept, with_accepts, with_heard, with_agreeing}
+use Rattle.rules.specs.Fields.{with_state, with_phase, with_kept, with_accepts, with_heard}
+use Rattle.rules.specs.Fields.{with_agreeing}
 use Rattle.rules.specs.Fields.{storing}
 use Rattle.rules.specs.Parts.{others, span}
 use Rattle.rules.specs.Steps.{started, leased}

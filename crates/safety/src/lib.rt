@@ -1,1 +1,3 @@
+#![tactic(auto)]
+
 // Demand 3 (specs/, proofs/). No code.

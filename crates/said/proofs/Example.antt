@@ -19,9 +19,11 @@ use Rattle.rules.specs.Parts.{others, is_held, under_of, higher, took_kept, took
 use Rattle.rules.specs.Parts.{cleared}
 use Rattle.rules.specs.Last.{noted, told, behind, lagging, improves, bettered, raised, counted}
 use Rattle.rules.specs.Last.{uncounted, replied, last_verdict, on_last}
-use Rattle.rules.specs.Mails.{unagreed_of, on_collect, begin_verdict, on_begin, accept_verdict, on_accept}
+use Rattle.rules.specs.Mails.{unagreed_of, on_collect, begin_verdict, on_begin, accept_verdict}
+use Rattle.rules.specs.Mails.{on_accept}
 use Rattle.rules.specs.Mails.{on_commit, of_kind, on_mail}
-use Rattle.rules.specs.Steps.{elected, can_recover, recover, can_collect, best_held, collect, started}
+use Rattle.rules.specs.Steps.{elected, can_recover, recover, can_collect, best_held, collect}
+use Rattle.rules.specs.Steps.{started}
 use Rattle.rules.specs.Steps.{leased, can_ready, has_previous, ready, can_offer, offer, can_propose}
 use Rattle.rules.specs.Steps.{propose, can_agree, agree, acted}
 use Rattle.rules.specs.Box.{held_at, written, enclosed}
@@ -93,11 +95,13 @@ unfolding answers pick
     all each every tally sizes_form proper record_form bit joined without digit has set_form
     full_set in_state in_phase new_pn first_cause unless settled others is_held under_of took_kept
     took_book cleared noted told behind lagging improves bettered raised counted uncounted
-    replied last_verdict on_last unagreed_of on_collect begin_verdict on_begin accept_verdict on_accept
+    replied last_verdict on_last unagreed_of on_collect begin_verdict on_begin
+    accept_verdict on_accept
     on_commit of_kind on_mail elected can_recover recover can_collect best_held collect
     started leased can_ready has_previous ready can_offer offer can_propose propose can_agree agree
     acted held_at written enclosed fresh_head fresh posted room
-    count_form peer_form form_box form_kind form_letter form_link form ruled by_answer delivered elect
+    count_form peer_form form_box form_kind form_letter form_link form ruled by_answer
+    delivered elect
     step run agreed_as holds ones ones_in first_form higher room_next
 computed = record { one = refl; two = refl; taken = refl }
 

@@ -3,6 +3,7 @@
 // the first does not do.
 use crate::run::Run;
 use crate::{pieces, whole_input};
+use streams::Streams;
 
 const IMAGE: usize = 131072;
 
@@ -37,20 +38,20 @@ pub enum Job {
 // front: what is there of the line, or of the image; rest: the rest of the piece, or what is asked.
 // Lines and images enter here alike: a compiler that merges the frame of a function that is called
 // once into its caller's does not merge this one.
-pub(crate) fn serve_large(job: Job, front: &[u8], rest: &[u8]) -> u8 {
+pub(crate) fn serve_large<S: Streams>(rt: &S, job: Job, front: &[u8], rest: &[u8]) -> u8 {
     let mut line = longest_line();
     let mut image = longest_image();
     match job {
-        Job::Lines(run) => pieces::serve_rest(run, front, rest, &mut line, &mut image),
-        Job::Image => whole_input::show_rest(front, rest, &mut line, &mut image),
+        Job::Lines(run) => pieces::serve_rest(rt, run, front, rest, &mut line, &mut image),
+        Job::Image => whole_input::show_rest(rt, front, rest, &mut line, &mut image),
     }
 }
 
-pub(crate) fn serve() -> u8 {
+pub(crate) fn serve<S: Streams>(rt: &S) -> u8 {
     let mut line = [0u8; TEXT];
     let mut image = [0u8; IMAGE];
-    if streams::has_argument(2, b"hex") {
-        return pieces::serve_lines(&mut line, &mut image);
+    if streams::has_argument(rt, 2, b"hex") {
+        return pieces::serve_lines(rt, &mut line, &mut image);
     }
-    whole_input::serve_image(&mut line, &mut image)
+    whole_input::serve_image(rt, &mut line, &mut image)
 }

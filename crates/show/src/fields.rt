@@ -2,6 +2,7 @@
 // in an image by form there is none.
 use crate::sheet;
 use crate::sheet::Sheet;
+use streams::Streams;
 
 // The text so far, and the place in the body.
 #[derive(Clone, Copy)]
@@ -39,43 +40,71 @@ pub(crate) fn past(body: &[u8], at: usize, n: usize) -> usize {
     a + n
 }
 
-pub(crate) fn put_line(out: &mut [u8], s: Sheet, name: &[u8], x: u64) -> Sheet {
-    let s = sheet::put(out, s, name);
-    let s = sheet::put_number(out, s, x);
-    sheet::put(out, s, b"\n")
+pub(crate) fn put_line<S: Streams>(rt: &S, out: &mut [u8], s: Sheet, name: &[u8], x: u64) -> Sheet {
+    let s = sheet::put(rt, out, s, name);
+    let s = sheet::put_number(rt, out, s, x);
+    sheet::put(rt, out, s, b"\n")
 }
 
 // The number at this place.
-pub(crate) fn put_field(out: &mut [u8], s: Sheet, name: &[u8], body: &[u8], at: usize) -> Sheet {
-    put_line(out, s, name, number(body, at))
+pub(crate) fn put_field<S: Streams>(
+    rt: &S,
+    out: &mut [u8],
+    s: Sheet,
+    name: &[u8],
+    body: &[u8],
+    at: usize,
+) -> Sheet {
+    put_line(rt, out, s, name, number(body, at))
 }
 
 // A record as its left and its right frame, or none.
-pub(crate) fn put_frames(out: &mut [u8], s: Sheet, body: &[u8], at: usize) -> Sheet {
+pub(crate) fn put_frames<S: Streams>(
+    rt: &S,
+    out: &mut [u8],
+    s: Sheet,
+    body: &[u8],
+    at: usize,
+) -> Sheet {
     let r = frames(body, at);
     if r == 0 {
-        return sheet::put(out, s, b"none\n");
+        return sheet::put(rt, out, s, b"none\n");
     }
-    let s = sheet::put_number(out, s, r / 4294967296);
-    let s = sheet::put(out, s, b" ");
-    let s = sheet::put_number(out, s, r % 4294967296);
-    sheet::put(out, s, b"\n")
+    let s = sheet::put_number(rt, out, s, r / 4294967296);
+    let s = sheet::put(rt, out, s, b" ");
+    let s = sheet::put_number(rt, out, s, r % 4294967296);
+    sheet::put(rt, out, s, b"\n")
 }
 
-pub(crate) fn put_record(out: &mut [u8], s: Sheet, name: &[u8], body: &[u8], at: usize) -> Sheet {
-    let s = sheet::put(out, s, name);
-    put_frames(out, s, body, at)
+pub(crate) fn put_record<S: Streams>(
+    rt: &S,
+    out: &mut [u8],
+    s: Sheet,
+    name: &[u8],
+    body: &[u8],
+    at: usize,
+) -> Sheet {
+    let s = sheet::put(rt, out, s, name);
+    put_frames(rt, out, s, body, at)
 }
 
 // Load number k.
-fn put_numbered(out: &mut [u8], s: Sheet, body: &[u8], at: usize, k: u64) -> Sheet {
-    let s = sheet::put(out, s, b"record ");
-    let s = sheet::put_number(out, s, k);
-    put_record(out, s, b": ", body, at)
+fn put_numbered<S: Streams>(
+    rt: &S,
+    out: &mut [u8],
+    s: Sheet,
+    body: &[u8],
+    at: usize,
+    k: u64,
+) -> Sheet {
+    let s = sheet::put(rt, out, s, b"record ");
+    let s = sheet::put_number(rt, out, s, k);
+    put_record(rt, out, s, b": ", body, at)
 }
 
 // So many records from a place on, the first of them load number `first`.
-pub(crate) fn put_records(
+pub(crate) fn put_records<S: Streams>(
+    rt: &S,
     out: &mut [u8],
     s: Sheet,
     body: &[u8],
@@ -88,7 +117,7 @@ pub(crate) fn put_records(
     let mut k = first;
     let mut i: u64 = 0;
     while i < count {
-        r = put_numbered(out, r, body, p, k);
+        r = put_numbered(rt, out, r, body, p, k);
         p = past(body, p, 8);
         k = std::num::wrapping_add_u64(k, 1);
         i += 1;
@@ -97,21 +126,21 @@ pub(crate) fn put_records(
 }
 
 // A space and box k, where it is in a set whose lowest bit is its own.
-fn put_member(out: &mut [u8], s: Sheet, rest: u64, k: u64) -> Sheet {
+fn put_member<S: Streams>(rt: &S, out: &mut [u8], s: Sheet, rest: u64, k: u64) -> Sheet {
     if rest % 2 == 0 {
         return s;
     }
-    let s = sheet::put(out, s, b" ");
-    sheet::put_number(out, s, k)
+    let s = sheet::put(rt, out, s, b" ");
+    sheet::put_number(rt, out, s, k)
 }
 
 // A space and each box of the set.
-fn put_boxes(out: &mut [u8], s: Sheet, set: u64) -> Sheet {
+fn put_boxes<S: Streams>(rt: &S, out: &mut [u8], s: Sheet, set: u64) -> Sheet {
     let mut r = s;
     let mut rest = set;
     let mut k: u64 = 1;
     while k < 6 {
-        r = put_member(out, r, rest, k);
+        r = put_member(rt, out, r, rest, k);
         rest = rest / 2;
         k += 1;
     }
@@ -119,12 +148,19 @@ fn put_boxes(out: &mut [u8], s: Sheet, set: u64) -> Sheet {
 }
 
 // The boxes of a set, or none.
-pub(crate) fn put_set(out: &mut [u8], s: Sheet, name: &[u8], body: &[u8], at: usize) -> Sheet {
+pub(crate) fn put_set<S: Streams>(
+    rt: &S,
+    out: &mut [u8],
+    s: Sheet,
+    name: &[u8],
+    body: &[u8],
+    at: usize,
+) -> Sheet {
     let set = number(body, at);
-    let s = sheet::put(out, s, name);
+    let s = sheet::put(rt, out, s, name);
     if set == 0 {
-        return sheet::put(out, s, b" none\n");
+        return sheet::put(rt, out, s, b" none\n");
     }
-    let s = put_boxes(out, s, set);
-    sheet::put(out, s, b"\n")
+    let s = put_boxes(rt, out, s, set);
+    sheet::put(rt, out, s, b"\n")
 }

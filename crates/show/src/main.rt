@@ -3,6 +3,8 @@
 //
 // What is handed out is what `bodies` hands out, whose statements say what that is. No contract can
 // say what is read or written: the functions here are proved safe and to end.
+#![tactic(auto)]
+
 mod boxes;
 mod buffers;
 mod fields;
@@ -15,9 +17,9 @@ mod shown;
 mod whole_input;
 
 // `report`: the status goes to descriptor 3.
-fn main() {
-    let status = buffers::serve();
-    if streams::has_argument(1, b"report") {
-        streams::report(status);
+fn main(rt: HostRuntime) {
+    let status = buffers::serve(&rt);
+    if streams::has_argument(&rt, 1, b"report") {
+        streams::report(&rt, status);
     }
 }

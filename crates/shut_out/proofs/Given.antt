@@ -16,7 +16,8 @@ use Rattle.rules.specs.Needs.{ruled}
 use Rattle.rules.specs.Step.{by_answer, elect, step}
 use Rattle.laws.proofs.Types.{Answer, Call, Refusal}
 use lib.ListN.{replicate}
-use Rattle.index.specs.Index.{first_of, last_of, table, heads_of, tails_of, nexts_of, same, index_form}
+use Rattle.index.specs.Index.{first_of, last_of, table, heads_of, tails_of, nexts_of, same}
+use Rattle.index.specs.Index.{index_form}
 use Rattle.row.specs.Row.{row_fits, index_width}
 use Rattle.memory.specs.Memory.{site_of, roomy}
 use Rattle.site.specs.Entries.{step_on}
@@ -39,9 +40,12 @@ pub record Computed : Type 0 where
   pub fits-recover : Fits words [] (Call.Recover 1)
 
 pub computed : Computed
-unfolding pick all each every tally ones ones_in sizes_form proper record_form bit digit has set_form
-    in_state in_phase unless settled can_recover recover acted first_form count_form peer_form form_box
-    form_link form ruled by_answer elect step row_fits site_of roomy step_on first_of last_of table heads_of
+unfolding pick all each every tally ones ones_in sizes_form proper record_form bit
+    digit has set_form
+    in_state in_phase unless settled can_recover recover acted first_form count_form
+    peer_form form_box
+    form_link form ruled by_answer elect step row_fits site_of roomy step_on first_of
+    last_of table heads_of
     tails_of nexts_of same index_form
 computed = record {
   elects = refl;

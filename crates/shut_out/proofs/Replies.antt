@@ -6,7 +6,8 @@ use mathlib.Core.List.{List, ◌∷◌}
 use lib.ListN.{get_or}
 use Rattle.rules.specs.Parts.{took_kept}
 use Rattle.rules.specs.Last.{told, raised, counted, uncounted, replied, on_last}
-use Rattle.rules.specs.Mails.{on_collect, on_begin, on_accept, on_commit, on_lease, on_lease_ack, of_kind}
+use Rattle.rules.specs.Mails.{on_collect, on_begin, on_accept, on_commit, on_lease, on_lease_ack}
+use Rattle.rules.specs.Mails.{of_kind}
 use Rattle.rules.specs.Mails.{on_mail}
 use Rattle.rules.specs.Steps.{elected, recover, collect, started, leased, ready, offer, propose}
 use Rattle.rules.specs.Steps.{agree, finish, lease_heard, trim, acted}
@@ -63,7 +64,8 @@ module _ (s : Site) where
     by_kind : (k : Kind) → y.head.kind ≡ k
         → Mailed (of_kind k (s.box c).head (setting s c) a y.head (get_or y.records 0 0)
         (next_of y) (mine (s.box c)))
-    unfolding of_kind on_collect on_last on_begin on_accept on_commit on_lease on_lease_ack told took_kept
+    unfolding of_kind on_collect on_last on_begin on_accept on_commit on_lease
+        on_lease_ack told took_kept
         replied raised counted uncounted
     by_kind Kind.Collect is = by-verdict Mailed _ _ _ (λ a. before) (λ go. before)
     by_kind Kind.Last is =

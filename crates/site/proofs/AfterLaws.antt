@@ -126,7 +126,8 @@ links-same xs ls c r = record {
 -- o is what the turn t of box c comes to, on links that the mail it takes has left
 module _ (xs ls : List ℕ) (c : ℕ) (link : ℕ → ℕ → List Letter) (t : Turn) (ms : List ℕ)
     (o : Outcome)
-    (is : o ≡ by_turn (site_of xs ls) (changed (site_of xs ls) (site_of xs ls).box link) c t ms) where
+    (is : o ≡ by_turn (site_of xs ls) (changed (site_of xs ls) (site_of xs ls).box link) c t
+    ms) where
   abbrev base : Site
   base = changed (site_of xs ls) (site_of xs ls).box link
 

@@ -113,7 +113,8 @@ module _ (xs ls : List ℕ) (f : memory_form xs ls ≡ true) where
     elect-no-box h = no-box c _ _ h
 
     pub elect-needs : is_box s.n c ≡ true
-        → step s (Call.Elect c) ≡ ruled (refused s) (elect_needs (setting_at xs c)) (did (elect s c))
+        → step s (Call.Elect c) ≡ ruled (refused s) (elect_needs (setting_at xs c))
+        (did (elect s c))
     unfolding site_of step
     elect-needs h = at-box c _ _ h
 

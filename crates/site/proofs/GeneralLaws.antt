@@ -55,12 +55,14 @@ module _ (xs : List ℕ) (epoch present : ℕ) where
   abbrev L-same : get_or (general_put epoch present xs) 2 0 ≡ get_or xs 2 0
   L-same = sizes 2 (omega arith)
 
-  boxes : box_in (get_or (general_put epoch present xs) 0 0) (get_or (general_put epoch present xs) 1 0)
+  boxes : box_in (get_or (general_put epoch present xs) 0 0)
+      (get_or (general_put epoch present xs) 1 0)
       (general_put epoch present xs)
       ≡ box_in (get_or xs 0 0) (get_or xs 1 0) xs
   boxes =
       (λ t. box_in (n-same t) (J-same t) (general_put epoch present xs))
-      ∙ (λ t b. cond (is_box (get_or xs 0 0) b) (box_of (get_or xs 0 0) (same_row (get_or xs 1 0) b t))
+      ∙ (λ t b. cond (is_box (get_or xs 0 0) b)
+      (box_of (get_or xs 0 0) (same_row (get_or xs 1 0) b t))
       fresh_box)
 
   pub general-put : (ls : List ℕ) → general_words ≤ length xs

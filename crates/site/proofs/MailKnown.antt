@@ -77,7 +77,8 @@ module _ {xs ls : List ℕ} {a b : ℕ} {s : Setting} (k : AtLink xs ls a b s) w
 
     pub has-head : (n ≡ 0 → ⊥) → HasHead s a xs ls
     has-head z =
-        let some : 0 < length (links_of (setting_at xs b) ls a b) = omega (arith, held, positive n z)
+        let some : 0 < length (links_of (setting_at xs b) ls a b) =
+        omega (arith, held, positive n z)
         in
         rw k.setting (record {
           know = record { form = k.form; setting = refl };

@@ -113,7 +113,8 @@ module _ {xs ls : List ℕ} {c : ℕ} {s : Setting} (k : AtBox xs ls c s) where
     unfolding site_of
     acts =
         acting-turn xs ls k.form c a k.box
-        ∙ ap (λ (u : Turn). by_turn (site_of xs ls) (site_of xs ls) c u []) (sym (turn_is (own a) p))
+        ∙ ap (λ (u : Turn). by_turn (site_of xs ls) (site_of xs ls) c u [])
+        (sym (turn_is (own a) p))
 
     -- it changes nothing
     pub acting-stays : is_accepted t.answer ≡ false

@@ -67,7 +67,8 @@ module _ (xs ls : List ℕ) (f : memory_form xs ls ≡ false) where
       go (left r) = rw r refl
       go (right r) = rw r.0 (refuses r.1)
 
-  pub unformed-after : (d : Call) → After (step_on xs ls d) xs ls xs ls (Answer.Refused Refusal.Form)
+  pub unformed-after : (d : Call)
+      → After (step_on xs ls d) xs ls xs ls (Answer.Refused Refusal.Form)
   unfolding step_on
   unformed-after d =
       refused-after xs ls Refusal.Form _

@@ -35,7 +35,7 @@ fn give_of(w: &[u8], side: Side, line: &[u8]) -> Ask {
     if n < k {
         return Ask::Unreadable;
     }
-    let e = bytes::scan::find(line, k, n, 32);
+    let e = scan::find(line, k, n, 32);
     if n <= e {
         return Ask::Unreadable;
     }
@@ -66,7 +66,7 @@ fn site_of(line: &[u8]) -> Ask {
     if n <= IMAGE {
         return Ask::Unreadable;
     }
-    if bytes::scan::find(line, IMAGE, n, 32) == n {
+    if scan::find(line, IMAGE, n, 32) == n {
         return Ask::Site;
     }
     Ask::Unreadable

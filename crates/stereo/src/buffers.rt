@@ -1,5 +1,6 @@
 // The buffers: for a line, an image, the desk, and the words of a site.
 use crate::pieces;
+use streams::Streams;
 
 // Images of 128 KiB, and the links of most sites: what is longer is refused with 12.
 const IMAGE: usize = 131072;
@@ -17,7 +18,7 @@ const SITE: usize = memory::GENERAL + 5 * ROW;
 const DESK: usize = 64;
 
 // No site is lent yet: words of zeros are none by form.
-pub(crate) fn serve() -> u8 {
+pub(crate) fn serve<S: Streams>(rt: &S) -> u8 {
     let mut piece = io::large_buffer();
     let mut line = [0u8; LINE];
     let mut image = [0u8; IMAGE];
@@ -25,6 +26,6 @@ pub(crate) fn serve() -> u8 {
     let mut site = [0u64; SITE];
     let mut links = [0u64; LINKS];
     pieces::serve(
-        &mut piece, &mut line, &mut image, &mut desk, &mut site, &mut links,
+        rt, &mut piece, &mut line, &mut image, &mut desk, &mut site, &mut links,
     )
 }

@@ -1,4 +1,6 @@
 // Lines at the pairing desk from standard input, answered one by one: the command `desk`.
+#![tactic(auto)]
+
 mod answer;
 mod ask;
 mod buffers;
@@ -7,9 +9,9 @@ mod refused;
 mod run;
 
 // `report`: the status goes to descriptor 3.
-fn main() {
-    let status = buffers::serve();
-    if streams::has_argument(1, b"report") {
-        streams::report(status);
+fn main(rt: HostRuntime) {
+    let status = buffers::serve(&rt);
+    if streams::has_argument(&rt, 1, b"report") {
+        streams::report(&rt, status);
     }
 }

@@ -38,7 +38,8 @@ pub box-held : (n J : ℕ) → n ≤ most_boxes → (x : Box) → SomeBox n J x 
 box-held n J few x g r h q made =
     let c = length x.records in
     let f = box-says g.1 in
-    let there = subst (λ (l : List ℕ). Reindexed J 0 (get_or l first_at 0) (agreed_of l) l q) h.words
+    let there =
+    subst (λ (l : List ℕ). Reindexed J 0 (get_or l first_at 0) (agreed_of l) l q) h.words
     made in
     let done = stored-indexed n J x.head c (x.records ++ h.rest) q few f.held.room
     f.places (λ k a m. unknown-above k a (f.peers k (omega arith, m))) there in

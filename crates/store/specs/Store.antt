@@ -3,7 +3,8 @@ use Rattle.std.specs.Prelude.{◌≡◌, true, ℕ, ◌≤◌, List, ◌++◌, l
 use Rattle.rules.specs.Box.{Box, Letter}
 use Rattle.letter.specs.Place.{letter_at, place_fits}
 use Rattle.row.specs.Row.{box_of, row_fits}
-use Rattle.memory.specs.Memory.{site_words, links_words, past_site, past_links, site_of, memory_form}
+use Rattle.memory.specs.Memory.{site_words, links_words, past_site, past_links, site_of}
+use Rattle.memory.specs.Memory.{memory_form}
 use Rattle.cells.specs.Cells.{Stands, Found}
 use Rattle.image.specs.Image.{box_words}
 use Rattle.image.specs.Parts.{Listed, n_in, JIn, LIn, listed, listed_bytes, GoodListed}
@@ -26,7 +27,8 @@ pub record HoldsBox (n J : ℕ) (r : List ℕ) (x : Box) : Type 0 where
 -- the words xs and ls are enough for the bodies that stand at `at`
 pub record RoomFor (src : List ℕ) (at : ℕ) (xs ls : List ℕ) : Type 0 where
   pub words : (t : Listed) (q : ℕ) → GoodListed t → Stands (listed_bytes t) src at q
-      → (site_words (n_in t) (JIn t) ≤ length xs) × (links_words (n_in t) (JIn t) (LIn t) ≤ length ls)
+      → (site_words (n_in t) (JIn t) ≤ length xs)
+      × (links_words (n_in t) (JIn t) (LIn t) ≤ length ls)
 
 -- the words xs and ls have become ys and ks: these are by form, their site is what the bodies t
 -- hold, and what follows its rows and links is as it was

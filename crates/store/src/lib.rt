@@ -1,4 +1,6 @@
 // What an image by form holds is stored into the lent words.
+#![tactic(auto)]
+
 ghost use Rattle.cells.specs.Cells.{Has};
 ghost use Rattle.image.specs.Parts.{listed_bytes, GoodListed};
 ghost use Rattle.store.specs.Store.{RoomFor, SiteStored};

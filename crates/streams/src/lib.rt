@@ -9,9 +9,11 @@
 mod again;
 mod fault;
 mod host;
+#[cfg(test)]
+mod tests;
 mod wait;
 
-ghost use Rattle.std.specs.Prelude.{OnOk, length};
+ghost use Rattle.std.specs.Prelude.{OnOk};
 ghost use Rattle.std.specs.Io.{WritesAtMost};
 ghost use Rattle.std.specs.Io.KnownBytes.{Appends, WriteAppends};
 ghost use Rattle.io.specs.Counts.{IsPrefixLen};

@@ -122,7 +122,8 @@ module _ {R : Type 0} (next : R → Line → R) (text : R → Line → List ℕ)
   unfolding feed_text byte_text
   line-text p s h e =
       text_append s p (10 ∷ [])
-      ∙ (ap (λ (t : List ℕ). t ++ feed_text next text (feed_next next s p) (10 ∷ [])) (plain-text p s
+      ∙ (ap (λ (t : List ℕ). t ++ feed_text next text (feed_next next s p) (10 ∷ []))
+      (plain-text p s
       e)
       ∙ (append-nil (byte_text text (feed_next next s p) 10)
       ∙ (ap (λ (t : Feeding R). byte_text text t 10) (plain-next p s h e)

@@ -1,9 +1,14 @@
 // Feeds the trace on standard input to the library in pieces of 1, 2, 63, 64 and 65 bytes and
 // whole, into buffers of different lengths, and writes what it says: the same each time.
+#![tactic(auto)]
+
 ghost use Rattle.std.specs.Prelude.{◌≡◌, min};
 
 use feed::state::{LINKS_WORDS, LONGEST_ANSWER, SITE_WORDS};
-use libc::{STDIN_FILENO, STDOUT_FILENO};
+
+const STDIN: i32 = 0;
+
+const STDOUT: i32 = 1;
 
 fn least(a: usize, b: usize) -> usize
     ensures { result ≡ min a b }
@@ -20,7 +25,7 @@ fn feed_cut(input: &[u8], size: usize, site: &mut [u64], links: &mut [u64], out:
         let e = i + least(size, n - i);
         let t = feed::feed_piece(f, &input[i..e], site, links, out);
         let at = t.at;
-        io::write_all(STDOUT_FILENO, &out[..at]);
+        io::write_all(STDOUT, &out[..at]);
         f = t.feed;
         if t.took == 0 {
             return;
@@ -29,7 +34,7 @@ fn feed_cut(input: &[u8], size: usize, site: &mut [u64], links: &mut [u64], out:
     }
     let end = feed::feed_end(f, out);
     let at = end.at;
-    io::write_all(STDOUT_FILENO, &out[..at]);
+    io::write_all(STDOUT, &out[..at]);
 }
 
 // Every cut; the last with room for one answer at a time.
@@ -49,6 +54,6 @@ fn main() {
     let mut input = io::large_buffer();
     let mut out = io::large_buffer();
     let mut small = [0u8; LONGEST_ANSWER];
-    let n = io::read_full(STDIN_FILENO, &mut input);
+    let n = io::read_full(STDIN, &mut input);
     feed_cuts(&input[..n], &mut site, &mut links, &mut out, &mut small);
 }

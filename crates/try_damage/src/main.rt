@@ -1,7 +1,7 @@
 // Damages each image on standard input in every small way, reads what is left and writes it back.
 // What is refused must leave every word and byte as it was; what is read must be written back as
 // exactly the bytes that were given.
-use libc::STDIN_FILENO;
+#![tactic(auto)]
 
 mod count;
 mod cuts;
@@ -14,6 +14,8 @@ mod script;
 mod show;
 mod trial;
 
+const STDIN: i32 = 0;
+
 // Room for images of up to 2,047 bytes. The words are enough for each site of the input and not for
 // every site that a changed byte makes of it.
 fn main() {
@@ -22,6 +24,6 @@ fn main() {
     let mut back = [0u8; 2050];
     let mut site = [0u64; 820];
     let mut links = [0u64; 1000];
-    let n = io::read_full(STDIN_FILENO, &mut text);
+    let n = io::read_full(STDIN, &mut text);
     script::play(&text[..n], &mut image, &mut site, &mut links, &mut back);
 }

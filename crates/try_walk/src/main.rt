@@ -1,6 +1,7 @@
 // Plays the script on standard input on the engine. Each line is written as it stands, with what
 // came of it.
-use libc::STDIN_FILENO;
+#![tactic(auto)]
+
 use spots::{GENERAL, LINK_HEAD, NEXTS, PLACE_HEAD, ROW_HEAD};
 
 mod alone;
@@ -12,6 +13,8 @@ mod script;
 mod see;
 mod show;
 mod spots;
+
+const STDIN: i32 = 0;
 
 // The largest site here has n = 5, J = 4,096 and L = 4: it and its copy fit a usual stack of 8 MB.
 const SITE: usize = GENERAL + 5 * (ROW_HEAD + 4096 + NEXTS + 4096);
@@ -28,7 +31,7 @@ fn main() {
     let mut links_before = [0u64; LINKS];
     let mut letter = [0u64; PLACE];
     let mut out = [0u64; PLACE];
-    let n = io::read_full(STDIN_FILENO, &mut text);
+    let n = io::read_full(STDIN, &mut text);
     script::walk(
         &text[..n],
         &mut site,

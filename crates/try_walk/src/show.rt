@@ -1,14 +1,15 @@
 // What is written of a line.
 use crate::lent::Lent;
 use crate::spots::{EPOCH, LAST, get, row_at};
-use libc::STDOUT_FILENO;
+
+const STDOUT: i32 = 1;
 
 pub(crate) fn text(s: &[u8]) {
-    io::write_all(STDOUT_FILENO, s);
+    io::write_all(STDOUT, s);
 }
 
 pub(crate) fn number(x: u64) {
-    io::print_decimal(STDOUT_FILENO, x);
+    io::print_decimal(STDOUT, x);
 }
 
 pub(crate) fn next_number(x: u64) {

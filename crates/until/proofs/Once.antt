@@ -60,7 +60,8 @@ pub form-kept : {xs ls ys ms : List ℕ} {r : Run} (steps : ℕ) → memory_form
     → RunAfter (run_on xs ls steps) xs ls ys ms r → memory_form ys ms ≡ true
 unfolding run_on
 form-kept {xs} {ls} {ys} {ms} steps f after =
-    let here : run_on xs ls steps ≡ run_of (site_of xs ls) steps = rw (form-readable xs ls f) refl in
+    let here : run_on xs ls steps ≡ run_of (site_of xs ls) steps =
+    rw (form-readable xs ls f) refl in
     form_both ys ms (after.readable (form-readable xs ls f))
     (ap form (after.site ∙ ap (λ (o : Outcome). o.next) here)
     ∙ run-form (site_of xs ls) steps (form-site xs ls f))

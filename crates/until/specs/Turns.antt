@@ -1,5 +1,6 @@
 -- One turn of a run, and several: the run from here is the run from there.
-use Rattle.std.specs.Prelude.{ℕ, ◌+◌, ◌≤◌, ◌<◌, ◌≡◌, Bool, true, false, not, ◌&&◌, List, eqb, ltb, length}
+use Rattle.std.specs.Prelude.{ℕ, ◌+◌, ◌≤◌, ◌<◌, ◌≡◌, Bool, true, false, not, ◌&&◌, List, eqb, ltb}
+use Rattle.std.specs.Prelude.{length}
 use Rattle.rules.specs.Pick.{pick}
 use Rattle.rules.specs.Answers.{is_refusal}
 use Rattle.rules.specs.Site.{Site}

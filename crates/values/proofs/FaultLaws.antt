@@ -32,7 +32,8 @@ whole-none (Fault.At x) h = absurd (false≢true h)
 pub then-passed : (ts : List Test) (rest : Fault) → fault_then ts rest ≡ Fault.None
     → (all (holds_of ts) ≡ true) × (rest ≡ Fault.None)
 then-passed ts rest e =
-    let t : (all (holds_of ts) && is_whole rest) ≡ true = sym (whole-then ts rest) ∙ ap is_whole e in
+    let t : (all (holds_of ts) && is_whole rest) ≡ true = sym (whole-then ts rest)
+    ∙ ap is_whole e in
     (first-of (all (holds_of ts)) _ t, whole-none rest (second-of (all (holds_of ts)) _ t))
 
 pub passed_then : (ts : List Test) {rest : Fault} → all (holds_of ts) ≡ true → rest ≡ Fault.None

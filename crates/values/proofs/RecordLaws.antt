@@ -13,5 +13,6 @@ pub proper-word : (x : ℕ) → x < 2 ^ 64 → proper x ≡ (leb 1 (left_of x) &
 unfolding proper
 proper-word x h =
     let most : ℕ = 4294967296 in
-    let b : left_of x < most = (div-lt_iff_lt-mul {k = most} {x = x} {y = most} (omega arith)).1 h in
+    let b : left_of x < most =
+    (div-lt_iff_lt-mul {k = most} {x = x} {y = most} (omega arith)).1 h in
     rw (lt-ltb (left_of x) most b, and-true)

@@ -14,7 +14,7 @@ use Rattle.laws.proofs.Logic.{Or, left, right, decide}
 use Rattle.laws.proofs.FormLaws.{FormedBox, FormedFirst, HeldCount}
 use Rattle.laws.proofs.View.{held_elim, front-all}
 use Rattle.wait.proofs.Stages.{Time, Between, Leading, Acts, cost}
-use Rattle.wait.proofs.Stages.{ahead_of, pn, first, phase}
+use Rattle.wait.proofs.Stages.{ahead_of, pn, phase}
 use Rattle.wait.proofs.Verdicts.{start-turn, lead-turn}
 use Rattle.wait.proofs.Quiet.{Asked, Stand, has-self, few, all-present, to-others, sends}
 use Rattle.wait.proofs.ActsRest.{leases}

@@ -14,7 +14,8 @@ use Rattle.rules.specs.Pick.{pick_true, pick-false}
 use Rattle.rules.specs.Sizes.{most_boxes, most_number, most_pn, unknown}
 use Rattle.rules.specs.Sets.{has, joined, without}
 use Rattle.rules.specs.NewPn.{new_pn}
-use Rattle.rules.specs.Fields.{with_phase, with_kept, with_best, with_answered, with_peers, promised}
+use Rattle.rules.specs.Fields.{with_phase, with_kept, with_best, with_answered, with_peers}
+use Rattle.rules.specs.Fields.{promised}
 use Rattle.rules.specs.Fields.{lasting, keeping}
 use Rattle.rules.specs.Parts.{others, higher, took_kept, took_book, cleared}
 use Rattle.rules.specs.Turns.{first_cause, unless, taken, mail_from}

@@ -278,7 +278,8 @@ module _ (s : Site) (o : Call) where
   -- all but the one at place k are impossible
   one-possible : (ds : List Call) (k : ℕ) → k < length ds
       → ((i : ℕ) → i < length ds → (i ≡ k → ⊥) → possible s (get_or ds i o) ≡ false)
-      → first_possible s ds ≡ pick (possible s (get_or ds k o)) (Next.Turn (get_or ds k o)) Next.Nothing
+      → first_possible s ds ≡ pick (possible s (get_or ds k o))
+      (Next.Turn (get_or ds k o)) Next.Nothing
   unfolding first_possible
   one-possible [] k h off = absurd (omega arith)
   one-possible (d ∷ ds) zero h off =

@@ -10,14 +10,17 @@ use Rattle.rules.specs.Sizes.{even, most_number, most_pn}
 use Rattle.rules.specs.Sets.{bit, includes}
 use Rattle.rules.specs.Numbers.{in_phase, in_state, phase_number, state_number}
 use Rattle.rules.specs.NewPn.{new_pn}
-use Rattle.rules.specs.Fields.{with_state, with_phase, with_kept, with_best, with_answered, with_peers}
+use Rattle.rules.specs.Fields.{with_state, with_phase, with_kept, with_best, with_answered}
+use Rattle.rules.specs.Fields.{with_peers}
 use Rattle.rules.specs.Fields.{with_agreeing, promised, keeping, storing, lasting}
-use Rattle.rules.specs.Parts.{others, all_unknown, is_held, span, higher, dropped, took_kept, took_book}
+use Rattle.rules.specs.Parts.{others, all_unknown, is_held, span, higher, dropped, took_kept}
+use Rattle.rules.specs.Parts.{took_book}
 use Rattle.rules.specs.Parts.{room_next, cleared}
 use Rattle.rules.specs.Turns.{first_cause, unless, settled, taken, done, mail_of, mail_from}
 use Rattle.rules.specs.Mails.{unagreed_of, on_collect, begin_verdict, on_begin, on_commit, on_lease}
 use Rattle.rules.specs.Mails.{of_kind, on_mail}
-use Rattle.rules.specs.Steps.{can_recover, recover, can_collect, best_held, collect, started, leased}
+use Rattle.rules.specs.Steps.{can_recover, recover, can_collect, best_held, collect, started}
+use Rattle.rules.specs.Steps.{leased}
 use Rattle.rules.specs.Steps.{can_ready, has_previous, ready, can_agree, agree, can_finish, finish}
 use Rattle.rules.specs.Steps.{can_heard, lease_heard}
 use Rattle.laws.proofs.Types.{Book, BoxState, Held, Kind, Mail, Out, Phase, Refusal, Setting, State}

@@ -1,8 +1,8 @@
 // The lines of standard input, read in pieces.
 use crate::answer;
 use crate::run::{Run, Stage, least};
-use libc::STDIN_FILENO;
-use streams::Got;
+use std::io::Error;
+use streams::{Got, Streams};
 use wording::put;
 
 // A list of as many records as a book can have.
@@ -15,7 +15,8 @@ const LINE: usize = 2 * 22 * RECORDS;
 const OUT: usize = LINE + 11;
 
 // The line that is held has ended. One that fills its buffer is not held whole.
-fn end_line(
+fn end_line<S: Streams>(
+    rt: &S,
     line: &[u8],
     held: usize,
     run: Run,
@@ -24,13 +25,14 @@ fn end_line(
     out: &mut [u8],
 ) -> Run {
     if line.len() <= held {
-        return answer::refuse(line, true, run);
+        return answer::refuse(rt, line, true, run);
     }
-    answer::answer_line(&line[0..held], run, a, b, out)
+    answer::answer_line(rt, &line[0..held], run, a, b, out)
 }
 
 // The next part of a line, which ends there or not.
-fn take_part(
+fn take_part<S: Streams>(
+    rt: &S,
     part: &[u8],
     ended: bool,
     run: Run,
@@ -43,11 +45,12 @@ fn take_part(
     if !ended {
         return run.with_held(n);
     }
-    end_line(line, n, run, a, b, out)
+    end_line(rt, line, n, run, a, b, out)
 }
 
 // Answers the lines that end in piece.
-fn take_piece(
+fn take_piece<S: Streams>(
+    rt: &S,
     piece: &[u8],
     run: Run,
     line: &mut [u8],
@@ -59,8 +62,8 @@ fn take_piece(
     let mut r = run;
     let mut i = 0;
     while i < n {
-        let e = bytes::scan::find(piece, i, n, 10);
-        r = take_part(&piece[i..e], e < n, r, line, a, b, out);
+        let e = scan::find(piece, i, n, 10);
+        r = take_part(rt, &piece[i..e], e < n, r, line, a, b, out);
         if !r.goes_on() {
             return r;
         }
@@ -70,24 +73,25 @@ fn take_piece(
 }
 
 // The input has ended; the last bytes are no line where no newline ended them.
-fn end(line: &[u8], run: Run) -> Run {
+fn end<S: Streams>(rt: &S, line: &[u8], run: Run) -> Run {
     let n = least(run.held, line.len());
     if n == 0 {
         return run.with_stage(Stage::Ended);
     }
-    let r = answer::refuse(&line[0..n], false, run);
+    let r = answer::refuse(rt, &line[0..n], false, run);
     if r.goes_on() {
         return r.with_stage(Stage::Ended);
     }
     r
 }
 
-fn failed(run: Run) -> Run {
-    os::fail(b"longer: standard input");
+fn failed<S: Streams>(rt: &S, run: Run, error: Error) -> Run {
+    streams::fail(rt, b"longer: standard input", error);
     run.with_stage(Stage::Failed)
 }
 
-fn read_piece(
+fn read_piece<S: Streams>(
+    rt: &S,
     piece: &mut [u8],
     run: Run,
     line: &mut [u8],
@@ -95,20 +99,27 @@ fn read_piece(
     b: &mut [u64],
     out: &mut [u8],
 ) -> Run {
-    match streams::receive(STDIN_FILENO, piece) {
-        Got::Bytes(n) => take_piece(&piece[0..n], run, line, a, b, out),
-        Got::End => end(line, run),
-        Got::Failed => failed(run),
+    match streams::read_input(rt, piece) {
+        Got::Bytes(n) => take_piece(rt, &piece[0..n], run, line, a, b, out),
+        Got::End => end(rt, line, run),
+        Got::Failed(error) => failed(rt, run, error),
     }
 }
 
 // Reads to the end of the input. A proved loop has to end, and nothing says that an input does: so
 // the reads are counted down from a number that no run uses up.
-fn serve(piece: &mut [u8], line: &mut [u8], a: &mut [u64], b: &mut [u64], out: &mut [u8]) -> u8 {
+fn serve<S: Streams>(
+    rt: &S,
+    piece: &mut [u8],
+    line: &mut [u8],
+    a: &mut [u64],
+    b: &mut [u64],
+    out: &mut [u8],
+) -> u8 {
     let mut r = Run::start();
     let mut turns = u64::MAX;
     while turns > 0 {
-        r = read_piece(piece, r, line, a, b, out);
+        r = read_piece(rt, piece, r, line, a, b, out);
         if !r.goes_on() {
             return r.status();
         }
@@ -130,11 +141,11 @@ fn records_room() -> [u64; RECORDS] {
     [0u64; RECORDS]
 }
 
-pub(crate) fn serve_lines() -> u8 {
+pub(crate) fn serve_lines<S: Streams>(rt: &S) -> u8 {
     let mut piece = io::large_buffer();
     let mut line = line_room();
     let mut out = out_room();
     let mut a = records_room();
     let mut b = records_room();
-    serve(&mut piece, &mut line, &mut a, &mut b, &mut out)
+    serve(rt, &mut piece, &mut line, &mut a, &mut b, &mut out)
 }

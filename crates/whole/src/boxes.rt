@@ -59,7 +59,8 @@ pub fn enter(table: &mut [u64], k: usize, p: usize, q: usize)
 // the entry of the general body.
 pub fn check_boxes(src: &[u8], at: usize, n: u32, j: u32, table: &mut [u64]) -> Walk
     requires at_in_bounds { at ≤ length src.now }
-    requires n_le_most_boxes { (n ≤ most_boxes) × (j ≤ most_loads) × (mail_entry n ≤ length table.old) }
+    requires n_le_most_boxes { (n ≤ most_boxes) × (j ≤ most_loads)
+        × (mail_entry n ≤ length table.old) }
     ensures { BoxesAre n j src.now at (take (box_entry 0) table.old)
         table.new result }
 {

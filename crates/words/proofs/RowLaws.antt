@@ -55,7 +55,8 @@ module _ {ℓ} {A : Type ℓ} where
   rows_ext w n xs ys same =
       ext_get_or [] (rows w n xs) (rows w n ys) (rw (length-rows, length-rows)) each
     where
-      each : (i : ℕ) → i < length (rows w n xs) → get_or (rows w n xs) i [] ≡ get_or (rows w n ys) i []
+      each : (i : ℕ) → i < length (rows w n xs) → get_or (rows w n xs) i []
+          ≡ get_or (rows w n ys) i []
       each i h = let b : i < n = rw length-rows at h in rw (rows_at w n i, rows_at w n i, same i)
 
   -- The rows do not depend on what follows their n * w elements.

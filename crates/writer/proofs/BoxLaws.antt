@@ -82,7 +82,8 @@ row_is s xs i lent h e =
 peers_are : (n : ℕ) (r : List ℕ) → n ≤ most_boxes → head_words ≤ length r
     → take n (head_of n r).peers ≡ part r peers_at n
 peers_are n r h l =
-    ext_get_or 0 (take n ps) (part r peers_at n) (count ∙ sym (length_part peers_at n r (omega arith)))
+    ext_get_or 0 (take n ps) (part r peers_at n) (count
+    ∙ sym (length_part peers_at n r (omega arith)))
     at
   where
     ps : List ℕ

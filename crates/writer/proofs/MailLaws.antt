@@ -114,7 +114,8 @@ module _ {J L : ℕ} {r : List ℕ} {i : ℕ} {p : List ℕ} (f : PlaceOf J L r 
   abbrev pub kind_in : Kind
   kind_in = kind_of (get_or p kind_at 0)
 
-  pub letter-long : length (letter_bytes (letter_in J L r i)) ≡ letter_long kind_in (get_or p count_at 0)
+  pub letter-long : length (letter_bytes (letter_in J L r i))
+      ≡ letter_long kind_in (get_or p count_at 0)
   letter-long =
       ap (λ (y : Letter). length (letter_bytes y)) f.letter
       ∙ length-letter (letter_at p) ∙ ap (letter_long kind_in) held
@@ -126,10 +127,14 @@ module _ {J L : ℕ} {r : List ℕ} {i : ℕ} {p : List ℕ} (f : PlaceOf J L r 
       let w = f.size.words in
       let t = fits-says J p f.fits in
       let k = kind-number-back (get_or p kind_at 0) t.0 t.1 in (
-        (λ i. k i ∷ get_or p pn_at 0 ∷ get_or p last_at 0 ∷ []) ∙ gets-part 0 p kind_at 3 (omega arith),
+        (λ i. k i ∷ get_or p pn_at 0 ∷ get_or p last_at 0 ∷ [])
+            ∙ gets-part 0 p kind_at 3 (omega arith),
         (
           one (first_words kind_in) (first-few kind_in),
-          ((λ i. get_or p unagreed_at 0 ∷ held i ∷ []) ∙ gets-part 0 p unagreed_at 2 (omega arith), tt),
+          (
+            (λ i. get_or p unagreed_at 0 ∷ held i ∷ []) ∙ gets-part 0 p unagreed_at 2 (omega arith),
+            tt,
+          ),
         ),
       )
     where

@@ -10,7 +10,8 @@ use Rattle.agreed.proofs.agreed_formed.Goals.{Else-not-is_box}
 use Rattle.agreed.proofs.agreed_formed.Goals as goal
 
 -- What is known where c is a box.
-known : (c : Else-not-is_box) → AtBox c.args.site.now c.args.links.now c.args.c c.setting_of-s.result
+known : (c : Else-not-is_box) → AtBox c.args.site.now c.args.links.now c.args.c
+    c.setting_of-s.result
 known c =
     at-box c.requires
     c.setting_of-s.ensures c.is_box.ensures (ap not c.if-not-is_box.false)
@@ -23,7 +24,8 @@ returns-then-not-is_box c =
 
 pub row_start-start-requires : goal.row_start-start-requires
 row_start-start-requires c =
-    let h = rows-lent (knows (known (goal.at.row_start-start-requires c).Else-not-is_box)) in record {
+    let h = rows-lent (knows (known (goal.at.row_start-start-requires c).Else-not-is_box)) in
+    record {
       l_value = h.sizes;
       b_value = passes c.is_box.ensures (ap not c.if-not-is_box.false);
     }
@@ -37,11 +39,15 @@ row_of-row-requires c =
     }
 
 pub agreed_count-count-requires : goal.agreed_count-count-requires
-agreed_count-count-requires c = row_here (known (goal.at.agreed_count-count-requires c).Else-not-is_box) c.row_of-row.ensures
+agreed_count-count-requires c =
+    row_here (known (goal.at.agreed_count-count-requires c).Else-not-is_box) c.row_of-row.ensures
 
 pub bounds-row-5 : goal.bounds-row-5
 bounds-row-5 c =
-    omega (arith, (row_here (known (goal.at.bounds-row-5 c).Else-not-is_box) c.row_of-row.ensures).size.words)
+    omega (
+      arith,
+      (row_here (known (goal.at.bounds-row-5 c).Else-not-is_box) c.row_of-row.ensures).size.words,
+    )
 
 pub overflow_add-result : goal.overflow_add-result
 overflow_add-result c =
@@ -53,7 +59,8 @@ overflow_add-result c =
 
 pub returns : goal.returns
 returns c =
-    kept-is (known (goal.at.returns c).Else-not-is_box) c.row_of-row.ensures c.row_start-start.ensures.0
+    kept-is (known (goal.at.returns c).Else-not-is_box) c.row_of-row.ensures
+    c.row_start-start.ensures.0
     c.agreed_count-count.ensures
 
 pub setting_of-s-requires : goal.setting_of-s-requires

@@ -1,7 +1,7 @@
 -- `cells::get_words` meets its contract: at each turn the first i numbers are read.
 use borrow.Author.Rules.{rules}
 use mathlib.Core.Path.{◌≡◌, refl, ◌∙◌}
-use Prim.Native.Nat.{◌+◌, ◌-◌, ◌*◌, ◌≤◌}
+use Prim.Native.Nat.{◌+◌, ◌*◌, ◌≤◌}
 use native.Mathlib.Nat.{suc-mul}
 use native.Mathlib.Numerals.{add-one}
 use native.Mathlib.Omega.{arith}
@@ -36,7 +36,8 @@ overflow_add-p c = omega (arith, room (goal.at.overflow_add-p c).In-loop-i)
 
 pub loop-i-preserved : goal.loop-i-preserved
 loop-i-preserved c =
-    let step : (c.loop-i.i + 1) * c.args.k ≡ c.loop-i.i * c.args.k + c.args.k = rw (add-one, suc-mul) in
+    let step : (c.loop-i.i + 1) * c.args.k ≡ c.loop-i.i * c.args.k + c.args.k =
+    rw (add-one, suc-mul) in
     let h = length-set c.loop-i.dst c.loop-i.i c.get_at.result in (
       omega arith,
       omega arith,

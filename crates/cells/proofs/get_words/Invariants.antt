@@ -7,7 +7,8 @@ use Rattle.cells.proofs.get_words.Given as goal
 
 abbrev pub invariant-loop-i : goal.invariant-loop-i
 invariant-loop-i l =
-    (l.i ≤ length l.initial.dst) × (l.p ≡ l.at + l.i * l.k) × (length l.dst ≡ length l.initial.dst) × Read l.k l.src l.at
+    (l.i ≤ length l.initial.dst) × (l.p ≡ l.at + l.i * l.k) × (length l.dst ≡ length l.initial.dst)
+    × Read l.k l.src l.at
     (take l.i l.dst) l.p
 
 abbrev pub decreases-loop-i : goal.decreases-loop-i

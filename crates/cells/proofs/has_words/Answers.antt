@@ -1,5 +1,4 @@
 -- `cells::has_words` meets its contract: at each turn the first i stand there.
-use Prim.Native.Nat.{◌-◌}
 use native.Mathlib.Omega.{arith}
 use Rattle.cells.proofs.FindLaws.{words-none, word_room, words_more, words-other}
 use Rattle.cells.proofs.FindLaws.{words-all}

@@ -1,7 +1,7 @@
 -- `cells::put_words` meets its contract: at each turn the first i numbers are written.
 use borrow.Author.Rules.{rules}
 use mathlib.Core.Path.{refl, ◌∙◌}
-use Prim.Native.Nat.{◌+◌, ◌-◌, ◌≤◌}
+use Prim.Native.Nat.{◌+◌, ◌≤◌}
 use native.Mathlib.Omega.{arith}
 use lib.ListN.{length, get_or}
 use Rattle.le.specs.Le.{le}
@@ -20,8 +20,11 @@ room c =
     (room-next (le k) ws 0 c.loop-i.i c.loop-i-test.true c.requires c.loop-i.invariant.1).fits
 
 pub loop-i-init : goal.loop-i-init
-loop-i-init c =
-    (search rules, wrote_none (le c.args.k) c.args.ws.now c.args.out.now c.args.at (omega arith), refl)
+loop-i-init c = (
+  search rules,
+  wrote_none (le c.args.k) c.args.ws.now c.args.out.now c.args.at (omega arith),
+  refl,
+)
 
 pub put_at-requires : goal.put_at-requires
 put_at-requires c = omega (arith, room (goal.at.put_at-requires c).In-loop-i)
@@ -33,7 +36,8 @@ overflow_add-p c =
 pub loop-i-preserved : goal.loop-i-preserved
 loop-i-preserved c =
     let x = get_or c.args.ws.now c.loop-i.i 0 in
-    let w = wrote-le c.args.k x c.loop-i.out c.put_at.new.out c.loop-i.p (room (goal.at.loop-i-preserved c).In-loop-i)
+    let w = wrote-le c.args.k x c.loop-i.out c.put_at.new.out c.loop-i.p
+    (room (goal.at.loop-i-preserved c).In-loop-i)
     c.put_at.ensures in (
       omega arith,
       wrote-next (le c.args.k) c.args.ws.now 0 c.loop-i.i c.loop-i-test.true c.loop-i.invariant.1 w,

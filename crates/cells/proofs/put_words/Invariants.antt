@@ -7,7 +7,8 @@ use Rattle.cells.proofs.put_words.Given as goal
 
 abbrev pub invariant-loop-i : goal.invariant-loop-i
 invariant-loop-i l =
-    (l.i ≤ length l.ws) × (Wrote (cells l.k (take l.i l.ws)) l.initial.out l.at l.out l.p) × (length l.out ≡ length l.initial.out)
+    (l.i ≤ length l.ws) × (Wrote (cells l.k (take l.i l.ws)) l.initial.out l.at l.out l.p)
+    × (length l.out ≡ length l.initial.out)
 
 abbrev pub decreases-loop-i : goal.decreases-loop-i
 decreases-loop-i l = length l.ws - l.i

@@ -17,7 +17,8 @@ bytes c i = (c.shared_slice_known-1.given i).fits
 room : (c : In-loop-i) → c.loop-i.x < 256 ^ 7
 room c =
     let src = c.args.src.now in
-    get_room src c.loop-i.i c.loop-i.x (λ i. (c.shared_slice_known-1.given i).fits) (omega arith) c.loop-i.invariant.0 c.requires c.loop-i.invariant.1
+    get_room src c.loop-i.i c.loop-i.x (λ i. (c.shared_slice_known-1.given i).fits) (omega arith)
+    c.loop-i.invariant.0 c.requires c.loop-i.invariant.1
 
 pub loop-i-init : goal.loop-i-init
 unfolding of_le
@@ -28,12 +29,17 @@ overflow_mul-x c = omega (arith, room (goal.at.overflow_mul-x c).In-loop-i)
 
 pub overflow_add-x : goal.overflow_add-x
 overflow_add-x c =
-    omega (arith, room (goal.at.overflow_add-x c).In-loop-i, bytes (goal.at.overflow_add-x c).After-shared_slice_known-1 (c.loop-i.i - 1))
+    omega (
+      arith,
+      room (goal.at.overflow_add-x c).In-loop-i,
+      bytes (goal.at.overflow_add-x c).After-shared_slice_known-1 (c.loop-i.i - 1),
+    )
 
 pub loop-i-preserved : goal.loop-i-preserved
 loop-i-preserved c =
     let src = c.args.src.now in
-    let more = get_more src c.loop-i.i c.loop-i.x (omega arith) c.loop-i.invariant.0 c.loop-i.invariant.1 in
+    let more = get_more src c.loop-i.i c.loop-i.x (omega arith) c.loop-i.invariant.0
+    c.loop-i.invariant.1 in
     (omega arith, rw c.wide.ensures.value more)
 
 pub returns : goal.returns

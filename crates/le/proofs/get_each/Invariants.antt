@@ -1,6 +1,6 @@
 -- `le::get_each` meets its contract: x is the number that the bytes from i on are.
 use mathlib.Core.Path.{◌≡◌}
-use Prim.Native.Nat.{◌≤◌, ◌-◌}
+use Prim.Native.Nat.{◌≤◌}
 use lib.ListN.{length, drop}
 use Rattle.le.specs.Le.{of_le}
 use Rattle.le.proofs.get_each.Given as goal

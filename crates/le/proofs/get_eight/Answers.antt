@@ -4,5 +4,6 @@ use Rattle.le.proofs.get_eight.Goals as goal
 
 pub returns : goal.returns
 returns c =
-    eight_get c.args.src.now c.get_four-low.result c.get_four-high.result c.requires c.get_four-low.ensures.value
+    eight_get c.args.src.now c.get_four-low.result c.get_four-high.result c.requires
+    c.get_four-low.ensures.value
     c.get_four-high.ensures.value

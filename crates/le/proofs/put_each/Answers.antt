@@ -17,7 +17,8 @@ loop-i-init c = (search rules, rw sub-zero, refl)
 pub loop-i-preserved : goal.loop-i-preserved
 loop-i-preserved c =
     let n = length c.args.dst.now in
-    let more = put-more n c.args.x c.loop-i.dst c.loop-i.i c.loop-i.v (omega arith) (omega arith) c.loop-i.invariant.1 in
+    let more = put-more n c.args.x c.loop-i.dst c.loop-i.i c.loop-i.v (omega arith) (omega arith)
+    c.loop-i.invariant.1 in
     (omega arith, more, simp length-set c.loop-i.invariant.2)
 
 pub returns : goal.returns
@@ -25,4 +26,5 @@ unfolding le
 returns c =
     let n = length c.args.dst.now in
     let none : n - c.loop-i.i ≡ 0 = omega arith in
-    write_end (le n c.args.x) c.loop-i.dst c.loop-i.i (omega arith) (rw none at c.loop-i.invariant.1)
+    write_end (le n c.args.x) c.loop-i.dst c.loop-i.i (omega arith)
+    (rw none at c.loop-i.invariant.1)

@@ -9,7 +9,8 @@ use Rattle.le.proofs.put_each.Given as goal
 
 abbrev pub invariant-loop-i : goal.invariant-loop-i
 invariant-loop-i l =
-    (l.i ≤ length l.initial.dst) × (le (length l.initial.dst) l.x ≡ take l.i l.dst ++ le (length l.initial.dst - l.i) l.v)
+    (l.i ≤ length l.initial.dst) × (le (length l.initial.dst) l.x ≡ take l.i l.dst
+    ++ le (length l.initial.dst - l.i) l.v)
     × (length l.dst ≡ length l.initial.dst)
 
 abbrev pub decreases-loop-i : goal.decreases-loop-i

@@ -25,11 +25,16 @@ head : (c : After-place_at-from)
     → HeadAt c.args.j c.args.l c.args.link.now c.place_at-from.result
 head c =
     head_done c.args.j c.args.l c.args.link.now c.requires.readable_link c.requires.nonzero.0
-    c.place_at-from.result c.size-first.result c.size-first.ensures c.place_at-from.ensures.0 c.place_at-from.ensures.1
+    c.place_at-from.result c.size-first.result c.size-first.ensures c.place_at-from.ensures.0
+    c.place_at-from.ensures.1
 
 pub overflow_add-held : goal.overflow_add-held
 overflow_add-held c =
-    omega (arith, head-count (head (goal.at.overflow_add-held c).After-place_at-from), c.requires.readable_link.words.sizes.few-loads)
+    omega (
+      arith,
+      head-count (head (goal.at.overflow_add-held c).After-place_at-from),
+      c.requires.readable_link.words.sizes.few-loads,
+    )
 
 pub copy_within-requires : goal.copy_within-requires
 copy_within-requires c =
@@ -48,7 +53,8 @@ overflow_add-count c =
 pub returns : goal.returns
 returns c =
     rw (c.word-2.ensures, c.word.ensures, c.copy_within.ensures)
-    (double_done c.requires.readable_link (head (goal.at.returns c).After-place_at-from) c.requires.nonzero.1
+    (double_done c.requires.readable_link (head (goal.at.returns c).After-place_at-from)
+    c.requires.nonzero.1
     c.size-first.ensures c.size-count.ensures c.before-before.ensures.0
     c.place_at-to.ensures.0 c.size-held.ensures)
 

@@ -12,4 +12,5 @@ place_at-requires c =
 pub returns : goal.returns
 returns c =
     head_done c.args.j c.args.l c.args.link.now c.requires.readable_link c.requires.nonzero
-    c.place_at.result c.size-first.result c.size-first.ensures c.place_at.ensures.0 c.place_at.ensures.1
+    c.place_at.result c.size-first.result c.size-first.ensures c.place_at.ensures.0
+    c.place_at.ensures.1

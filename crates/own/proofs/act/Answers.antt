@@ -28,34 +28,41 @@ frames κs Act.Finish g = tt
 frames κs Act.Heard g = tt
 frames κs (Act.Trim k) g = tt
 
-came : (c : After-judge-came) → c.judge-came.result ≡ found (act-asks c.args.s c.args.row.now no_mail c.args.a)
+came : (c : After-judge-came) → c.judge-came.result
+    ≡ found (act-asks c.args.s c.args.row.now no_mail c.args.a)
 came c = rw c.is_box.ensures at c.judge-came.ensures
 
 pub returns-in-Refused : goal.returns-in-Refused
-returns-in-Refused c = let made = refused (act-asks _ _ _ _) (sym (came (goal.at.returns-in-Refused c).After-judge-came) ∙ c.in-Refused.is)
+returns-in-Refused c = let made =
+    refused (act-asks _ _ _ _) (sym (came (goal.at.returns-in-Refused c).After-judge-came)
+    ∙ c.in-Refused.is)
     c.refused.ensures in record {
       owned = made.0;
       still_reads = made.1;
     }
 
-came-Passed : (c : In-Passed) → c.judge-came.result ≡ found (act-asks c.args.s c.args.row.now no_mail c.args.a)
+came-Passed : (c : In-Passed) → c.judge-came.result
+    ≡ found (act-asks c.args.s c.args.row.now no_mail c.args.a)
 came-Passed c = rw c.is_box.ensures at c.judge-came.ensures
 
 passed : (c : In-Passed) → ActClear c.args.s c.args.row.now c.args.a
 passed c = clear (act-asks _ _ _ _) (sym (came-Passed c) ∙ c.in-Passed.is)
 
 -- Its turn.
-turn : (c : After-act_turn-t) → c.act_turn-t.result ≡ turn_of c.args.s (own_box c.args.s c.args.row.now) (own c.args.a)
+turn : (c : After-act_turn-t) → c.act_turn-t.result
+    ≡ turn_of c.args.s (own_box c.args.s c.args.row.now) (own c.args.a)
 turn c = rw c.used_row.ensures at c.act_turn-t.ensures
 
 pub conclude-requires : goal.conclude-requires
 conclude-requires c =
-    turn-concludes (passed (goal.at.conclude-requires c).In-Passed) no_mail refl (turn (goal.at.conclude-requires c).After-act_turn-t)
+    turn-concludes (passed (goal.at.conclude-requires c).In-Passed) no_mail refl
+    (turn (goal.at.conclude-requires c).After-act_turn-t)
     (frames c.lifetimes c.args.a c.well_formed.1.1.1)
 
 pub returns-in-Passed : goal.returns-in-Passed
 returns-in-Passed c = record {
-  owned = turn-owned (passed (goal.at.returns-in-Passed c).In-Passed) no_mail refl (turn (goal.at.returns-in-Passed c).After-act_turn-t)
+  owned = turn-owned (passed (goal.at.returns-in-Passed c).In-Passed) no_mail refl
+      (turn (goal.at.returns-in-Passed c).After-act_turn-t)
       c.conclude.ensures.owned;
   still_reads = c.conclude.ensures.still_reads;
 }
@@ -64,4 +71,5 @@ pub used_row-requires : goal.used_row-requires
 used_row-requires c = row-long (passed (goal.at.used_row-requires c).In-Passed)
 
 pub act_turn-t-requires : goal.act_turn-t-requires
-act_turn-t-requires c = rw c.used_row.ensures (row-by-form (passed (goal.at.act_turn-t-requires c).In-Passed))
+act_turn-t-requires c =
+    rw c.used_row.ensures (row-by-form (passed (goal.at.act_turn-t-requires c).In-Passed))

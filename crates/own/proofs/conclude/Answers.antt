@@ -24,18 +24,22 @@ goes_on c = passes c.is_accepted.ensures (ap not c.if-not-is_accepted.false)
 
 pub slice_bounds-carry_out-end-2 : goal.slice_bounds-carry_out-end-2
 slice_bounds-carry_out-end-2 c =
-    has-room c.args.s c.args.out.now c.args.t.answer _ c.answer_in-answer.ensures (goes_on (goal.at.slice_bounds-carry_out-end-2 c).Else-not-is_accepted)
+    has-room c.args.s c.args.out.now c.args.t.answer _ c.answer_in-answer.ensures
+    (goes_on (goal.at.slice_bounds-carry_out-end-2 c).Else-not-is_accepted)
 
 pub carry_out-to-requires : goal.carry_out-to-requires
 carry_out-to-requires c =
-    can_carry _ _ _ _ _ _ c.answer_in-answer.ensures (goes_on (goal.at.carry_out-to-requires c).Else-not-is_accepted) c.requires
+    can_carry _ _ _ _ _ _ c.answer_in-answer.ensures
+    (goes_on (goal.at.carry_out-to-requires c).Else-not-is_accepted) c.requires
     _ _ (sub-zero _ ∙ c.row_width-end.ensures) (sub-zero _)
 
 pub returns : goal.returns
 returns c =
     let end = sub-zero _ ∙ c.row_width-end.ensures in record {
-      owned = carried-out _ _ _ _ _ _ c.answer_in-answer.ensures (goes_on (goal.at.returns c).Else-not-is_accepted) c.requires
+      owned = carried-out _ _ _ _ _ _ c.answer_in-answer.ensures
+          (goes_on (goal.at.returns c).Else-not-is_accepted) c.requires
           _ _ end (sub-zero _) _ _ _ c.carry_out-to.ensures;
-      still_reads = reads-again _ _ _ _ _ _ c.answer_in-answer.ensures (goes_on (goal.at.returns c).Else-not-is_accepted) c.requires
+      still_reads = reads-again _ _ _ _ _ _ c.answer_in-answer.ensures
+          (goes_on (goal.at.returns c).Else-not-is_accepted) c.requires
           _ _ end (sub-zero _) _ _ _ c.carry_out-to.ensures;
     }

@@ -19,10 +19,12 @@ long c = rw (← c.row_width.ensures) c.if-row-row_width.false
 pub is_by_form-requires : goal.is_by_form-requires
 is_by_form-requires c =
     rw c.used_row.ensures
-    (row_sized c.args.s c.args.row.now c.requires (long (goal.at.is_by_form-requires c).Else-row-row_width))
+    (row_sized c.args.s c.args.row.now c.requires
+    (long (goal.at.is_by_form-requires c).Else-row-row_width))
 
 pub returns : goal.returns
 unfolding row_form row_reads
 returns c =
-    long-tested (row_width c.args.s.j) c.args.row.now _ _ (long (goal.at.returns c).Else-row-row_width)
+    long-tested (row_width c.args.s.j) c.args.row.now _ _
+    (long (goal.at.returns c).Else-row-row_width)
     (rw c.used_row.ensures at c.is_by_form.ensures)

@@ -20,7 +20,10 @@ returns-then-not-are_sizes c = rw (fails c.are_sizes.ensures (ap not c.if-not-ar
 pub returns-then-not-is_formed : goal.returns-then-not-is_formed
 unfolding judged ruled
 returns-then-not-is_formed c =
-    rw (sized (goal.at.returns-then-not-is_formed c).Else-not-are_sizes, fails c.is_formed.ensures (ap not c.if-not-is_formed.true))
+    rw (
+      sized (goal.at.returns-then-not-is_formed c).Else-not-are_sizes,
+      fails c.is_formed.ensures (ap not c.if-not-is_formed.true),
+    )
 
 pub returns-then-numbers : goal.returns-then-numbers
 unfolding judged ruled

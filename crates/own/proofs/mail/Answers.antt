@@ -9,17 +9,21 @@ use Rattle.own.proofs.EntryLaws.{MailClear, mail-fits, turn-concludes, turn-owne
 use Rattle.own.proofs.mail.Goals.{After-judge-came, After-mail_turn-t, In-Passed}
 use Rattle.own.proofs.mail.Goals as goal
 
-came : (c : After-judge-came) → c.judge-came.result ≡ found (mail-asks c.args.s c.args.row.now c.args.letter.now c.args.sender)
+came : (c : After-judge-came) → c.judge-came.result
+    ≡ found (mail-asks c.args.s c.args.row.now c.args.letter.now c.args.sender)
 came c = rw c.is_link.ensures at c.judge-came.ensures
 
 pub returns-in-Refused : goal.returns-in-Refused
-returns-in-Refused c = let made = refused (mail-asks _ _ _ _) (sym (came (goal.at.returns-in-Refused c).After-judge-came) ∙ c.in-Refused.is)
+returns-in-Refused c = let made =
+    refused (mail-asks _ _ _ _) (sym (came (goal.at.returns-in-Refused c).After-judge-came)
+    ∙ c.in-Refused.is)
     c.refused.ensures in record {
       owned = made.0;
       still_reads = made.1;
     }
 
-came-Passed : (c : In-Passed) → c.judge-came.result ≡ found (mail-asks c.args.s c.args.row.now c.args.letter.now c.args.sender)
+came-Passed : (c : In-Passed) → c.judge-came.result
+    ≡ found (mail-asks c.args.s c.args.row.now c.args.letter.now c.args.sender)
 came-Passed c = rw c.is_link.ensures at c.judge-came.ensures
 
 passed : (c : In-Passed) → MailClear c.args.s c.args.row.now c.args.letter.now c.args.sender
@@ -43,11 +47,15 @@ turn c =
 pub conclude-requires : goal.conclude-requires
 conclude-requires c =
     rw c.used_place-read.ensures
-    (turn-concludes (passed (goal.at.conclude-requires c).In-Passed) _ refl (turn (goal.at.conclude-requires c).After-mail_turn-t) (mail-fits (passed (goal.at.conclude-requires c).In-Passed)))
+    (turn-concludes (passed (goal.at.conclude-requires c).In-Passed) _ refl
+    (turn (goal.at.conclude-requires c).After-mail_turn-t)
+    (mail-fits (passed (goal.at.conclude-requires c).In-Passed)))
 
 pub returns-in-Passed : goal.returns-in-Passed
 returns-in-Passed c = record {
-  owned = turn-owned (passed (goal.at.returns-in-Passed c).In-Passed) (place_of c.args.s.j c.args.letter.now) refl (turn (goal.at.returns-in-Passed c).After-mail_turn-t)
+  owned = turn-owned (passed (goal.at.returns-in-Passed c).In-Passed)
+      (place_of c.args.s.j c.args.letter.now) refl
+      (turn (goal.at.returns-in-Passed c).After-mail_turn-t)
       (rw c.used_place-read.ensures at c.conclude.ensures.owned);
   still_reads = c.conclude.ensures.still_reads;
 }

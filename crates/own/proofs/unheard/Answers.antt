@@ -8,14 +8,17 @@ use Rattle.own.proofs.EntryLaws.{row-long, row-by-form, no_mail, ActClear}
 use Rattle.own.proofs.unheard.Goals.{After-judge-came, In-Passed}
 use Rattle.own.proofs.unheard.Goals as goal
 
-came : (c : After-judge-came) → c.judge-came.result ≡ found (act-asks c.args.s c.args.row.now no_mail Act.Heard)
+came : (c : After-judge-came) → c.judge-came.result
+    ≡ found (act-asks c.args.s c.args.row.now no_mail Act.Heard)
 came c = rw c.is_box.ensures at c.judge-came.ensures
 
 pub returns-in-Refused : goal.returns-in-Refused
 returns-in-Refused c =
-    unheard-found _ _ _ (sym (came (goal.at.returns-in-Refused c).After-judge-came) ∙ c.in-Refused.is)
+    unheard-found _ _ _ (sym (came (goal.at.returns-in-Refused c).After-judge-came)
+    ∙ c.in-Refused.is)
 
-came-Passed : (c : In-Passed) → c.judge-came.result ≡ found (act-asks c.args.s c.args.row.now no_mail Act.Heard)
+came-Passed : (c : In-Passed) → c.judge-came.result
+    ≡ found (act-asks c.args.s c.args.row.now no_mail Act.Heard)
 came-Passed c = rw c.is_box.ensures at c.judge-came.ensures
 
 passed : (c : In-Passed) → ActClear c.args.s c.args.row.now Act.Heard
@@ -23,13 +26,15 @@ passed c = clear (act-asks _ _ _ _) (sym (came-Passed c) ∙ c.in-Passed.is)
 
 pub load-head-requires : goal.load-head-requires
 load-head-requires c =
-    rw c.used_row.ensures (row-formed _ _ (row-by-form (passed (goal.at.load-head-requires c).In-Passed))).readable
+    rw c.used_row.ensures
+    (row-formed _ _ (row-by-form (passed (goal.at.load-head-requires c).In-Passed))).readable
 
 pub returns-in-Passed : goal.returns-in-Passed
 returns-in-Passed c =
     c.unheard.ensures
     ∙ rw (c.load-head.ensures, c.used_row.ensures)
-    (unheard-found _ _ _ (sym (came (goal.at.returns-in-Passed c).After-judge-came) ∙ c.in-Passed.is))
+    (unheard-found _ _ _ (sym (came (goal.at.returns-in-Passed c).After-judge-came)
+    ∙ c.in-Passed.is))
 
 pub used_row-requires : goal.used_row-requires
 used_row-requires c = row-long (passed (goal.at.used_row-requires c).In-Passed)

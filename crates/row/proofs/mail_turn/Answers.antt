@@ -23,22 +23,26 @@ records-requires c =
 
 pub load-m-requires : goal.load-m-requires
 load-m-requires c =
-    (place-formed c.args.s c.args.row.now c.requires.row_by_form c.args.place.now c.requires.place_by_form).readable
+    (place-formed c.args.s c.args.row.now c.requires.row_by_form c.args.place.now
+    c.requires.place_by_form).readable
 
 pub first_record-one-requires : goal.first_record-one-requires
 first_record-one-requires c =
-    (place-formed c.args.s c.args.row.now c.requires.row_by_form c.args.place.now c.requires.place_by_form).readable
+    (place-formed c.args.s c.args.row.now c.requires.row_by_form c.args.place.now
+    c.requires.place_by_form).readable
 
 pub after_last-next-requires : goal.after_last-next-requires
 after_last-next-requires c =
-    let f = place-formed c.args.s c.args.row.now c.requires.row_by_form c.args.place.now c.requires.place_by_form in record {
+    let f = place-formed c.args.s c.args.row.now c.requires.row_by_form c.args.place.now
+    c.requires.place_by_form in record {
       place_readable = f.readable;
       numbered = numbered c.args.s.j c.args.place.now f.says;
     }
 
 pub returns : goal.returns
 returns c =
-    mail_law c.args.s c.args.row.now c.requires.row_by_form c.args.place.now c.requires.place_by_form c.args.sender
+    mail_law c.args.s c.args.row.now c.requires.row_by_form c.args.place.now
+    c.requires.place_by_form c.args.sender
     _ _ _ _ _ _ _
     c.load-head.ensures c.records.ensures
     (c.held_at-mine.ensures

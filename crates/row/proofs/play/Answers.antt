@@ -32,12 +32,14 @@ pub enter_from-requires : goal.enter_from-requires
 enter_from-requires c =
     let held = c.count_after-held.ensures
     ∙ ap (count_after c.args.t.book) c.number-count.ensures in record {
-      row_booked = play_booked_again c.args.n c.args.j c.args.row.now c.args.place.now c.args.t c.requires _ _
+      row_booked = play_booked_again c.args.n c.args.j c.args.row.now c.args.place.now
+          c.args.t c.requires _ _
           c.release-indexed.ensures _ _ _ held c.write.ensures c.store.ensures;
       indexed = play_index c.args.n c.args.j c.args.row.now c.args.place.now c.args.t c.requires _ _
           c.release-indexed.ensures _ _ _ held c.write.ensures
           c.store.ensures;
-      m_in_bounds = play_some c.args.n c.args.j c.args.row.now c.args.place.now c.args.t c.requires _ _
+      m_in_bounds = play_some c.args.n c.args.j c.args.row.now c.args.place.now
+          c.args.t c.requires _ _
           c.release-indexed.ensures _ _ _ held c.write.ensures
           c.store.ensures;
     }

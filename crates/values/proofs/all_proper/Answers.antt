@@ -1,7 +1,6 @@
 -- `values::all_proper` meets its contract: all are proper where those from i on are.
 use borrow.Author.Rules.{rules}
 use mathlib.Core.Path.{refl, sym, ◌∙◌}
-use Prim.Native.Nat.{◌-◌}
 use native.Mathlib.Omega.{arith}
 use Rattle.rules.specs.Sizes.{proper}
 use Rattle.values.proofs.AllLaws.{each-go, each-stop, each-end}
@@ -21,8 +20,11 @@ pub loop-i-preserved : goal.loop-i-preserved
 loop-i-preserved c =
     let records = c.args.records.now in
     let is = c.is_proper.ensures in
-    let yes = c.if-not-is_proper.false in
-    (omega arith, c.loop-i.invariant.1 ∙ each-go proper 0 records c.loop-i.i _ c.loop-i-test.true is yes)
+    let yes = c.if-not-is_proper.false in (
+      omega arith,
+      c.loop-i.invariant.1 ∙ each-go proper 0 records c.loop-i.i _
+          c.loop-i-test.true is yes,
+    )
 
 pub returns : goal.returns
 returns c =

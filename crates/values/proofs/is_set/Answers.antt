@@ -1,6 +1,5 @@
 -- `values::is_set` meets its contract: as many digits have gone as boxes.
 use borrow.Author.Rules.{rules}
-use Prim.Native.Nat.{◌-◌}
 use native.Mathlib.Omega.{arith}
 use Rattle.values.proofs.SetLaws.{set-start, set_more, set-end}
 use Rattle.values.proofs.is_set.Goals as goal
@@ -10,7 +9,8 @@ loop-k-init c = (search rules, set-start c.args.n c.args.w)
 
 pub loop-k-preserved : goal.loop-k-preserved
 loop-k-preserved c =
-    let more = set_more c.args.n c.loop-k.k c.args.w c.loop-k.rest c.loop-k-test.true c.loop-k.invariant.1 in
+    let more = set_more c.args.n c.loop-k.k c.args.w c.loop-k.rest c.loop-k-test.true
+    c.loop-k.invariant.1 in
     (omega arith, more)
 
 pub returns : goal.returns

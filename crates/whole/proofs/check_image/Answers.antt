@@ -11,7 +11,8 @@ use Rattle.cells.specs.Cells.{WordsAre}
 use Rattle.whole.specs.Whole.{ListedFound, ListedIs}
 use Rattle.whole.proofs.ImageLaws.{image-short, image-many, image-table, image-bodies}
 use Rattle.whole.proofs.ImageLaws.{image-other, image-found}
-use Rattle.whole.proofs.check_image.Goals.{After-check_listed-r, After-has_words-same, After-size-count, In-Next}
+use Rattle.whole.proofs.check_image.Goals.{After-check_listed-r, After-has_words-same}
+use Rattle.whole.proofs.check_image.Goals.{After-size-count, In-Next}
 use Rattle.whole.proofs.check_image.Goals as goal
 
 -- where the count is a size
@@ -57,35 +58,44 @@ abbrev src-has_words_same : (c : After-has_words-same) → List ℕ
 src-has_words_same c = c.args.src.now
 
 -- where the words of the table, cut out from its start, were held against the bytes
-words : (c : After-has_words-same) → WordsAre 4 (take (list_words (count-has_words_same c)) (table-has_words_same c))
+words : (c : After-has_words-same)
+    → WordsAre 4 (take (list_words (count-has_words_same c)) (table-has_words_same c))
     (src-has_words_same c) 0 c.has_words-same.result
 words c =
     subst (λ (k : ℕ). WordsAre 4 (take k (table-has_words_same c)) (src-has_words_same c) 0
-    c.has_words-same.result) (sub-zero (list_words (count-has_words_same c))) c.has_words-same.ensures
+    c.has_words-same.result) (sub-zero (list_words (count-has_words_same c)))
+    c.has_words-same.ensures
 
 pub returns-then-src-at : goal.returns-then-src-at
 returns-then-src-at c = λ s f e.
-    image-table (counted (goal.at.returns-then-src-at c).After-size-count) c.table_bytes-at.ensures s f e
+    image-table (counted (goal.at.returns-then-src-at c).After-size-count)
+    c.table_bytes-at.ensures s f e
     c.if-src-at.true
 
 pub returns-then-same-q : goal.returns-then-same-q
 returns-then-same-q c =
-    image-found (counted (goal.at.returns-then-same-q c).After-size-count) c.table_bytes-at.ensures (listed (goal.at.returns-then-same-q c).In-Next)
+    image-found (counted (goal.at.returns-then-same-q c).After-size-count) c.table_bytes-at.ensures
+    (listed (goal.at.returns-then-same-q c).In-Next)
     c.check_listed-r.auto.table c.if-count-gt-BODIES.false c.has_words-same.result
     (words (goal.at.returns-then-same-q c).After-has_words-same) c.if-same-q.true
 
 pub returns-else-same-q : goal.returns-else-same-q
 returns-else-same-q c = λ s f e.
-    image-other (counted (goal.at.returns-else-same-q c).After-size-count) c.table_bytes-at.ensures s f e
-    (listed (goal.at.returns-else-same-q c).In-Next) c.has_words-same.result (words (goal.at.returns-else-same-q c).After-has_words-same) c.if-same-q.false
+    image-other (counted (goal.at.returns-else-same-q c).After-size-count)
+    c.table_bytes-at.ensures s f e
+    (listed (goal.at.returns-else-same-q c).In-Next) c.has_words-same.result
+    (words (goal.at.returns-else-same-q c).After-has_words-same) c.if-same-q.false
 
 pub returns-in-Bad : goal.returns-in-Bad
 returns-in-Bad c = λ s f e.
-    image-bodies (counted (goal.at.returns-in-Bad c).After-size-count) c.table_bytes-at.ensures s f e (table (goal.at.returns-in-Bad c).After-check_listed-r)
+    image-bodies (counted (goal.at.returns-in-Bad c).After-size-count) c.table_bytes-at.ensures s f
+    e (table (goal.at.returns-in-Bad c).After-check_listed-r)
     c.in-Bad.is c.check_listed-r.ensures
 
 pub returns-then-src-lt4 : goal.returns-then-src-lt4
 returns-then-src-lt4 c = λ s f e. image-short s f e c.if-src-lt4.true
 
 pub returns-then-count-gt-BODIES : goal.returns-then-count-gt-BODIES
-returns-then-count-gt-BODIES c = λ s f e. image-many (counted (goal.at.returns-then-count-gt-BODIES c).After-size-count) s f e c.if-count-gt-BODIES.true
+returns-then-count-gt-BODIES c =
+    λ s f e. image-many (counted (goal.at.returns-then-count-gt-BODIES c).After-size-count) s f e
+    c.if-count-gt-BODIES.true

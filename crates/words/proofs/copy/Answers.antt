@@ -1,7 +1,7 @@
 -- `words::copy` meets its contract: what is written, and behind it the rest of src, is src.
 use borrow.Author.Rules.{rules}
 use mathlib.Core.Path.{refl}
-use Prim.Native.Nat.{◌≤◌, ◌-◌}
+use Prim.Native.Nat.{◌≤◌}
 use native.Mathlib.Omega.{arith}
 use lib.ListN.{length, length-set, drop_of_length-le}
 use Rattle.words.proofs.WriteLaws.{write_end, copy_more}

@@ -7,7 +7,8 @@ use Rattle.words.proofs.copy.Given as goal
 
 abbrev pub invariant-loop-i : goal.invariant-loop-i
 invariant-loop-i l =
-    (l.i ≤ length l.src) × (l.src ≡ take l.i l.dst ++ drop l.i l.src) × (length l.dst ≡ length l.initial.dst)
+    (l.i ≤ length l.src) × (l.src ≡ take l.i l.dst ++ drop l.i l.src)
+    × (length l.dst ≡ length l.initial.dst)
 
 abbrev pub decreases-loop-i : goal.decreases-loop-i
 decreases-loop-i l = length l.src - l.i

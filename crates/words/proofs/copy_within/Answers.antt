@@ -1,7 +1,6 @@
 -- `words::copy_within` meets its contract: i of the words are there, and all else is as it was.
 use borrow.Author.Rules.{rules}
 use mathlib.Core.Path.{◌≡◌, refl, sym}
-use Prim.Native.Nat.{◌-◌}
 use native.Mathlib.Omega.{arith}
 use lib.ListN.{length-set}
 use Rattle.words.proofs.PartLaws.{splice-same}

@@ -8,7 +8,8 @@ use Rattle.words.proofs.fill.Given as goal
 
 abbrev pub invariant-loop-i : goal.invariant-loop-i
 invariant-loop-i l =
-    (l.i ≤ length l.initial.dst) × (replicate (length l.initial.dst) l.v ≡ take l.i l.dst ++ replicate (length l.initial.dst - l.i) l.v)
+    (l.i ≤ length l.initial.dst) × (replicate (length l.initial.dst) l.v ≡ take l.i l.dst
+    ++ replicate (length l.initial.dst - l.i) l.v)
     × (length l.dst ≡ length l.initial.dst)
 
 abbrev pub decreases-loop-i : goal.decreases-loop-i

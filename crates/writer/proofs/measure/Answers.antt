@@ -18,13 +18,15 @@ known : (c : After-setting_of-s) →
 known c = record { form = c.requires; setting = c.setting_of-s.ensures }
 
 pub table_bytes-table-requires : goal.table_bytes-table-requires
-table_bytes-table-requires c = let few = few-boxes (known (goal.at.table_bytes-table-requires c).After-setting_of-s) in omega arith
+table_bytes-table-requires c = let few =
+    few-boxes (known (goal.at.table_bytes-table-requires c).After-setting_of-s) in omega arith
 
 pub boxes_length-boxes-requires : goal.boxes_length-boxes-requires
-boxes_length-boxes-requires c = let k = known (goal.at.boxes_length-boxes-requires c).After-setting_of-s in record {
-  rows_lent = rows-lent k;
-  short = boxes-short k;
-}
+boxes_length-boxes-requires c = let k =
+    known (goal.at.boxes_length-boxes-requires c).After-setting_of-s in record {
+      rows_lent = rows-lent k;
+      short = boxes-short k;
+    }
 
 pub links_length-mail-requires : goal.links_length-mail-requires
 links_length-mail-requires c =
@@ -46,10 +48,20 @@ total c =
     c.boxes_length-boxes.ensures c.links_length-mail.ensures
 
 pub overflow_add-result-2 : goal.overflow_add-result-2
-overflow_add-result-2 c = omega (arith, total (goal.at.overflow_add-result-2 c).After-links_length-mail, most-bytes (known (goal.at.overflow_add-result-2 c).After-setting_of-s))
+overflow_add-result-2 c =
+    omega (
+      arith,
+      total (goal.at.overflow_add-result-2 c).After-links_length-mail,
+      most-bytes (known (goal.at.overflow_add-result-2 c).After-setting_of-s),
+    )
 
 pub overflow_add-result-3 : goal.overflow_add-result-3
-overflow_add-result-3 c = omega (arith, total (goal.at.overflow_add-result-3 c).After-links_length-mail, most-bytes (known (goal.at.overflow_add-result-3 c).After-setting_of-s))
+overflow_add-result-3 c =
+    omega (
+      arith,
+      total (goal.at.overflow_add-result-3 c).After-links_length-mail,
+      most-bytes (known (goal.at.overflow_add-result-3 c).After-setting_of-s),
+    )
 
 pub returns : goal.returns
 returns c = record {

@@ -1,7 +1,7 @@
 -- `cells::groups::get_groups` meets its contract: at each turn the first i groups are read.
 use borrow.Author.Rules.{rules}
 use mathlib.Core.Path.{refl}
-use Prim.Native.Nat.{◌+◌, ◌-◌}
+use Prim.Native.Nat.{◌+◌}
 use native.Mathlib.Omega.{arith}
 use lib.ListN.{length}
 use Rattle.cells.specs.Groups.{groups_of, groups_length}
@@ -38,11 +38,13 @@ loop-i-preserved c =
     let here = c.loop-i-test.true in
     let got = c.get_group-p.ensures in (
       omega (arith, here),
-      group-read c.args.groups.now c.loop-i.i here c.args.src.now c.args.at c.args.w.now c.requires.cut
+      group-read c.args.groups.now c.loop-i.i here c.args.src.now c.args.at
+          c.args.w.now c.requires.cut
           c.loop-i.invariant.1 got,
       omega (
         arith,
-        read-end (count_at c.args.groups.now c.loop-i.i here) c.get_group-p.ensures.read c.get_group-p.ensures.count,
+        read-end (count_at c.args.groups.now c.loop-i.i here) c.get_group-p.ensures.read
+            c.get_group-p.ensures.count,
         group-end c.args.groups.now c.loop-i.i here,
       ),
     )

@@ -7,7 +7,8 @@ use Rattle.cells.proofs.groups.get_groups.Given as goal
 
 abbrev pub invariant-loop-i : goal.invariant-loop-i
 invariant-loop-i l =
-    (l.i ≤ length l.groups / 3) × GroupsRead (take l.i (groups_of l.groups)) l.src l.at l.initial.w l.w l.p
+    (l.i ≤ length l.groups / 3) × GroupsRead (take l.i (groups_of l.groups)) l.src l.at
+    l.initial.w l.w l.p
     × (l.p ≡ l.at + groups_length (take l.i (groups_of l.groups)))
 
 abbrev pub decreases-loop-i : goal.decreases-loop-i

@@ -1,7 +1,6 @@
 -- `cells::groups::put_groups` meets its contract: at each turn the first i groups are written.
 use borrow.Author.Rules.{rules}
 use mathlib.Core.Path.{refl, ◌∙◌}
-use Prim.Native.Nat.{◌-◌}
 use native.Mathlib.Omega.{arith}
 use lib.ListN.{length}
 use Rattle.cells.specs.Groups.{group_bytes, groups_of, groups_bytes}

@@ -8,7 +8,8 @@ use Rattle.cells.proofs.groups.put_groups.Given as goal
 
 abbrev pub invariant-loop-i : goal.invariant-loop-i
 invariant-loop-i l =
-    (l.i ≤ length l.groups / 3) × Wrote (chain (group_bytes l.w) (take l.i (groups_of l.groups))) l.initial.out l.at l.out l.p
+    (l.i ≤ length l.groups / 3) × Wrote (chain (group_bytes l.w) (take l.i (groups_of l.groups)))
+    l.initial.out l.at l.out l.p
     × (length l.out ≡ length l.initial.out)
 
 abbrev pub decreases-loop-i : goal.decreases-loop-i

@@ -160,15 +160,22 @@ there-size_held c =
 
 records : (c : After-size-held) →
     let a = c.args in
-    length (take (c.args.head + c.size-held.result - c.args.head) (drop c.args.head (row2-size_held c)))
+    length (take (c.args.head + c.size-held.result - c.args.head)
+    (drop c.args.head (row2-size_held c)))
     ≡ c.size-held.result
 records c =
-    length_cut c.args.head c.size-held.result (row2-size_held c) (omega (arith, whole-size_held c, (there-size_held c).0, count c))
+    length_cut c.args.head c.size-held.result (row2-size_held c) (omega (
+      arith,
+      whole-size_held c,
+      (there-size_held c).0,
+      count c,
+    ))
 
 pub get_groups-p-requires : goal.get_groups-p-requires
 get_groups-p-requires c =
     let wide = length-append c.fill.new.dst (drop c.args.head c.args.row.now) in
-    let n = length-take-le c.args.head (row1 (goal.at.get_groups-p-requires c).After-fill) (omega (arith, filled (goal.at.get_groups-p-requires c).After-fill)) in record {
+    let n = length-take-le c.args.head (row1 (goal.at.get_groups-p-requires c).After-fill)
+    (omega (arith, filled (goal.at.get_groups-p-requires c).After-fill)) in record {
       cut = rw n c.requires.cut;
       groups_in_bounds = c.requires.groups_in_bounds;
     }
@@ -179,15 +186,32 @@ bounds-row-count c =
 
 pub overflow_add-head : goal.overflow_add-head
 overflow_add-head c =
-    omega (arith, (there (goal.at.overflow_add-head c).After-get_groups-p).0, count (goal.at.overflow_add-head c).After-size-held, c.requires.count_lt_head.2)
+    omega (
+      arith,
+      (there (goal.at.overflow_add-head c).After-get_groups-p).0,
+      count (goal.at.overflow_add-head c).After-size-held,
+      c.requires.count_lt_head.2,
+    )
 
 pub slice_bounds-get_words-end : goal.slice_bounds-get_words-end
 slice_bounds-get_words-end c =
-    omega (arith, whole (goal.at.slice_bounds-get_words-end c).After-get_groups-p, (there (goal.at.slice_bounds-get_words-end c).After-get_groups-p).0, count (goal.at.slice_bounds-get_words-end c).After-size-held)
+    omega (
+      arith,
+      whole (goal.at.slice_bounds-get_words-end c).After-get_groups-p,
+      (there (goal.at.slice_bounds-get_words-end c).After-get_groups-p).0,
+      count (goal.at.slice_bounds-get_words-end c).After-size-held,
+    )
 
 pub get_words-requires : goal.get_words-requires
-get_words-requires c =
-    (omega (arith, (there (goal.at.get_words-requires c).After-get_groups-p).1, count (goal.at.get_words-requires c).After-size-held, records (goal.at.get_words-requires c).After-size-held), omega arith)
+get_words-requires c = (
+  omega (
+    arith,
+    (there (goal.at.get_words-requires c).After-get_groups-p).1,
+    count (goal.at.get_words-requires c).After-size-held,
+    records (goal.at.get_words-requires c).After-size-held,
+  ),
+  omega arith,
+)
 
 pub returns : goal.returns
 returns c =
@@ -201,7 +225,8 @@ returns c =
       long = long ∙ count (goal.at.returns c).After-size-held;
       read = c.get_words.ensures;
       row = headed_put c.get_groups-p.new.w c.args.row.now c.args.head c.size-held.result
-          c.get_words.new.dst (tail (goal.at.returns c).After-get_groups-p) (read (goal.at.returns c).After-get_groups-p).0.width long;
+          c.get_words.new.dst (tail (goal.at.returns c).After-get_groups-p)
+          (read (goal.at.returns c).After-get_groups-p).0.width long;
     }
 
 pub slice_bounds-fill-end-2 : goal.slice_bounds-fill-end-2
@@ -211,4 +236,5 @@ slice_bounds-fill-end-2 c =
 pub slice_bounds-get_groups-end-2 : goal.slice_bounds-get_groups-end-2
 slice_bounds-get_groups-end-2 c =
     let wide = length-append c.fill.new.dst (drop c.args.head c.args.row.now) in
-    sym (length-take-le c.args.head (row1 (goal.at.slice_bounds-get_groups-end-2 c).After-fill) (omega (arith, filled (goal.at.slice_bounds-get_groups-end-2 c).After-fill)))
+    sym (length-take-le c.args.head (row1 (goal.at.slice_bounds-get_groups-end-2 c).After-fill)
+    (omega (arith, filled (goal.at.slice_bounds-get_groups-end-2 c).After-fill)))

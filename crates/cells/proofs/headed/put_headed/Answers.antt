@@ -26,10 +26,12 @@ put_groups-p-requires c = record {
 pub put_words-requires : goal.put_words-requires
 put_words-requires c =
     subst (λ (l : List ℕ). Room (cells 8 l) c.put_groups-p.new.out c.put_groups-p.result)
-    (sym (records (goal.at.put_words-requires c).After-size-held)) (room-rest c.requires.room c.put_groups-p.ensures)
+    (sym (records (goal.at.put_words-requires c).After-size-held))
+    (room-rest c.requires.room c.put_groups-p.ensures)
 
 pub returns : goal.returns
 returns c =
     wrote_seq c.put_groups-p.ensures
     (subst (λ (l : List ℕ). Wrote (cells 8 l) c.put_groups-p.new.out c.put_groups-p.result
-    c.put_words.new.out c.put_words.result) (records (goal.at.returns c).After-size-held) c.put_words.ensures)
+    c.put_words.new.out c.put_words.result) (records (goal.at.returns c).After-size-held)
+    c.put_words.ensures)

@@ -15,7 +15,8 @@ use Rattle.image.proofs.Lengths.{length-letter}
 use Rattle.image.proofs.HeadedLaws.{groups-asked}
 use Rattle.image.proofs.LetterLaws.{letter_headed}
 use Rattle.image.proofs.LetterJudged.{letter-short, letter-none, letter-then}
-use Rattle.checker.proofs.mail.check_letter.Goals.{After-get_at, After-letter_groups-groups, After-letter_head_bytes-least}
+use Rattle.checker.proofs.mail.check_letter.Goals.{After-get_at, After-letter_groups-groups}
+use Rattle.checker.proofs.mail.check_letter.Goals.{After-letter_head_bytes-least}
 use Rattle.checker.proofs.mail.check_letter.Goals as goal
 
 pub returns-then-src-at-lt4 : goal.returns-then-src-at-lt4
@@ -41,13 +42,20 @@ groups c =
 
 pub returns-then-src-at : goal.returns-then-src-at
 returns-then-src-at c =
-    letter-short c.args.j c.requires.j_le_most_loads (room (goal.at.returns-then-src-at c).After-get_at) c.get_at.ensures
-    c.requires.at_in_bounds (omega (arith, c.if-src-at.true, least (goal.at.returns-then-src-at c).After-letter_head_bytes-least))
+    letter-short c.args.j c.requires.j_le_most_loads
+    (room (goal.at.returns-then-src-at c).After-get_at) c.get_at.ensures
+    c.requires.at_in_bounds (omega (
+      arith,
+      c.if-src-at.true,
+      least (goal.at.returns-then-src-at c).After-letter_head_bytes-least,
+    ))
 
 pub get_groups-p-requires : goal.get_groups-p-requires
 get_groups-p-requires c =
-    let x = c.get_at.result in let made = groups-asked (letter_headed c.args.j c.requires.j_le_most_loads x) c.args.src.now
-    c.args.at c.letter_groups-groups.result (groups (goal.at.get_groups-p-requires c).After-letter_groups-groups)
+    let x = c.get_at.result in let made =
+    groups-asked (letter_headed c.args.j c.requires.j_le_most_loads x) c.args.src.now
+    c.args.at c.letter_groups-groups.result
+    (groups (goal.at.get_groups-p-requires c).After-letter_groups-groups)
     (omega (
       arith,
       letter-groups-long (kind_of x),
@@ -61,15 +69,19 @@ get_groups-p-requires c =
 
 pub returns-in-None : goal.returns-in-None
 returns-in-None c =
-    letter-then c.args.j c.requires.j_le_most_loads (room (goal.at.returns-in-None c).After-get_at) c.get_at.ensures
-    c.letter_groups-groups.result (groups (goal.at.returns-in-None c).After-letter_groups-groups) c.get_groups-p.ensures
+    letter-then c.args.j c.requires.j_le_most_loads (room (goal.at.returns-in-None c).After-get_at)
+    c.get_at.ensures
+    c.letter_groups-groups.result (groups (goal.at.returns-in-None c).After-letter_groups-groups)
+    c.get_groups-p.ensures
     (ap is_whole (sym c.head_fault-f.ensures ∙ c.in-None.is))
     c.size-count.ensures c.check_records.result c.check_records.ensures
 
 pub returns-in-At : goal.returns-in-At
 returns-in-At c =
-    letter-none c.args.j c.requires.j_le_most_loads (room (goal.at.returns-in-At c).After-get_at) c.get_at.ensures
-    c.letter_groups-groups.result (groups (goal.at.returns-in-At c).After-letter_groups-groups) c.get_groups-p.ensures
+    letter-none c.args.j c.requires.j_le_most_loads (room (goal.at.returns-in-At c).After-get_at)
+    c.get_at.ensures
+    c.letter_groups-groups.result (groups (goal.at.returns-in-At c).After-letter_groups-groups)
+    c.get_groups-p.ensures
     (ap is_whole (sym c.head_fault-f.ensures ∙ c.in-At.is))
 
 pub get_at-requires : goal.get_at-requires

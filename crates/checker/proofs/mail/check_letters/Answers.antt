@@ -1,5 +1,4 @@
 -- `checker::mail::check_letters` meets its contract: at each turn the first i are found.
-use Prim.Native.Nat.{◌-◌}
 use Rattle.cells.proofs.WalkLaws.{walk-found, walk_none, walk-next, walk-all, walk-stop}
 use Rattle.image.proofs.LetterLaws.{letter-code}
 use Rattle.checker.proofs.mail.check_letters.Goals as goal

@@ -22,9 +22,11 @@ counted c = record {
 
 pub returns-then-l-count : goal.returns-then-l-count
 returns-then-l-count c =
-    link-none c.requires.j_le_most_loads.0 c.requires.j_le_most_loads.1 (counted (goal.at.returns-then-l-count c).After-size-count) c.if-l-count.true
+    link-none c.requires.j_le_most_loads.0 c.requires.j_le_most_loads.1
+    (counted (goal.at.returns-then-l-count c).After-size-count) c.if-l-count.true
 
 pub returns : goal.returns
 returns c =
-    link-then c.requires.j_le_most_loads.0 c.requires.j_le_most_loads.1 (counted (goal.at.returns c).After-size-count) c.if-l-count.false c.check_letters.result
+    link-then c.requires.j_le_most_loads.0 c.requires.j_le_most_loads.1
+    (counted (goal.at.returns c).After-size-count) c.if-l-count.false c.check_letters.result
     c.check_letters.ensures

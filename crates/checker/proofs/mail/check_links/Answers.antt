@@ -1,5 +1,4 @@
 -- `checker::mail::check_links` meets its contract: at each turn the first i are found.
-use Prim.Native.Nat.{◌-◌}
 use Rattle.cells.proofs.WalkLaws.{walk-found, walk_none, walk-next, walk-all, walk-stop}
 use Rattle.image.proofs.LetterLaws.{link-code}
 use Rattle.checker.proofs.mail.check_links.Goals as goal
@@ -11,7 +10,8 @@ loop-i-preserved c =
 
 pub returns-in-Bad : goal.returns-in-Bad
 returns-in-Bad c =
-    walk-stop (link-code c.args.j c.args.l c.requires.j_le_most_loads.0 c.requires.j_le_most_loads.1) (λ k ys g. g)
+    walk-stop (link-code c.args.j c.args.l c.requires.j_le_most_loads.0
+    c.requires.j_le_most_loads.1) (λ k ys g. g)
     c.loop-i.invariant c.loop-i-test.true c.in-Bad.is
     c.check_link-r.ensures
 

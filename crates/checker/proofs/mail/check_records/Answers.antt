@@ -1,5 +1,4 @@
 -- `checker::mail::check_records` meets its contract: at each turn the first i are found.
-use Prim.Native.Nat.{◌-◌}
 use Rattle.cells.proofs.CodeLaws.{le-code}
 use Rattle.cells.proofs.WalkLaws.{walk-found, walk_none, walk-next, walk-all, walk-stop}
 use Rattle.image.proofs.RecordLaws.{proper-below}

@@ -1,6 +1,5 @@
 -- `index::form::are_ended` meets its contract: the slots below s are right.
 use borrow.Author.Rules.{rules}
-use Prim.Native.Nat.{◌-◌}
 use native.Mathlib.Omega.{arith}
 use borrow.Author.Count.{below_more}
 use Rattle.words.proofs.TestLaws.{fails, passes}

@@ -21,14 +21,16 @@ loop-i-init c =
 pub returns-then-not-agree : goal.returns-then-not-agree
 returns-then-not-agree c =
     sweep_wrong c.args.first c.loop-i.i (c.loop-i.i - 1) c.slot_of-slot.result c.args.records.now
-    (omega arith) (omega arith) (omega arith) (omega arith) c.slot_of-slot.ensures.0 c.loop-i.invariant.1
+    (omega arith) (omega arith) (omega arith) (omega arith) c.slot_of-slot.ensures.0
+    c.loop-i.invariant.1
     c.loop-i.heads (fails c.agree.ensures (ap not c.if-not-agree.true))
 
 pub loop-i-preserved : goal.loop-i-preserved
 loop-i-preserved c =
     let more =
     sweep_more c.args.first c.loop-i.i (c.loop-i.i - 1) c.slot_of-slot.result c.args.records.now
-    (omega arith) (omega arith) (omega arith) (omega arith) c.slot_of-slot.ensures.0 c.loop-i.invariant.1
+    (omega arith) (omega arith) (omega arith) (omega arith) c.slot_of-slot.ensures.0
+    c.loop-i.invariant.1
     (passes c.agree.ensures (ap not c.if-not-agree.false)) in
     (omega arith, more)
 

@@ -1,5 +1,5 @@
 -- `index::form::are_linked` meets its contract: behind place i all was right.
-use Prim.Native.Nat.{◌+◌, ◌-◌, ◌≤◌}
+use Prim.Native.Nat.{◌+◌, ◌≤◌}
 use lib.ListN.{length, drop}
 use Rattle.index.specs.Lent.{Swept}
 use Rattle.index.proofs.form.are_linked.Given as goal

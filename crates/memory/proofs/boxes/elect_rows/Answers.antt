@@ -1,5 +1,4 @@
 -- The boxes up to b are as the election leaves them.
-use Prim.Native.Nat.{◌-◌}
 use native.Mathlib.Omega.{arith}
 use Rattle.memory.proofs.EveryLaws.{next-box}
 use Rattle.memory.proofs.EachLaws.{boxes-none}

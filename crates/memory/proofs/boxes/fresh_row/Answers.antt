@@ -25,7 +25,8 @@ returns c =
     let t = c.args.s in
     let from = c.row_start-start.ensures.0 in
     let to = ap (λ (w : ℕ). c.row_start-start.result + w) c.row_width.ensures in
-    row_done t c.args.b c.args.site.now c.requires.b_value from to c.requires.l_value c.requires.j_in_bounds
+    row_done t c.args.b c.args.site.now c.requires.b_value from to c.requires.l_value
+    c.requires.j_in_bounds
     fresh_box
     c.fresh.new.row
     (c.fresh.ensures c.args.s.n (sizes-says c.requires.l_value).few-boxes)

@@ -1,5 +1,4 @@
 -- The boxes up to b are fresh.
-use Prim.Native.Nat.{◌-◌}
 use mathlib.Core.Path.{refl}
 use native.Mathlib.Omega.{arith}
 use Rattle.memory.proofs.EveryLaws.{next-box}
@@ -21,7 +20,8 @@ loop-b-preserved c =
 
 pub returns : goal.returns
 returns c =
-    boxes-all c.loop-b.invariant (omega arith) c.requires.l_value c.requires.j_in_bounds (λ b g. refl)
+    boxes-all c.loop-b.invariant (omega arith) c.requires.l_value
+    c.requires.j_in_bounds (λ b g. refl)
 
 pub loop-b-init : goal.loop-b-init
 loop-b-init c = boxes-none

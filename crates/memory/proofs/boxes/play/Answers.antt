@@ -4,5 +4,6 @@ use Rattle.memory.proofs.boxes.play.Goals as goal
 
 pub returns : goal.returns
 returns c =
-    rows-set c.args.s c.args.s.me _ c.args.site.now _ c.requires.playable.lent.rows c.requires.playable.lent.me
+    rows-set c.args.s c.args.s.me _ c.args.site.now _ c.requires.playable.lent.rows
+    c.requires.playable.lent.me
     c.play_row.ensures

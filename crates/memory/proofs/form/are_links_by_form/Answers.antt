@@ -1,5 +1,4 @@
 -- The first k links are by form.
-use Prim.Native.Nat.{◌-◌}
 use native.Mathlib.Omega.{arith}
 use Rattle.memory.specs.Parts.{links_form}
 use Rattle.memory.proofs.EveryLaws.{pass-none, pass-more, pass-stop, pass_all}

@@ -1,5 +1,5 @@
 -- The boxes up to b are by form, and so many lead.
-use Prim.Native.Nat.{◌+◌, ◌-◌}
+use Prim.Native.Nat.{◌+◌}
 use mathlib.Core.Path.{sym}
 use native.Mathlib.Omega.{arith}
 use Rattle.laws.proofs.FormLaws.{sizes-says}
@@ -36,12 +36,19 @@ pub overflow_add-leaders : goal.overflow_add-leaders
 overflow_add-leaders c =
     let f = leads_test c.args.s c.args.site.now in
     let z = sizes-says c.requires.l_value in
-    omega (arith, c.leader-leaders.ensures, c.loop-b.invariant.1, tally-more f c.loop-b.b, tally-le (c.loop-b.b + 1) f)
+    omega (
+      arith,
+      c.leader-leaders.ensures,
+      c.loop-b.invariant.1,
+      tally-more f c.loop-b.b,
+      tally-le (c.loop-b.b + 1) f,
+    )
 
 pub loop-b-preserved : goal.loop-b-preserved
 loop-b-preserved c =
     let f = leads_test c.args.s c.args.site.now in (
-      pass-more c.loop-b.invariant.0 (omega arith) c.is_row_by_form.ensures (ap not c.if-not-is_row_by_form.false),
+      pass-more c.loop-b.invariant.0 (omega arith) c.is_row_by_form.ensures
+          (ap not c.if-not-is_row_by_form.false),
       omega (arith, c.leader-leaders.ensures, c.loop-b.invariant.1, tally-more f c.loop-b.b),
     )
 

@@ -17,7 +17,8 @@ general c = passes c.is_general.ensures (ap not c.if-not-is_general.false)
 general-setting_of_s : (c : After-setting_of-s) → general_form c.args.site.now ≡ true
 general-setting_of_s c = passes c.is_general.ensures (ap not c.if-not-is_general.false)
 
-sized : (c : After-setting_of-s) → sizes_form c.setting_of-s.result.n c.setting_of-s.result.j c.setting_of-s.result.l ≡ true
+sized : (c : After-setting_of-s) → sizes_form c.setting_of-s.result.n c.setting_of-s.result.j
+    c.setting_of-s.result.l ≡ true
 sized c =
     sizes-read c.args.site.now c.args.links.now _ c.setting_of-s.ensures (general-setting_of_s c)
 
@@ -54,11 +55,13 @@ pub returns : goal.returns
 returns c =
     c.are_links_by_form.ensures
     ∙ links-rest c.args.site.now c.args.links.now _ c.setting_of-s.ensures
-    (general (goal.at.returns c).Else-not-is_general) (passes c.has_words.ensures (ap not c.if-not-has_words.false))
+    (general (goal.at.returns c).Else-not-is_general)
+    (passes c.has_words.ensures (ap not c.if-not-has_words.false))
     (passes c.are_rows_by_form.ensures (ap not c.if-not-are_rows_by_form.false))
 
 pub setting_of-s-requires : goal.setting_of-s-requires
-setting_of-s-requires c = general-lent (general-says (general (goal.at.setting_of-s-requires c).Else-not-is_general))
+setting_of-s-requires c =
+    general-lent (general-says (general (goal.at.setting_of-s-requires c).Else-not-is_general))
 
 pub has_words-requires : goal.has_words-requires
 has_words-requires c = sized (goal.at.has_words-requires c).After-setting_of-s

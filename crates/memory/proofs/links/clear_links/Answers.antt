@@ -1,5 +1,4 @@
 -- The first k links are empty.
-use Prim.Native.Nat.{◌-◌}
 use native.Mathlib.Omega.{arith}
 use Rattle.memory.proofs.EachLaws.{empty-none, empty-more, empty-all}
 use Rattle.memory.proofs.links.clear_links.Goals as goal

@@ -1,5 +1,4 @@
 -- The boxes up to b have been asked.
-use Prim.Native.Nat.{◌-◌}
 use native.Mathlib.Omega.{arith}
 use Rattle.memory.proofs.EveryLaws.{next-box, pass-none, pass-more, pass-stop}
 use Rattle.memory.proofs.EveryLaws.{pass_all}

@@ -1,5 +1,4 @@
 -- The boxes up to b have their letter.
-use Prim.Native.Nat.{◌-◌}
 use native.Mathlib.Omega.{arith}
 use Rattle.rules.specs.Site.{posted}
 use Rattle.memory.proofs.EveryLaws.{next-box}

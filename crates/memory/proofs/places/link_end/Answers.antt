@@ -7,4 +7,8 @@ pub link_width-requires : goal.link_width-requires
 link_width-requires c = link-sizes (sizes-says c.requires.l_value)
 
 pub overflow_add-result : goal.overflow_add-result
-overflow_add-result c = omega (arith, links-most (sizes-says c.requires.l_value), c.link_width.ensures)
+overflow_add-result c = omega (
+  arith,
+  links-most (sizes-says c.requires.l_value),
+  c.link_width.ensures,
+)

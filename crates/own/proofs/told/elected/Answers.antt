@@ -15,7 +15,8 @@ came c =
 pub returns-in-Refused : goal.returns-in-Refused
 returns-in-Refused c =
     untold _ _ _ _ _
-    (sym (elected-found _ _ no_mail _ (sym (came (goal.at.returns-in-Refused c).After-judge-came) ∙ c.in-Refused.is)))
+    (sym (elected-found _ _ no_mail _ (sym (came (goal.at.returns-in-Refused c).After-judge-came)
+    ∙ c.in-Refused.is)))
 
 pub elect-requires : goal.elect-requires
 elect-requires c =
@@ -26,5 +27,6 @@ elect-requires c =
 
 pub returns-in-Passed : goal.returns-in-Passed
 returns-in-Passed c =
-    rw (← elected-found _ _ no_mail _ (sym (came (goal.at.returns-in-Passed c).After-judge-came) ∙ c.in-Passed.is))
+    rw (← elected-found _ _ no_mail _ (sym (came (goal.at.returns-in-Passed c).After-judge-came)
+    ∙ c.in-Passed.is))
     c.elect.ensures

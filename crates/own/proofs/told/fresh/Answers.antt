@@ -10,7 +10,8 @@ use mathlib.Core.Bool.{not}
 use Rattle.own.proofs.told.fresh.Goals as goal
 
 pub returns-then-not-are_sizes : goal.returns-then-not-are_sizes
-returns-then-not-are_sizes c = bad-sizes _ _ _ _ (fails c.are_sizes.ensures (ap not c.if-not-are_sizes.true))
+returns-then-not-are_sizes c =
+    bad-sizes _ _ _ _ (fails c.are_sizes.ensures (ap not c.if-not-are_sizes.true))
 
 pub returns-then-row-end : goal.returns-then-row-end
 returns-then-row-end c =
@@ -21,7 +22,8 @@ returns-then-row-end c =
 pub fresh-requires : goal.fresh-requires
 fresh-requires c =
     let width = c.row_width-end.ensures in
-    let loads = (sizes-says (passes c.are_sizes.ensures (ap not c.if-not-are_sizes.false))).few-loads in (
+    let loads =
+    (sizes-says (passes c.are_sizes.ensures (ap not c.if-not-are_sizes.false))).few-loads in (
       rw (sub-zero, width)
           (length-take-le _ c.args.row.now (rw (← width) c.if-row-end.false)),
       loads,

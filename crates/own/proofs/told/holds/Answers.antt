@@ -10,7 +10,8 @@ use Rattle.own.proofs.ToldLaws.{told-lent, holds-found}
 use Rattle.own.proofs.told.holds.Goals.{After-judge-came, In-Passed}
 use Rattle.own.proofs.told.holds.Goals as goal
 
-came : (c : After-judge-came) → c.judge-came.result ≡ judged c.args.s c.args.row.now no_mail false (is_box c.args.s.n c.args.s.me)
+came : (c : After-judge-came) → c.judge-came.result ≡ judged c.args.s c.args.row.now no_mail false
+    (is_box c.args.s.n c.args.s.me)
 came c = rw c.is_box.ensures at c.judge-came.ensures
 
 pub returns-in-Refused : goal.returns-in-Refused
@@ -18,10 +19,12 @@ returns-in-Refused c =
     holds-found _ _ no_mail _ _ _
     (sym (came (goal.at.returns-in-Refused c).After-judge-came) ∙ c.in-Refused.is)
 
-came-Passed : (c : In-Passed) → c.judge-came.result ≡ judged c.args.s c.args.row.now no_mail false (is_box c.args.s.n c.args.s.me)
+came-Passed : (c : In-Passed) → c.judge-came.result ≡ judged c.args.s c.args.row.now no_mail false
+    (is_box c.args.s.n c.args.s.me)
 came-Passed c = rw c.is_box.ensures at c.judge-came.ensures
 
-passed : (c : In-Passed) → judged c.args.s c.args.row.now no_mail false (is_box c.args.s.n c.args.s.me) ≡ Judged.Passed
+passed : (c : In-Passed) → judged c.args.s c.args.row.now no_mail false
+    (is_box c.args.s.n c.args.s.me) ≡ Judged.Passed
 passed c = sym (came-Passed c) ∙ c.in-Passed.is
 
 lent : (c : In-Passed) → RowLent c.args.s c.args.row.now
@@ -37,4 +40,5 @@ pub used_row-read-requires : goal.used_row-read-requires
 used_row-read-requires c = (lent (goal.at.used_row-read-requires c).In-Passed).words
 
 pub is_agreed-requires : goal.is_agreed-requires
-is_agreed-requires c = rw c.used_row-read.ensures (lent (goal.at.is_agreed-requires c).In-Passed).by_form
+is_agreed-requires c =
+    rw c.used_row-read.ensures (lent (goal.at.is_agreed-requires c).In-Passed).by_form

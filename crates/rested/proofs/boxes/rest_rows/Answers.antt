@@ -1,5 +1,4 @@
 -- The boxes up to b are at rest.
-use Prim.Native.Nat.{◌-◌}
 use native.Mathlib.Omega.{arith}
 use Rattle.rested.proofs.EachLaws.{rested-none, next-lent, rested-more}
 use Rattle.rested.proofs.EachLaws.{rested-all}

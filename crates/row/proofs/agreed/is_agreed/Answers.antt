@@ -4,7 +4,10 @@ use Rattle.row.proofs.agreed.is_agreed.Goals as goal
 
 pub returns-then-number-first : goal.returns-then-number-first
 returns-then-number-first c =
-    agreed-below c.args.s c.args.row.now c.args.k c.args.left c.args.right (omega (arith, c.if-number-first.true))
+    agreed-below c.args.s c.args.row.now c.args.k c.args.left c.args.right (omega (
+      arith,
+      c.if-number-first.true,
+    ))
 
 pub returns-then-row-number : goal.returns-then-row-number
 returns-then-row-number c =

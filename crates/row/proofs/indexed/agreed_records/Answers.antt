@@ -8,7 +8,13 @@ use Rattle.row.proofs.indexed.agreed_records.Goals as goal
 
 pub slice_bounds-result-end : goal.slice_bounds-result-end
 slice_bounds-result-end c =
-    omega (arith, c.agreed_count-a.ensures, c.requires.numbers.held, c.requires.count, c.requires.words)
+    omega (
+      arith,
+      c.agreed_count-a.ensures,
+      c.requires.numbers.held,
+      c.requires.count,
+      c.requires.words,
+    )
 
 pub returns : goal.returns
 returns c =

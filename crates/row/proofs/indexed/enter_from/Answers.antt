@@ -1,5 +1,5 @@
 -- The agreed records before place i are in the index.
-use Prim.Native.Nat.{ℕ, ◌+◌, ◌-◌, ◌<◌}
+use Prim.Native.Nat.{ℕ, ◌+◌, ◌<◌}
 use mathlib.Core.Path.{ap, ◌∙◌}
 use lib.ListN.{length, get_or}
 use native.Mathlib.Omega.{arith}
@@ -15,11 +15,23 @@ loop-i-init c =
 
 pub overflow_add-first : goal.overflow_add-first
 overflow_add-first c =
-    omega (arith, c.word.ensures, c.agreed_count-a.ensures, c.requires.row_booked.numbers.order, c.requires.row_booked.numbers.most)
+    omega (
+      arith,
+      c.word.ensures,
+      c.agreed_count-a.ensures,
+      c.requires.row_booked.numbers.order,
+      c.requires.row_booked.numbers.most,
+    )
 
 pub number-requires : goal.number-requires
 number-requires c =
-    omega (arith, c.word.ensures, c.agreed_count-a.ensures, c.requires.row_booked.numbers.order, c.requires.row_booked.numbers.most)
+    omega (
+      arith,
+      c.word.ensures,
+      c.agreed_count-a.ensures,
+      c.requires.row_booked.numbers.order,
+      c.requires.row_booked.numbers.most,
+    )
 
 pub enter_one-requires : goal.enter_one-requires
 enter_one-requires c =
@@ -32,7 +44,8 @@ enter_one-requires c =
         c.requires.row_booked.loads,
         omega (arith, n, c.requires.row_booked.numbers.held, c.requires.row_booked.count),
       );
-      appends = enters c.args.j c.args.row.now ok c.loop-i.i _ c.loop-i.row c.loop-i.invariant inside
+      appends = enters c.args.j c.args.row.now ok c.loop-i.i _ c.loop-i.row
+          c.loop-i.invariant inside
           (c.number.ensures ∙ ap (λ (x : ℕ). get_or c.args.row.now first_at 0 + x)
           c.word.ensures);
     }

@@ -1,5 +1,4 @@
 -- i of the agreed records have left the index.
-use Prim.Native.Nat.{◌-◌}
 use mathlib.Core.Path.{◌≡◌}
 use native.Mathlib.Omega.{arith}
 use Rattle.row.proofs.IndexLaws.{agreed-length, left-none, left-more}
@@ -22,7 +21,8 @@ leave_one-requires c =
 pub loop-i-preserved : goal.loop-i-preserved
 loop-i-preserved c = (
   omega arith,
-  left-more c.args.j c.args.row.now c.requires.row_booked c.loop-i.i c.loop-i.row _ c.loop-i.invariant.1
+  left-more c.args.j c.args.row.now c.requires.row_booked c.loop-i.i c.loop-i.row _
+      c.loop-i.invariant.1
       (omega (arith, c.requires.d_in_bounds)) c.leave_one.ensures,
 )
 
@@ -32,7 +32,8 @@ returns c =
     rw (← all) c.loop-i.invariant.1.so_far
 
 pub loop-i-init : goal.loop-i-init
-loop-i-init c = (omega arith, left-none c.args.j c.args.row.now c.requires.row_booked c.requires.indexed)
+loop-i-init c =
+    (omega arith, left-none c.args.j c.args.row.now c.requires.row_booked c.requires.indexed)
 
 pub overflow_add-i : goal.overflow_add-i
 overflow_add-i c = omega arith

@@ -6,7 +6,7 @@ use native.Mathlib.Omega.{arith}
 use Rattle.row.specs.Row.{first_at, agreed_of}
 use Rattle.row.specs.Lent.{Reindexed, Released}
 use Rattle.row.proofs.IndexLaws.{agreed-length, Stays, stays, release_some, release_all}
-use Rattle.row.proofs.indexed.release.Goals.{After-do_stay, Then-do_stay}
+use Rattle.row.proofs.indexed.release.Goals.{Then-do_stay}
 use Rattle.row.proofs.indexed.release.Goals as goal
 
 -- what the test has said
@@ -43,7 +43,8 @@ returns-then-do_stay c =
     subst (λ (m : ℕ). Released c.args.j c.args.b c.args.first c.args.last c.args.row.now m
     c.drop_first.new.row)
     (λ k. sym c.agreed_count-a.ensures k - sym c.leaving-d.ensures k)
-    (release_some c.args.j c.args.row.now c.requires.row_booked c.args.b c.args.first c.args.last t _ some)
+    (release_some c.args.j c.args.row.now c.requires.row_booked c.args.b c.args.first
+    c.args.last t _ some)
 
 pub returns : goal.returns
 returns c =

@@ -11,7 +11,8 @@ use Rattle.site.proofs.elections.elect.Goals.{Else-not-is_box}
 use Rattle.site.proofs.elections.elect.Goals as goal
 
 -- What is known where c is a box.
-known : (c : Else-not-is_box) → AtBox c.args.site.now c.args.links.now c.args.c c.setting_of-s.result
+known : (c : Else-not-is_box) → AtBox c.args.site.now c.args.links.now c.args.c
+    c.setting_of-s.result
 known c =
     at-box c.requires
     c.setting_of-s.ensures c.is_box.ensures (ap not c.if-not-is_box.false)
@@ -26,7 +27,8 @@ returns-then-not-is_box c =
 
 pub elect_verdict-v-requires : goal.elect_verdict-v-requires
 elect_verdict-v-requires c =
-    let k = known (goal.at.elect_verdict-v-requires c).Else-not-is_box in (here k c.has-here.ensures, boxes-most (knows k))
+    let k = known (goal.at.elect_verdict-v-requires c).Else-not-is_box in
+    (here k c.has-here.ensures, boxes-most (knows k))
 
 pub returns : goal.returns
 returns c =

@@ -11,7 +11,8 @@ use Rattle.site.proofs.entries.holds_formed.Goals.{Else-not-is_box}
 use Rattle.site.proofs.entries.holds_formed.Goals as goal
 
 -- What is known where c is a box.
-known : (c : Else-not-is_box) → AtBox c.args.site.now c.args.links.now c.args.c c.setting_of-s.result
+known : (c : Else-not-is_box) → AtBox c.args.site.now c.args.links.now c.args.c
+    c.setting_of-s.result
 known c =
     at-box c.requires
     c.setting_of-s.ensures c.is_box.ensures (ap not c.if-not-is_box.false)
@@ -34,16 +35,19 @@ row_of-row-requires c =
 
 pub returns-then-is_agreed : goal.returns-then-is_agreed
 returns-then-is_agreed c =
-    holds-yes (known (goal.at.returns-then-is_agreed c).Else-not-is_box) c.row_of-row.ensures c.args.k c.args.left c.args.right
+    holds-yes (known (goal.at.returns-then-is_agreed c).Else-not-is_box) c.row_of-row.ensures
+    c.args.k c.args.left c.args.right
     c.is_agreed.ensures c.if-is_agreed.true
 
 pub returns : goal.returns
 returns c =
-    holds-no (known (goal.at.returns c).Else-not-is_box) c.row_of-row.ensures c.args.k c.args.left c.args.right
+    holds-no (known (goal.at.returns c).Else-not-is_box) c.row_of-row.ensures c.args.k
+    c.args.left c.args.right
     c.is_agreed.ensures c.if-is_agreed.false
 
 pub setting_of-s-requires : goal.setting_of-s-requires
 setting_of-s-requires c = general-lent _ _ c.requires
 
 pub is_agreed-requires : goal.is_agreed-requires
-is_agreed-requires c = row_here (known (goal.at.is_agreed-requires c).Else-not-is_box) c.row_of-row.ensures
+is_agreed-requires c = row_here (known (goal.at.is_agreed-requires c).Else-not-is_box)
+    c.row_of-row.ensures

@@ -10,7 +10,8 @@ use Rattle.site.proofs.entries.unheard_formed.Goals.{Else-not-is_box}
 use Rattle.site.proofs.entries.unheard_formed.Goals as goal
 
 -- What is known where c is a box.
-known : (c : Else-not-is_box) → AtBox c.args.site.now c.args.links.now c.args.c c.setting_of-s.result
+known : (c : Else-not-is_box) → AtBox c.args.site.now c.args.links.now c.args.c
+    c.setting_of-s.result
 known c =
     at-box c.requires
     c.setting_of-s.ensures c.is_box.ensures (ap not c.if-not-is_box.false)

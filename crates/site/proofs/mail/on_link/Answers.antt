@@ -11,14 +11,16 @@ use Rattle.site.proofs.mail.on_link.Goals.{Else-held-eq0, Else-not-is_link}
 use Rattle.site.proofs.mail.on_link.Goals as goal
 
 -- What is known where there is such a link ..
-known : (c : Else-not-is_link) → AtLink c.args.site.now c.args.links.now c.args.a c.args.b c.setting_of-s.result
+known : (c : Else-not-is_link) → AtLink c.args.site.now c.args.links.now c.args.a c.args.b
+    c.setting_of-s.result
 known c = record {
   form = c.requires;
   setting = c.setting_of-s.ensures;
   link = passes c.is_link.ensures (ap not c.if-not-is_link.false);
 }
 
-known-held_eq0 : (c : Else-held-eq0) → AtLink c.args.site.now c.args.links.now c.args.a c.args.b c.setting_of-s.result
+known-held_eq0 : (c : Else-held-eq0) → AtLink c.args.site.now c.args.links.now c.args.a c.args.b
+    c.setting_of-s.result
 known-held_eq0 c = record {
   form = c.requires;
   setting = c.setting_of-s.ensures;
@@ -69,10 +71,11 @@ pub setting_of-s-requires : goal.setting_of-s-requires
 setting_of-s-requires c = general-lent _ _ c.requires
 
 pub count-held-requires : goal.count-held-requires
-count-held-requires c = let made = counts (known (goal.at.count-held-requires c).Else-not-is_link) in record {
-  links_lent = made.0;
-  b_value = made.1;
-}
+count-held-requires c = let made =
+    counts (known (goal.at.count-held-requires c).Else-not-is_link) in record {
+      links_lent = made.0;
+      b_value = made.1;
+    }
 
 pub hand_over-requires : goal.hand_over-requires
 hand_over-requires c = head (goal.at.hand_over-requires c).Else-held-eq0

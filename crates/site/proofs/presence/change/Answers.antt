@@ -10,7 +10,8 @@ use Rattle.site.proofs.presence.change.Goals.{Else-not-is_box}
 use Rattle.site.proofs.presence.change.Goals as goal
 
 -- What is known where c is a box.
-known : (c : Else-not-is_box) → AtBox c.args.site.now c.args.links.now c.args.c c.setting_of-s.result
+known : (c : Else-not-is_box) → AtBox c.args.site.now c.args.links.now c.args.c
+    c.setting_of-s.result
 known c =
     at-box c.requires
     c.setting_of-s.ensures c.is_box.ensures (ap not c.if-not-is_box.false)
@@ -40,4 +41,5 @@ pub has-here-requires : goal.has-here-requires
 has-here-requires c = box-few (known (goal.at.has-here-requires c).Else-not-is_box)
 
 pub presence_verdict-v-requires : goal.presence_verdict-v-requires
-presence_verdict-v-requires c = here (known (goal.at.presence_verdict-v-requires c).Else-not-is_box) c.has-here.ensures
+presence_verdict-v-requires c = here (known (goal.at.presence_verdict-v-requires c).Else-not-is_box)
+    c.has-here.ensures

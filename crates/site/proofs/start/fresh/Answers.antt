@@ -15,7 +15,8 @@ sized c = passes c.are_sizes.ensures (ap not c.if-not-are_sizes.false)
 
 pub full_set-requires : goal.full_set-requires
 full_set-requires c =
-    boxes-few c.args.site.now c.args.links.now c.args.n c.args.j c.args.l (sized (goal.at.full_set-requires c).Else-not-are_sizes)
+    boxes-few c.args.site.now c.args.links.now c.args.n c.args.j c.args.l
+    (sized (goal.at.full_set-requires c).Else-not-are_sizes)
 
 pub returns-then-not-has_words : goal.returns-then-not-has_words
 returns-then-not-has_words c =
@@ -47,12 +48,14 @@ pub returns : goal.returns
 returns c =
     fresh-made c.args.site.now c.args.links.now c.args.n c.args.j c.args.l _
     c.full_set.ensures _ _
-    (sized (goal.at.returns c).Else-not-are_sizes) (passes c.has_words.ensures (ap not c.if-not-has_words.false)) _
+    (sized (goal.at.returns c).Else-not-are_sizes)
+    (passes c.has_words.ensures (ap not c.if-not-has_words.false)) _
     c.put_setting.ensures c.fresh_rows.ensures
     c.clear_links.ensures
 
 pub returns-then-not-are_sizes : goal.returns-then-not-are_sizes
-returns-then-not-are_sizes c = fresh-sizes _ _ _ _ _ (fails c.are_sizes.ensures (ap not c.if-not-are_sizes.true))
+returns-then-not-are_sizes c =
+    fresh-sizes _ _ _ _ _ (fails c.are_sizes.ensures (ap not c.if-not-are_sizes.true))
 
 pub has_words-requires : goal.has_words-requires
 has_words-requires c = sized (goal.at.has_words-requires c).Else-not-are_sizes

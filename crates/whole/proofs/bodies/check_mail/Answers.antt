@@ -36,7 +36,8 @@ enter-requires c =
 
 pub returns-in-Bad : goal.returns-in-Bad
 returns-in-Bad c =
-    subst (WalkIs (chain link_bytes) (GoodLinks c.args.n c.args.j c.args.l) c.args.src.now c.args.at)
+    subst (WalkIs (chain link_bytes) (GoodLinks c.args.n c.args.j c.args.l)
+    c.args.src.now c.args.at)
     c.in-Bad.is c.check_links-r.ensures
 
 pub returns-in-Next : goal.returns-in-Next

@@ -53,5 +53,6 @@ returns-in-Next c =
 pub returns-in-Bad : goal.returns-in-Bad
 returns-in-Bad c =
     rest-none (sizes-says c.requires.l_value) c.args.src.now
-    c.args.at (front (goal.at.returns-in-Bad c).After-check_boxes-r) (table (goal.at.returns-in-Bad c).After-check_boxes-r) c.in-Bad.is
+    c.args.at (front (goal.at.returns-in-Bad c).After-check_boxes-r)
+    (table (goal.at.returns-in-Bad c).After-check_boxes-r) c.in-Bad.is
     c.check_boxes-r.ensures

@@ -18,7 +18,9 @@ returns-then-src-at c = λ x r g w.
     (omega (arith, length-box c.args.n x c.requires.n_le_most_boxes.0)) w
 
 pub get_groups-p-requires : goal.get_groups-p-requires
-get_groups-p-requires c = let made = groups-asked (box_headed c.args.n c.args.j c.requires.n_le_most_boxes.0 c.requires.n_le_most_boxes.1) c.args.src.now
+get_groups-p-requires c = let made =
+    groups-asked (box_headed c.args.n c.args.j c.requires.n_le_most_boxes.0
+    c.requires.n_le_most_boxes.1) c.args.src.now
     c.args.at c.box_groups-groups.result c.box_groups-groups.ensures.0
     (omega (
       arith,
@@ -33,15 +35,19 @@ get_groups-p-requires c = let made = groups-asked (box_headed c.args.n c.args.j 
 
 pub returns-in-None : goal.returns-in-None
 returns-in-None c =
-    headed_then (box_headed c.args.n c.args.j c.requires.n_le_most_boxes.0 c.requires.n_le_most_boxes.1)
-    (box-judged c.args.n c.args.j c.args.b c.requires.n_le_most_boxes.0 c.requires.n_le_most_boxes.1) c.box_groups-groups.result c.box_groups-groups.ensures.0
+    headed_then (box_headed c.args.n c.args.j c.requires.n_le_most_boxes.0
+    c.requires.n_le_most_boxes.1)
+    (box-judged c.args.n c.args.j c.args.b c.requires.n_le_most_boxes.0
+    c.requires.n_le_most_boxes.1) c.box_groups-groups.result c.box_groups-groups.ensures.0
     c.get_groups-p.ensures
     (ap is_whole (sym c.head_fault-f.ensures ∙ c.in-None.is))
     c.size-count.ensures c.check_records.result c.check_records.ensures
 
 pub returns-in-At : goal.returns-in-At
 returns-in-At c =
-    headed_none (box_headed c.args.n c.args.j c.requires.n_le_most_boxes.0 c.requires.n_le_most_boxes.1)
-    (box-judged c.args.n c.args.j c.args.b c.requires.n_le_most_boxes.0 c.requires.n_le_most_boxes.1) c.box_groups-groups.result c.box_groups-groups.ensures.0
+    headed_none (box_headed c.args.n c.args.j c.requires.n_le_most_boxes.0
+    c.requires.n_le_most_boxes.1)
+    (box-judged c.args.n c.args.j c.args.b c.requires.n_le_most_boxes.0
+    c.requires.n_le_most_boxes.1) c.box_groups-groups.result c.box_groups-groups.ensures.0
     c.get_groups-p.ensures
     (ap is_whole (sym c.head_fault-f.ensures ∙ c.in-At.is))

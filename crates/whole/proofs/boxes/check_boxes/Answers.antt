@@ -1,6 +1,7 @@
--- `whole::boxes::check_boxes` meets its contract: at each the.before.before.before.before first i are found.
+-- `whole::boxes::check_boxes` meets its contract: at each the.before.before.before.before first i
+-- are found.
 use borrow.Author.Rules.{rules}
-use Prim.Native.Nat.{◌+◌, ◌-◌}
+use Prim.Native.Nat.{◌+◌}
 use native.Mathlib.Omega.{arith}
 use Rattle.cells.specs.Cells.{Found}
 use Rattle.cells.proofs.WalkLaws.{walk-found}
@@ -18,12 +19,21 @@ box : (c : In-Next) → Found (box_body c.args.n)
 box c = walk-found c.in-Next.is c.check_box-r.ensures
 
 pub get_at-leaders-requires : goal.get_at-leaders-requires
-get_at-leaders-requires c = (flag-room c.requires.n_le_most_boxes.0 (box (goal.at.get_at-leaders-requires c).In-Next), search rules)
+get_at-leaders-requires c = (
+  flag-room c.requires.n_le_most_boxes.0 (box (goal.at.get_at-leaders-requires c).In-Next),
+  search rules,
+)
 
 pub overflow_add-leaders : goal.overflow_add-leaders
 overflow_add-leaders c =
     let few = c.requires.n_le_most_boxes.0 in
-    omega (arith, flag_one few (box (goal.at.overflow_add-leaders c).In-Next) c.get_at-leaders.ensures, c.loop-i.invariant.few-lead, c.loop-i.invariant.walked.few)
+    omega (
+      arith,
+      flag_one few (box (goal.at.overflow_add-leaders c).In-Next)
+          c.get_at-leaders.ensures,
+      c.loop-i.invariant.few-lead,
+      c.loop-i.invariant.walked.few,
+    )
 
 pub enter-requires : goal.enter-requires
 enter-requires c =
@@ -33,17 +43,20 @@ enter-requires c =
 pub loop-i-preserved : goal.loop-i-preserved
 loop-i-preserved c =
     boxes-more c.loop-i.invariant c.requires.n_le_most_boxes.0
-    c.loop-i-test.true (box (goal.at.loop-i-preserved c).In-Next) c.get_at-leaders.ensures c.enter.auto.table
+    c.loop-i-test.true (box (goal.at.loop-i-preserved c).In-Next) c.get_at-leaders.ensures
+    c.enter.auto.table
     c.enter.ensures
 
 pub returns-in-Bad : goal.returns-in-Bad
 returns-in-Bad c =
-    boxes-stop c.loop-i.invariant c.requires.n_le_most_boxes.0 c.requires.n_le_most_boxes.1 c.loop-i-test.true
+    boxes-stop c.loop-i.invariant c.requires.n_le_most_boxes.0 c.requires.n_le_most_boxes.1
+    c.loop-i-test.true
     c.in-Bad.is c.check_box-r.ensures
 
 pub returns-then-leaders-gt1 : goal.returns-then-leaders-gt1
 returns-then-leaders-gt1 c =
-    boxes-led c.loop-i.invariant c.requires.n_le_most_boxes.0 c.requires.n_le_most_boxes.1 c.loop-i-test.false
+    boxes-led c.loop-i.invariant c.requires.n_le_most_boxes.0 c.requires.n_le_most_boxes.1
+    c.loop-i-test.false
     c.if-leaders-gt1.true
 
 pub returns : goal.returns

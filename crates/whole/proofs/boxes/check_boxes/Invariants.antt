@@ -1,4 +1,5 @@
--- `whole::boxes::check_boxes` meets its contract: at each the.before.before.before.before first i are found.
+-- `whole::boxes::check_boxes` meets its contract: at each the.before.before.before.before first i
+-- are found.
 use Prim.Native.Nat.{◌-◌}
 use Rattle.whole.proofs.BoxesLaws.{BoxesTo}
 use Rattle.whole.proofs.boxes.check_boxes.Given as goal

@@ -1,5 +1,5 @@
 -- Each turn adds the next length.
-use Prim.Native.Nat.{◌-◌, ◌<◌}
+use Prim.Native.Nat.{◌<◌}
 use native.Mathlib.Omega.{arith}
 use mathlib.Core.List.{[]}
 use lib.ListN.{length}
@@ -25,14 +25,17 @@ box_length-total-requires c = (c.requires.rows_lent, omega arith)
 
 pub overflow_add-total : goal.overflow_add-total
 overflow_add-total c =
-    let room = length-room _ _ c.loop-i.i fresh_box (within (goal.at.overflow_add-total c).In-loop-i) c.loop-i.invariant.1
+    let room =
+    length-room _ _ c.loop-i.i fresh_box (within (goal.at.overflow_add-total c).In-loop-i)
+    c.loop-i.invariant.1
     c.box_length-total.ensures in
     omega arith
 
 pub loop-i-preserved : goal.loop-i-preserved
 loop-i-preserved c = (
   omega arith,
-  length-next _ _ c.loop-i.i fresh_box _ _ (within (goal.at.loop-i-preserved c).In-loop-i) c.loop-i.invariant.1
+  length-next _ _ c.loop-i.i fresh_box _ _ (within (goal.at.loop-i-preserved c).In-loop-i)
+      c.loop-i.invariant.1
       c.box_length-total.ensures,
 )
 

@@ -18,7 +18,9 @@ row_of-row-requires c = record {
 }
 
 pub put_headed-requires : goal.put_headed-requires
-put_headed-requires c = let made = put_needs (box-put (row (goal.at.put_headed-requires c).After-row_of-row)) c.box_groups-groups.ensures.0
+put_headed-requires c = let made =
+    put_needs (box-put (row (goal.at.put_headed-requires c).After-row_of-row))
+    c.box_groups-groups.ensures.0
     c.requires.room in record {
       cut = made.0;
       count_in_bounds = made.1.0;
@@ -27,4 +29,5 @@ put_headed-requires c = let made = put_needs (box-put (row (goal.at.put_headed-r
 
 pub returns : goal.returns
 returns c =
-    put-wrote (box-put (row (goal.at.returns c).After-row_of-row)) c.box_groups-groups.ensures.0 c.put_headed.ensures
+    put-wrote (box-put (row (goal.at.returns c).After-row_of-row)) c.box_groups-groups.ensures.0
+    c.put_headed.ensures

@@ -1,6 +1,5 @@
 -- At each turn the first i boxes are written and
 -- entered.
-use Prim.Native.Nat.{◌-◌}
 use native.Mathlib.Omega.{arith}
 use Rattle.writer.proofs.BoxLaws.{length-bodies, bodies-at}
 use Rattle.writer.proofs.EntryLaws.{entered-length, entered-start, entered_all, space_next}

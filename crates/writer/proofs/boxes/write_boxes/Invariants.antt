@@ -9,7 +9,8 @@ use Rattle.writer.proofs.boxes.write_boxes.Given as goal
 
 abbrev pub invariant-loop-i : goal.invariant-loop-i
 invariant-loop-i l =
-    (l.i ≤ l.s.n) × Entered (take l.i (map (box_body l.s.n) (boxes_in l.s l.site))) l.initial.out l.k l.at l.out l.p
+    (l.i ≤ l.s.n) × Entered (take l.i (map (box_body l.s.n) (boxes_in l.s l.site))) l.initial.out
+    l.k l.at l.out l.p
 
 abbrev pub decreases-loop-i : goal.decreases-loop-i
 decreases-loop-i l = l.s.n - l.i

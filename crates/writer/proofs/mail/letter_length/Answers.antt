@@ -10,7 +10,8 @@ place : (c : After-place_of-place) →
     let a = c.args in
     PlaceOf c.args.j c.args.l c.args.link.now c.args.i c.place_of-place.result.now
 place c =
-    place_is c.args.j c.args.l c.args.link.now c.args.i c.requires.0 c.requires.1 c.place_of-place.ensures
+    place_is c.args.j c.args.l c.args.link.now c.args.i c.requires.0 c.requires.1
+    c.place_of-place.ensures
 
 pub bounds-place-0 : goal.bounds-place-0
 bounds-place-0 c = omega (arith, (place (goal.at.bounds-place-0 c).After-place_of-place).size.words)

@@ -1,5 +1,4 @@
 -- Each turn adds the next length.
-use Prim.Native.Nat.{◌-◌}
 use native.Mathlib.Omega.{arith}
 use mathlib.Core.List.{[]}
 use Rattle.letter.specs.Place.{letter_at}
@@ -15,14 +14,16 @@ letter_length-total-requires c =
 
 pub overflow_add-total : goal.overflow_add-total
 overflow_add-total c =
-    let room = length-room _ _ c.loop-i.i (letter_at []) (omega (arith, c.count-count.ensures)) c.loop-i.invariant.1
+    let room = length-room _ _ c.loop-i.i (letter_at []) (omega (arith, c.count-count.ensures))
+    c.loop-i.invariant.1
     c.letter_length-total.ensures in
     omega arith
 
 pub loop-i-preserved : goal.loop-i-preserved
 loop-i-preserved c = (
   omega arith,
-  length-next _ _ c.loop-i.i (letter_at []) _ _ (omega (arith, c.count-count.ensures)) c.loop-i.invariant.1
+  length-next _ _ c.loop-i.i (letter_at []) _ _ (omega (arith, c.count-count.ensures))
+      c.loop-i.invariant.1
       c.letter_length-total.ensures,
 )
 

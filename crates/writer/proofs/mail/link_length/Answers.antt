@@ -13,12 +13,25 @@ pub letters_length-requires : goal.letters_length-requires
 letters_length-requires c =
     let most = c.requires.short.most in record {
       readable_link = (row (goal.at.letters_length-requires c).After-link_of).readable;
-      short = record { most = omega (arith, link-long (row (goal.at.letters_length-requires c).After-link_of)) };
+      short = record {
+        most = omega (
+          arith,
+          link-long (row (goal.at.letters_length-requires c).After-link_of),
+        );
+      };
     }
 
 pub overflow_add-result : goal.overflow_add-result
 overflow_add-result c =
-    omega (arith, c.letters_length.ensures, link-long (row (goal.at.overflow_add-result c).After-link_of))
+    omega (
+      arith,
+      c.letters_length.ensures,
+      link-long (row (goal.at.overflow_add-result c).After-link_of),
+    )
 
 pub returns : goal.returns
-returns c = omega (arith, c.letters_length.ensures, link-long (row (goal.at.returns c).After-link_of))
+returns c = omega (
+  arith,
+  c.letters_length.ensures,
+  link-long (row (goal.at.returns c).After-link_of),
+)

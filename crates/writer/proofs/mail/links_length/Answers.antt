@@ -1,5 +1,5 @@
 -- Each turn adds the next length.
-use Prim.Native.Nat.{◌-◌, ◌<◌}
+use Prim.Native.Nat.{◌<◌}
 use native.Mathlib.Omega.{arith}
 use mathlib.Core.List.{[]}
 use lib.ListN.{length}
@@ -27,22 +27,31 @@ pub link_length-total-requires : goal.link_length-total-requires
 link_length-total-requires c =
     let ls = links_in c.args.s c.args.links.now in record {
       links_lent = (c.requires.links_lent, omega (arith, c.link_count-count.ensures));
-      short = record { most = omega (arith, chain-room link_bytes ls c.loop-k.k [] (within (goal.at.link_length-total-requires c).In-loop-k)) };
+      short = record {
+        most = omega (
+          arith,
+          chain-room link_bytes ls c.loop-k.k []
+              (within (goal.at.link_length-total-requires c).In-loop-k),
+        );
+      };
     }
 
 pub overflow_add-total : goal.overflow_add-total
 overflow_add-total c =
-    let room = length-room _ _ c.loop-k.k [] (within (goal.at.overflow_add-total c).In-loop-k) c.loop-k.invariant.1
+    let room = length-room _ _ c.loop-k.k [] (within (goal.at.overflow_add-total c).In-loop-k)
+    c.loop-k.invariant.1
     c.link_length-total.ensures in
     omega arith
 
 pub loop-k-preserved : goal.loop-k-preserved
 loop-k-preserved c = (
   omega arith,
-  length-next _ _ c.loop-k.k [] _ _ (within (goal.at.loop-k-preserved c).In-loop-k) c.loop-k.invariant.1 c.link_length-total.ensures,
+  length-next _ _ c.loop-k.k [] _ _ (within (goal.at.loop-k-preserved c).In-loop-k)
+      c.loop-k.invariant.1 c.link_length-total.ensures,
 )
 
 pub returns : goal.returns
 returns c =
     length-all _ _ c.loop-k.k _
-    (omega (arith, c.link_count-count.ensures, length_links_in c.args.s c.args.links.now)) c.loop-k.invariant.1
+    (omega (arith, c.link_count-count.ensures, length_links_in c.args.s c.args.links.now))
+    c.loop-k.invariant.1

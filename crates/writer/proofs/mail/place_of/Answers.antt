@@ -6,10 +6,11 @@ use Rattle.writer.proofs.MailLaws.{place_needs}
 use Rattle.writer.proofs.mail.place_of.Goals as goal
 
 pub place_at-start-requires : goal.place_at-start-requires
-place_at-start-requires c = let made = place_needs c.args.j c.args.l c.args.link.now c.args.i c.requires.0 c.requires.1 c.size.ensures in record {
-  link_sizes = made.0;
-  first_lt_l = made.1;
-}
+place_at-start-requires c = let made = place_needs c.args.j c.args.l c.args.link.now c.args.i
+    c.requires.0 c.requires.1 c.size.ensures in record {
+      link_sizes = made.0;
+      first_lt_l = made.1;
+    }
 
 pub returns : goal.returns
 returns c =

@@ -12,7 +12,8 @@ place : (c : After-place_of-place) →
     let a = c.args in
     PlaceOf c.args.j c.args.l c.args.link.now c.args.i c.place_of-place.result.now
 place c =
-    place_is c.args.j c.args.l c.args.link.now c.args.i c.requires.readable_link.0 c.requires.readable_link.1
+    place_is c.args.j c.args.l c.args.link.now c.args.i c.requires.readable_link.0
+    c.requires.readable_link.1
     c.place_of-place.ensures
 
 pub bounds-place-0 : goal.bounds-place-0
@@ -22,7 +23,8 @@ place-letter_groups_groups : (c : After-letter_groups-groups) →
     let a = c.args in
     PlaceOf c.args.j c.args.l c.args.link.now c.args.i c.place_of-place.result.now
 place-letter_groups_groups c =
-    place_is c.args.j c.args.l c.args.link.now c.args.i c.requires.readable_link.0 c.requires.readable_link.1
+    place_is c.args.j c.args.l c.args.link.now c.args.i c.requires.readable_link.0
+    c.requires.readable_link.1
     c.place_of-place.ensures
 
 -- The groups of its kind.
@@ -32,13 +34,16 @@ groups : (c : After-letter_groups-groups)
 groups c = c.letter_groups-groups.ensures.0 ∙ ap letter_groups c.kind_of-kind.ensures
 
 pub put_headed-requires : goal.put_headed-requires
-put_headed-requires c = let made = put_needs (letter-put (place (goal.at.put_headed-requires c).After-place_of-place)) (groups (goal.at.put_headed-requires c).After-letter_groups-groups) c.requires.room in record {
-  cut = made.0;
-  count_in_bounds = made.1.0;
-  room = made.1.1;
-}
+put_headed-requires c = let made =
+    put_needs (letter-put (place (goal.at.put_headed-requires c).After-place_of-place))
+    (groups (goal.at.put_headed-requires c).After-letter_groups-groups) c.requires.room in record {
+      cut = made.0;
+      count_in_bounds = made.1.0;
+      room = made.1.1;
+    }
 
 pub returns : goal.returns
 returns c =
-    put-wrote (letter-put (place (goal.at.returns c).After-place_of-place)) (groups (goal.at.returns c).After-letter_groups-groups)
+    put-wrote (letter-put (place (goal.at.returns c).After-place_of-place))
+    (groups (goal.at.returns c).After-letter_groups-groups)
     c.put_headed.ensures

@@ -1,5 +1,4 @@
 -- At each turn the first i letters are written.
-use Prim.Native.Nat.{◌-◌}
 use native.Mathlib.Omega.{arith}
 use mathlib.Core.List.{[]}
 use Rattle.letter.specs.Place.{letter_at}
@@ -13,7 +12,8 @@ loop-i-init c =
 pub write_letter-p-requires : goal.write_letter-p-requires
 write_letter-p-requires c = record {
   readable_link = (c.requires.readable_link, omega (arith, c.count-count.ensures));
-  room = room-next _ _ (letter_at []) c.loop-i.i (omega (arith, c.count-count.ensures)) c.requires.room
+  room = room-next _ _ (letter_at []) c.loop-i.i (omega (arith, c.count-count.ensures))
+      c.requires.room
       c.loop-i.invariant.1;
 }
 

@@ -8,7 +8,8 @@ use Rattle.writer.proofs.mail.write_letters.Given as goal
 
 abbrev pub invariant-loop-i : goal.invariant-loop-i
 invariant-loop-i l =
-    (l.i ≤ l.count) × Wrote (chain letter_bytes (take l.i (link_of l.j l.l l.link))) l.initial.out l.at l.out l.p
+    (l.i ≤ l.count) × Wrote (chain letter_bytes (take l.i (link_of l.j l.l l.link)))
+    l.initial.out l.at l.out l.p
 
 abbrev pub decreases-loop-i : goal.decreases-loop-i
 decreases-loop-i l = l.count - l.i

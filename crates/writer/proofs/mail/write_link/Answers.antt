@@ -27,7 +27,11 @@ room c =
     c.requires.room
 
 pub slice_bounds-put_words-end : goal.slice_bounds-put_words-end
-slice_bounds-put_words-end c = omega (arith, (row (goal.at.slice_bounds-put_words-end c).After-link_of-link).readable.words.width)
+slice_bounds-put_words-end c =
+    omega (
+      arith,
+      (row (goal.at.slice_bounds-put_words-end c).After-link_of-link).readable.words.width,
+    )
 
 pub put_words-p-requires : goal.put_words-p-requires
 put_words-p-requires c = room-first _ (room (goal.at.put_words-p-requires c).After-link_of-link)
@@ -35,7 +39,8 @@ put_words-p-requires c = room-first _ (room (goal.at.put_words-p-requires c).Aft
 pub write_letters-requires : goal.write_letters-requires
 write_letters-requires c = record {
   readable_link = (row (goal.at.write_letters-requires c).After-link_of-link).readable;
-  room = room-rest (room (goal.at.write_letters-requires c).After-link_of-link) c.put_words-p.ensures;
+  room = room-rest (room (goal.at.write_letters-requires c).After-link_of-link)
+      c.put_words-p.ensures;
 }
 
 pub returns : goal.returns

@@ -1,5 +1,5 @@
 -- At each turn the first k links are written.
-use Prim.Native.Nat.{◌-◌, ◌<◌}
+use Prim.Native.Nat.{◌<◌}
 use native.Mathlib.Omega.{arith}
 use mathlib.Core.List.{[]}
 use lib.ListN.{length}
@@ -26,13 +26,15 @@ loop-k-init c =
 pub write_link-p-requires : goal.write_link-p-requires
 write_link-p-requires c = record {
   links_lent = (c.requires.links_lent, omega (arith, c.link_count-count.ensures));
-  room = room-next _ _ [] c.loop-k.k (within (goal.at.write_link-p-requires c).In-loop-k) c.requires.room c.loop-k.invariant.1;
+  room = room-next _ _ [] c.loop-k.k (within (goal.at.write_link-p-requires c).In-loop-k)
+      c.requires.room c.loop-k.invariant.1;
 }
 
 pub loop-k-preserved : goal.loop-k-preserved
 loop-k-preserved c = (
   omega arith,
-  wrote-next _ _ [] c.loop-k.k (within (goal.at.loop-k-preserved c).In-loop-k) c.loop-k.invariant.1 c.write_link-p.ensures,
+  wrote-next _ _ [] c.loop-k.k (within (goal.at.loop-k-preserved c).In-loop-k) c.loop-k.invariant.1
+      c.write_link-p.ensures,
 )
 
 pub shape_of-out : goal.shape_of-out
@@ -41,4 +43,5 @@ shape_of-out c = wrote-length c.loop-k.invariant.1
 pub returns : goal.returns
 returns c =
     wrote-all _ _ c.loop-k.k
-    (omega (arith, c.link_count-count.ensures, length_links_in c.args.s c.args.links.now)) c.loop-k.invariant.1
+    (omega (arith, c.link_count-count.ensures, length_links_in c.args.s c.args.links.now))
+    c.loop-k.invariant.1

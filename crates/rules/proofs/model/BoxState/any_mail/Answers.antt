@@ -10,7 +10,8 @@ on_mail-requires c =
     let f = c.bounded-box_fits.result in
     let g = c.bounded-mail_fits.result in
     let h = bounded-box _ _ (sym c.bounded-box_fits.ensures ∙ first-of f g c.if-fits.true) in
-    let m = bounded-mail _ (sym c.bounded-mail_fits.ensures ∙ second-of f g c.if-fits.true) in record {
+    let m = bounded-mail _ (sym c.bounded-mail_fits.ensures ∙ second-of f g c.if-fits.true) in
+    record {
       last_le_most_number = h.last;
       first_bound = h.first;
       last_le_most_number_2 = m.last;

@@ -1,0 +1,28 @@
+// The longer of two load lists, and where a box's list stands in its site's words (Q-14).
+ghost use Rattle.std.specs.Prelude.{◌≡◌};
+ghost use Rattle.longer.specs.Longer.{longer_of, longer_number};
+ghost use Rattle.agreed.specs.Agreed.{agreed_on};
+ghost use Rattle.journal.specs.Longer.{AgreedAnswered};
+
+#[unsafe(no_mangle)]
+pub extern "C" fn journal_longer(first: &[u64], second: &[u64]) -> u32
+    ensures { result ≡ longer_number (longer_of first.now second.now) }
+{
+    journal::journal_longer(first, second)
+}
+
+#[unsafe(no_mangle)]
+pub extern "C" fn journal_agreed(
+    site: &[u64],
+    links: &[u64],
+    c: u32,
+    first: &mut u64,
+    at: &mut usize,
+    count: &mut usize,
+) -> u32
+    ensures { AgreedAnswered (agreed_on site.now links.now c)
+        first.old at.old count.old
+        first.new at.new count.new result }
+{
+    journal::journal_agreed(site, links, c, first, at, count)
+}

@@ -1,0 +1,12 @@
+-- `lines::starts` meets its contract.
+use Prim.Native.Nat.{◌-◌}
+use mathlib.Core.Path.{◌≡◌}
+use lib.ListN.{length, drop}
+use Rattle.lines.specs.Table.{starts}
+use Rattle.lines.proofs.starts.Given as goal
+
+abbrev pub invariant-loop-i : goal.invariant-loop-i
+invariant-loop-i l = starts (drop l.i l.w) (drop l.i l.s) ≡ starts l.w l.s
+
+abbrev pub decreases-loop-i : goal.decreases-loop-i
+decreases-loop-i l = length l.w - l.i

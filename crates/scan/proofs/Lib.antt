@@ -1,0 +1,2 @@
+-- Laws of the first place of a byte.
+pub mod ScanLaws

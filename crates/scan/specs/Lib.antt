@@ -1,0 +1,2 @@
+-- What the contracts of `scan` cite.
+pub mod Bytes

@@ -1,0 +1,22 @@
+// The first place of a byte in part of a text.
+#![tactic(auto)]
+
+ghost use Rattle.std.specs.Prelude.{◌≡◌, ◌+◌, ◌≤◌, length};
+ghost use Rattle.scan.specs.Bytes.{index_of, slice};
+
+// The first place of b from start on and before end; or end, where it has none.
+pub fn find(a: &[u8], start: usize, end: usize, b: u8) -> usize
+    requires order { start ≤ end }
+    requires in_bounds { end ≤ length a.now }
+    ensures place { result ≡ start + index_of b (slice start end a.now) }
+    ensures before_end { result ≤ end }
+{
+    let mut i = start;
+    while i < end {
+        if a[i] == b {
+            return i;
+        }
+        i += 1;
+    }
+    i
+}

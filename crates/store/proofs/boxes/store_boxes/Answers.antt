@@ -1,0 +1,30 @@
+-- `store::boxes::store_boxes` meets its contract: at each turn the first i are stored.
+use mathlib.Core.Path.{ap, ◌∙◌}
+use Prim.Native.Nat.{ℕ, ◌*◌}
+use native.Mathlib.Omega.{arith}
+use Rattle.cells.proofs.StoreLaws.{stored-none, next-has, row-wide, stored_next, stored-all}
+use Rattle.store.proofs.boxes.store_boxes.Goals as goal
+
+pub loop-i-init : goal.loop-i-init
+loop-i-init c =
+    let wide = ap (λ (w : ℕ). c.args.n * w) c.row_width-w.ensures in
+    stored-none (omega (arith, c.requires.j_in_bounds))
+
+pub store_box-p-requires : goal.store_box-p-requires
+store_box-p-requires c =
+    let inv = c.loop-i.invariant in
+    let within = c.loop-i-test.true in record {
+      n_le_most_boxes = c.requires.n_le_most_boxes;
+      row_len = row-wide inv within c.row_at-a.ensures.0
+          ∙ c.row_width-w.ensures;
+      has = next-has inv within c.requires.has;
+    }
+
+pub loop-i-preserved : goal.loop-i-preserved
+loop-i-preserved c =
+    stored_next c.loop-i.invariant c.loop-i-test.true c.row_at-a.ensures.0
+    c.store_box-p.new.row c.store_box-p.auto.row c.store_box-p.ensures
+
+pub returns : goal.returns
+returns c = stored-all c.row_width-w.ensures c.loop-i.invariant
+    c.loop-i-test.false

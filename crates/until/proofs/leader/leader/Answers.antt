@@ -1,0 +1,33 @@
+-- The boxes up to b do not lead.
+use native.Mathlib.Omega.{arith}
+use Rattle.memory.proofs.EveryLaws.{next-box}
+use Rattle.until.proofs.FirstLaws.{none-yet, none_more, none-stop, none-all}
+use Rattle.until.proofs.leader.leader.Goals as goal
+
+pub leads-requires : goal.leads-requires
+leads-requires c = record {
+  rows_lent = c.requires;
+  b_value = next-box c.args.s.n c.loop-b.b (omega arith);
+}
+
+pub returns-then-leads : goal.returns-then-leads
+returns-then-leads c =
+    none-stop c.loop-b.invariant (omega arith) c.leads.ensures
+    c.if-leads.true
+
+pub loop-b-preserved : goal.loop-b-preserved
+loop-b-preserved c =
+    none_more c.loop-b.invariant (omega arith) c.leads.ensures
+    c.if-leads.false
+
+pub loop-b-init : goal.loop-b-init
+loop-b-init c = none-yet
+
+pub overflow_add-b : goal.overflow_add-b
+overflow_add-b c = omega arith
+
+pub loop-b-smaller : goal.loop-b-smaller
+loop-b-smaller c = omega arith
+
+pub returns : goal.returns
+returns c = none-all c.loop-b.invariant (omega arith)
