@@ -8,7 +8,7 @@ commands = replay apply wait longer desk bodies publish unpublish salvage
 all: programs lib
 
 programs:
-	rt check replay apply weigh stereo show publish rescue
+	lib/programs
 
 lib:
 	lib/build

@@ -3,8 +3,8 @@
 # for what is built.
 
 command -v rt >/dev/null || { echo "rt is not here" >&2; exit 2; }
-kit=$(cd "$(dirname "$(rt doc)")/.." && pwd)
-tools=$kit/on/$(uname -m)/toolchain
+kit=$(cd "$(dirname "$(rt doc)")" && pwd)
+tools=$kit/toolchain
 loader=$tools/lib/ld-linux-x86-64.so.2
 emulator=$tools/bin/qemu-x86_64
 [ -x "$emulator" ] || emulator=''
