@@ -10,12 +10,11 @@ use Rattle.bodies.specs.declared.Named.{Named}
 use Rattle.bodies.specs.Handed.{Handed}
 use Rattle.rules.specs.declared.model.Refusal.{Refusal}
 
-module _ (x : Bor (List ℕ)) (name : ℕ) where
+module _ (x : Bor (List ℕ)) where
   -- from a to e
   abbrev cut : ℕ → ℕ → Bor (List ℕ)
   cut a e = record {
     ref_ptr = (x.ref_ptr.0, a + x.ref_ptr.1);
-    ghost_name = name;
     now = take (e - a) (drop a x.now);
   }
 
@@ -23,7 +22,7 @@ module _ (x : Bor (List ℕ)) (name : ℕ) where
   handed-part a n e =
       subst (λ (w : Named). Handed x w (cut a (a + n))) e
       (record {
-        place = λ i. (x.ptr.0, add_comm a x.ptr.1 i);
+        place = λ i. (x.ref_ptr.0, add_comm a x.ref_ptr.1 i);
         bytes = cut_at {a = a} {k = n} x.now refl refl;
       })
 

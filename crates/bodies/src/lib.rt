@@ -1,9 +1,9 @@
 // A reader over the contents table (Q-7): it keeps the image and hands out one body at a time,
 // general, boxes 1 to n, mail, each the part of the lent image that the table of contents names.
 //
-// An enum cannot hold a reference, so an answer names a body by its place and length, and `part`
-// hands the part itself out. The functions over the struct `Bodies` are walks by hand: each only
-// takes the struct apart and calls one that is on a slice and a number.
+// An answer names a body by its place and length, and `part` hands the part itself out. The
+// functions over the struct `Bodies` each only take the struct apart and call one that is on a slice
+// and a number.
 #![tactic(auto)]
 
 ghost use Rattle.std.specs.Prelude.{◌≡◌};

@@ -27,10 +27,10 @@ slice_bounds-result-end c = (is (goal.at.slice_bounds-result-end c).In-Part).end
 
 pub returns-in-Part : goal.returns-in-Part
 returns-in-Part c =
-    handed-part c.args.image c.result-1.given.0 c.in-Part.a
+    handed-part c.args.image c.in-Part.a
     c.in-Part.n (named-told (goal.at.returns-in-Part c).In-Part)
 
 pub returns-in-Refused : goal.returns-in-Refused
 returns-in-Refused c =
-    handed-none c.args.image c.result-in-Refused-1.given.0
+    handed-none c.args.image
     (sym c.in-Refused.is ∙ c.named-is.ensures)

@@ -1,0 +1,5 @@
+use Rattle.wording.proofs.FaultLaws.{last_none}
+use Rattle.wording.proofs.fault.last.Goals as goal
+
+pub returns-then-n-eq0 : goal.returns-then-n-eq0
+returns-then-n-eq0 c = last_none c.args.s.now c.if-n-eq0.true
