@@ -70,7 +70,8 @@ put-short a (written g l) h e = absurd (let z : ◌≡◌ {A = ℕ} 0 1 = cc in 
 
 module _ (l : Ask) (xs ls xs' ls' : List ℕ) {a : Reply} (s : Serves l xs ls xs' ls' a) where
   pub put-served : {o p : List ℕ} {c : Came} → PutIs a (image_of (site_of xs' ls')) o c p
-      → PutIs (outcome_of (site_of xs ls) l).answer (image_of (outcome_of (site_of xs ls) l).next) o c
+      → PutIs (outcome_of (site_of xs ls) l).answer (image_of (outcome_of (site_of xs ls) l).next) o
+      c
       p
   put-served {o} {p} {c} w =
       subst (λ (x : Site). PutIs (outcome_of (site_of xs ls) l).answer (image_of x) o c p)
@@ -142,7 +143,8 @@ module _ (l : Ask) (n : ℕ) (o : List ℕ) {xs ls : List ℕ} (inside : n ≤ l
   call_none s (done h) d e = absurd (d refl)
 
   pub call-some : {ys ks p : List ℕ} {c : Came} → served l ≡ true → Stored (take n o) xs ls ys ks
-      → PutIs (outcome_of (site_of ys ks) l).answer (image_of (outcome_of (site_of ys ks) l).next) o c
+      → PutIs (outcome_of (site_of ys ks) l).answer (image_of (outcome_of (site_of ys ks) l).next) o
+      c
       p → CallIs l n xs ls o c p
   call-some {ys} {ks} s h (put k) =
       called inside (some s (site_of ys ks) (held h) (held-room h) (fits k))

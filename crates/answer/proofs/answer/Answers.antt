@@ -25,7 +25,12 @@ pub answer_call-requires : goal.answer_call-requires
 answer_call-requires c =
     let f = found c.ask-a.ensures c.in-Step.is in record {
       n_in_bounds = f.inside;
-      image_in_bounds = omega (arith, lent-text _ _ (lent (goal.at.answer_call-requires c).Else-not-lends), f.room);
+      image_in_bounds =
+          omega (
+            arith,
+            lent-text _ _ (lent (goal.at.answer_call-requires c).Else-not-lends),
+            f.room,
+          );
     }
 
 pub put_refusal-requires : goal.put_refusal-requires
@@ -37,7 +42,8 @@ put_refusal-requires c =
 
 pub returns-in-Step : goal.returns-in-Step
 returns-in-Step c =
-    answer-call (lent (goal.at.returns-in-Step c).Else-not-lends) (found c.ask-a.ensures c.in-Step.is)
+    answer-call (lent (goal.at.returns-in-Step c).Else-not-lends)
+    (found c.ask-a.ensures c.in-Step.is)
     c.answer_call.ensures
 
 pub returns-in-Long : goal.returns-in-Long

@@ -6,7 +6,8 @@ use Rattle.answer.proofs.hold.hold.Given as goal
 
 abbrev pub invariant-loop-j : goal.invariant-loop-j
 invariant-loop-j l =
-    (l.j ≤ l.m) × (length l.line ≡ length l.initial.line) × (l.line ≡ paste l.initial.line l.n l.piece l.j)
+    (l.j ≤ l.m) × (length l.line ≡ length l.initial.line)
+    × (l.line ≡ paste l.initial.line l.n l.piece l.j)
 
 abbrev pub decreases-loop-j : goal.decreases-loop-j
 decreases-loop-j l = l.m - l.j

@@ -11,7 +11,8 @@ pub returns-then-not-are_sizes : goal.returns-then-not-are_sizes
 returns-then-not-are_sizes c = none _ c.are_sizes.ensures (ap not c.if-not-are_sizes.true)
 
 pub link_width-width-requires : goal.link_width-width-requires
-link_width-width-requires c = link-sizes (formed c.are_sizes.ensures (ap not c.if-not-are_sizes.false))
+link_width-width-requires c =
+    link-sizes (formed c.are_sizes.ensures (ap not c.if-not-are_sizes.false))
 
 pub overflow_sub-result : goal.overflow_sub-result
 overflow_sub-result c =

@@ -1,6 +1,4 @@
 use Rattle.replay.proofs.LoopLaws.{goes-not, goes_by}
-use mathlib.Core.Path.{ap}
-use mathlib.Core.Bool.{not}
 use Rattle.replay.proofs.run.after.Goals as goal
 
 pub returns-then-not-s : goal.returns-then-not-s

@@ -1,4 +1,3 @@
-use Prim.Native.Nat.{◌-◌}
 use native.Mathlib.Omega.{arith}
 use Rattle.salvage.proofs.BodyLaws.{boxes-none, boxes-more, boxes-all}
 use Rattle.salvage.proofs.block.put_boxes.Goals as goal

@@ -1,4 +1,3 @@
-use Prim.Native.Nat.{◌-◌}
 use native.Mathlib.Omega.{arith}
 use Rattle.print.proofs.WriteLaws.{at_most}
 use Rattle.salvage.specs.Tally.{flagged}

@@ -1,4 +1,3 @@
-use Prim.Native.Nat.{◌-◌}
 use native.Mathlib.Omega.{arith}
 use Rattle.salvage.proofs.TableLaws.{follow-none, follow-more, follow-stop}
 use Rattle.salvage.proofs.TableLaws.{follow-all}

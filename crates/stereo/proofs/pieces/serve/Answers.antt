@@ -13,34 +13,45 @@ piece-kept g c = c.read_piece-r.auto.piece ∙ c.loop-turns.invariant.0
 
 kept : (g : Over) (c : After-goes_on g) →
     Same c.args.line.now c.args.image.now c.args.desk.now c.args.site.now c.args.links.now
-    c.read_piece-r.new.line c.read_piece-r.new.image c.read_piece-r.new.desk c.read_piece-r.new.site c.read_piece-r.new.links
+    c.read_piece-r.new.line c.read_piece-r.new.image c.read_piece-r.new.desk c.read_piece-r.new.site
+    c.read_piece-r.new.links
 kept g c =
     same-on c.loop-turns.invariant.1
-    c.read_piece-r.auto.line c.read_piece-r.auto.image c.read_piece-r.auto.desk c.read_piece-r.auto.site c.read_piece-r.auto.links
+    c.read_piece-r.auto.line c.read_piece-r.auto.image c.read_piece-r.auto.desk
+    c.read_piece-r.auto.site c.read_piece-r.auto.links
 
 pub loop-turns-init : goal.loop-turns-init
 loop-turns-init g c = (refl, same)
 
 pub shape_of-piece-then-not-goes_on : goal.shape_of-piece-then-not-goes_on
-shape_of-piece-then-not-goes_on g c = piece-kept g (goal.at.shape_of-piece-then-not-goes_on g c).After-goes_on
+shape_of-piece-then-not-goes_on g c =
+    piece-kept g (goal.at.shape_of-piece-then-not-goes_on g c).After-goes_on
 
 pub shape_of-line-then-not-goes_on : goal.shape_of-line-then-not-goes_on
-shape_of-line-then-not-goes_on g c = (kept g (goal.at.shape_of-line-then-not-goes_on g c).After-goes_on).line
+shape_of-line-then-not-goes_on g c =
+    (kept g (goal.at.shape_of-line-then-not-goes_on g c).After-goes_on).line
 
 pub shape_of-image-then-not-goes_on : goal.shape_of-image-then-not-goes_on
-shape_of-image-then-not-goes_on g c = (kept g (goal.at.shape_of-image-then-not-goes_on g c).After-goes_on).image
+shape_of-image-then-not-goes_on g c =
+    (kept g (goal.at.shape_of-image-then-not-goes_on g c).After-goes_on).image
 
 pub shape_of-desk-then-not-goes_on : goal.shape_of-desk-then-not-goes_on
-shape_of-desk-then-not-goes_on g c = (kept g (goal.at.shape_of-desk-then-not-goes_on g c).After-goes_on).desk
+shape_of-desk-then-not-goes_on g c =
+    (kept g (goal.at.shape_of-desk-then-not-goes_on g c).After-goes_on).desk
 
 pub shape_of-site-then-not-goes_on : goal.shape_of-site-then-not-goes_on
-shape_of-site-then-not-goes_on g c = (kept g (goal.at.shape_of-site-then-not-goes_on g c).After-goes_on).site
+shape_of-site-then-not-goes_on g c =
+    (kept g (goal.at.shape_of-site-then-not-goes_on g c).After-goes_on).site
 
 pub shape_of-links-then-not-goes_on : goal.shape_of-links-then-not-goes_on
-shape_of-links-then-not-goes_on g c = (kept g (goal.at.shape_of-links-then-not-goes_on g c).After-goes_on).links
+shape_of-links-then-not-goes_on g c =
+    (kept g (goal.at.shape_of-links-then-not-goes_on g c).After-goes_on).links
 
 pub loop-turns-preserved : goal.loop-turns-preserved
-loop-turns-preserved g c = (piece-kept g (goal.at.loop-turns-preserved g c).After-goes_on, kept g (goal.at.loop-turns-preserved g c).After-goes_on)
+loop-turns-preserved g c = (
+  piece-kept g (goal.at.loop-turns-preserved g c).After-goes_on,
+  kept g (goal.at.loop-turns-preserved g c).After-goes_on,
+)
 
 pub shape_of-piece : goal.shape_of-piece
 shape_of-piece g c = c.loop-turns.invariant.0

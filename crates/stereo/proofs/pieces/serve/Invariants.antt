@@ -6,7 +6,8 @@ use Rattle.stereo.proofs.pieces.serve.Given as goal
 abbrev pub invariant-loop-turns : goal.invariant-loop-turns
 invariant-loop-turns g l =
     (length l.piece ≡ length l.initial.piece)
-    × Same l.initial.line l.initial.image l.initial.desk l.initial.site l.initial.links l.line l.image l.desk l.site l.links
+    × Same l.initial.line l.initial.image l.initial.desk l.initial.site l.initial.links l.line
+    l.image l.desk l.site l.links
 
 abbrev pub decreases-loop-turns : goal.decreases-loop-turns
 decreases-loop-turns g l =

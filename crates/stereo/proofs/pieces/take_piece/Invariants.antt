@@ -5,7 +5,8 @@ use Rattle.stereo.proofs.pieces.take_piece.Given as goal
 
 abbrev pub invariant-loop-i : goal.invariant-loop-i
 invariant-loop-i g l =
-    (l.i ≤ length l.piece + 1) × Same l.initial.line l.initial.image l.initial.desk l.initial.site l.initial.links l.line l.image l.desk l.site l.links
+    (l.i ≤ length l.piece + 1) × Same l.initial.line l.initial.image l.initial.desk l.initial.site
+    l.initial.links l.line l.image l.desk l.site l.links
 
 abbrev pub decreases-loop-i : goal.decreases-loop-i
 decreases-loop-i g l =

@@ -23,22 +23,30 @@ pub loop-turns-init : goal.loop-turns-init
 loop-turns-init g c = (refl, same)
 
 pub shape_of-piece-then-not-goes_on : goal.shape_of-piece-then-not-goes_on
-shape_of-piece-then-not-goes_on g c = piece-kept g (goal.at.shape_of-piece-then-not-goes_on g c).After-goes_on
+shape_of-piece-then-not-goes_on g c =
+    piece-kept g (goal.at.shape_of-piece-then-not-goes_on g c).After-goes_on
 
 pub shape_of-line-then-not-goes_on : goal.shape_of-line-then-not-goes_on
-shape_of-line-then-not-goes_on g c = (kept g (goal.at.shape_of-line-then-not-goes_on g c).After-goes_on).line
+shape_of-line-then-not-goes_on g c =
+    (kept g (goal.at.shape_of-line-then-not-goes_on g c).After-goes_on).line
 
 pub shape_of-a-then-not-goes_on : goal.shape_of-a-then-not-goes_on
-shape_of-a-then-not-goes_on g c = (kept g (goal.at.shape_of-a-then-not-goes_on g c).After-goes_on).first
+shape_of-a-then-not-goes_on g c =
+    (kept g (goal.at.shape_of-a-then-not-goes_on g c).After-goes_on).first
 
 pub shape_of-b-then-not-goes_on : goal.shape_of-b-then-not-goes_on
-shape_of-b-then-not-goes_on g c = (kept g (goal.at.shape_of-b-then-not-goes_on g c).After-goes_on).second
+shape_of-b-then-not-goes_on g c =
+    (kept g (goal.at.shape_of-b-then-not-goes_on g c).After-goes_on).second
 
 pub shape_of-out-then-not-goes_on : goal.shape_of-out-then-not-goes_on
-shape_of-out-then-not-goes_on g c = (kept g (goal.at.shape_of-out-then-not-goes_on g c).After-goes_on).out
+shape_of-out-then-not-goes_on g c =
+    (kept g (goal.at.shape_of-out-then-not-goes_on g c).After-goes_on).out
 
 pub loop-turns-preserved : goal.loop-turns-preserved
-loop-turns-preserved g c = (piece-kept g (goal.at.loop-turns-preserved g c).After-goes_on, kept g (goal.at.loop-turns-preserved g c).After-goes_on)
+loop-turns-preserved g c = (
+  piece-kept g (goal.at.loop-turns-preserved g c).After-goes_on,
+  kept g (goal.at.loop-turns-preserved g c).After-goes_on,
+)
 
 pub shape_of-piece : goal.shape_of-piece
 shape_of-piece g c = c.loop-turns.invariant.0

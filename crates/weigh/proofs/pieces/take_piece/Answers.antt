@@ -1,5 +1,5 @@
 -- `weigh::pieces::take_piece` is safe and ends.
-use Rattle.std.proofs.Common.{◌-◌, arith}
+use Rattle.std.proofs.Common.{arith}
 use Rattle.weigh.proofs.SameLaws.{Same, same, same-on}
 use Rattle.weigh.proofs.pieces.take_piece.Given.{Over}
 use Rattle.weigh.proofs.pieces.take_piece.Goals.{After-goes_on}
@@ -27,31 +27,46 @@ find-e-requires g c = record {
 }
 
 pub slice_bounds-take_part-count : goal.slice_bounds-take_part-count
-slice_bounds-take_part-count g c = omega (arith, c.find-e.ensures.place, c.find-e.ensures.before_end)
+slice_bounds-take_part-count g c = omega (
+  arith,
+  c.find-e.ensures.place,
+  c.find-e.ensures.before_end,
+)
 
 pub slice_bounds-take_part-start : goal.slice_bounds-take_part-start
-slice_bounds-take_part-start g c = omega (arith, c.find-e.ensures.place, c.find-e.ensures.before_end)
+slice_bounds-take_part-start g c = omega (
+  arith,
+  c.find-e.ensures.place,
+  c.find-e.ensures.before_end,
+)
 
 pub slice_bounds-take_part-end : goal.slice_bounds-take_part-end
 slice_bounds-take_part-end g c = omega (arith, c.find-e.ensures.place, c.find-e.ensures.before_end)
 
 pub shape_of-line-then-not-goes_on : goal.shape_of-line-then-not-goes_on
-shape_of-line-then-not-goes_on g c = (kept g (goal.at.shape_of-line-then-not-goes_on g c).After-goes_on).line
+shape_of-line-then-not-goes_on g c =
+    (kept g (goal.at.shape_of-line-then-not-goes_on g c).After-goes_on).line
 
 pub shape_of-a-then-not-goes_on : goal.shape_of-a-then-not-goes_on
-shape_of-a-then-not-goes_on g c = (kept g (goal.at.shape_of-a-then-not-goes_on g c).After-goes_on).first
+shape_of-a-then-not-goes_on g c =
+    (kept g (goal.at.shape_of-a-then-not-goes_on g c).After-goes_on).first
 
 pub shape_of-b-then-not-goes_on : goal.shape_of-b-then-not-goes_on
-shape_of-b-then-not-goes_on g c = (kept g (goal.at.shape_of-b-then-not-goes_on g c).After-goes_on).second
+shape_of-b-then-not-goes_on g c =
+    (kept g (goal.at.shape_of-b-then-not-goes_on g c).After-goes_on).second
 
 pub shape_of-out-then-not-goes_on : goal.shape_of-out-then-not-goes_on
-shape_of-out-then-not-goes_on g c = (kept g (goal.at.shape_of-out-then-not-goes_on g c).After-goes_on).out
+shape_of-out-then-not-goes_on g c =
+    (kept g (goal.at.shape_of-out-then-not-goes_on g c).After-goes_on).out
 
 pub loop-i-smaller : goal.loop-i-smaller
 loop-i-smaller g c = omega (arith, c.find-e.ensures.place)
 
 pub loop-i-preserved : goal.loop-i-preserved
-loop-i-preserved g c = (omega (arith, c.find-e.ensures.before_end), kept g (goal.at.loop-i-preserved g c).After-goes_on)
+loop-i-preserved g c = (
+  omega (arith, c.find-e.ensures.before_end),
+  kept g (goal.at.loop-i-preserved g c).After-goes_on,
+)
 
 pub shape_of-line : goal.shape_of-line
 shape_of-line g c = c.loop-i.invariant.1.line
