@@ -31,7 +31,7 @@ use Rattle.answer.specs.declared.reply.Reply.{Reply}
 use Rattle.answer.specs.declared.call.Came.{Came}
 use Rattle.answer.specs.declared.tell.Told.{Told}
 use Rattle.answer.specs.Replies.{served, outcome_of, unchanged}
-use Rattle.answer.specs.Calls.{refusal, Holds, fits, no_room, Comes, unserved, none}
+use Rattle.answer.specs.Calls.{refusal, Holds, Fits, fits, no_room, Comes, unserved, none}
 use Rattle.answer.specs.Calls.{few_words, some, no-sizes, no_words, made, front, CallIs}
 use Rattle.answer.specs.Calls.{too_long, called, FreshIs, comes, Serves, PutIs, put, not-put}
 use Rattle.answer.specs.Calls.{within, image_in}
@@ -70,7 +70,8 @@ put-short a (written g l) h e = absurd (let z : ◌≡◌ {A = ℕ} 0 1 = cc in 
 
 module _ (l : Ask) (xs ls xs' ls' : List ℕ) {a : Reply} (s : Serves l xs ls xs' ls' a) where
   pub put-served : {o p : List ℕ} {c : Came} → PutIs a (image_of (site_of xs' ls')) o c p
-      → PutIs (outcome_of (site_of xs ls) l).answer (image_of (outcome_of (site_of xs ls) l).next) o c
+      → PutIs (outcome_of (site_of xs ls) l).answer (image_of (outcome_of (site_of xs ls) l).next) o
+      c
       p
   put-served {o} {p} {c} w =
       subst (λ (x : Site). PutIs (outcome_of (site_of xs ls) l).answer (image_of x) o c p)
@@ -142,7 +143,8 @@ module _ (l : Ask) (n : ℕ) (o : List ℕ) {xs ls : List ℕ} (inside : n ≤ l
   call_none s (done h) d e = absurd (d refl)
 
   pub call-some : {ys ks p : List ℕ} {c : Came} → served l ≡ true → Stored (take n o) xs ls ys ks
-      → PutIs (outcome_of (site_of ys ks) l).answer (image_of (outcome_of (site_of ys ks) l).next) o c
+      → PutIs (outcome_of (site_of ys ks) l).answer (image_of (outcome_of (site_of ys ks) l).next) o
+      c
       p → CallIs l n xs ls o c p
   call-some {ys} {ks} s h (put k) =
       called inside (some s (site_of ys ks) (held h) (held-room h) (fits k))
@@ -156,13 +158,17 @@ data Left (after : List ℕ) (m : ℕ) : Came → Type 0 where
   answered : {a : Reply} → length after ≤ m → Left after m (Came.Answered a (length after))
   shorter : length after ≤ m → Left after m Came.Short
 
+left-fits : {a : Reply} {im old after : List ℕ} {m : ℕ} {c : Came} → Fits a im old m c after
+    → length old ≤ m → Left after m c
+left-fits (fits e) h = answered e
+left-fits (no_room e) h = shorter h
+
 left : {im xs ls after : List ℕ} {l : Ask} {m : ℕ} {c : Came} → Comes im l xs ls m c after
     → length im ≤ m → Left after m c
 left (unserved s) h = answered h
 left (none s n) h = answered h
 left (few_words s t f i w) h = shorter h
-left (some s t k w (fits e)) h = answered e
-left (some s t k w (no_room e)) h = shorter h
+left (some s t k w f) h = left-fits f h
 
 left-within : {after : List ℕ} (o : List ℕ) {c : Came} → Left after (length o) c
     → within (length (front after o)) c × (length (front after o) ≡ length o)

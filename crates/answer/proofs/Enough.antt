@@ -37,7 +37,7 @@ use Rattle.answer.specs.Calls.{refusal, HoldsNone, no_room, Comes, few_words, so
 use Rattle.answer.specs.Calls.{FreshComes, no_words, made, CallIs, too_long, called, FreshIs}
 use Rattle.answer.specs.Calls.{comes}
 use Rattle.answer.specs.Says.{text_room, lends, short, call-told, Says, not-by-form}
-use Rattle.answer.specs.Says.{AnswerIs, too_short, asks-long, asks}
+use Rattle.answer.specs.Says.{AnswerIs, too_short, asks_nothing, asks-long, asks}
 use Rattle.answer.specs.Hold.{held_for}
 use Rattle.answer.specs.Unheard.{UnheardIs, few_words as few-seen}
 use Rattle.answer.specs.Text.{reply_text}
@@ -147,6 +147,7 @@ pub short-only : {line xs ls o p : List ℕ} {m : ℕ} → Ample m (length xs) (
 unfolding lends
 short-only {o = o} {m = m} lent h (too_short e) =
     absurd (both-no (le-leb (text_room m) (length o) h) e)
+short-only lent h (asks_nothing e n w) = elim w [ ]
 short-only lent h (asks-long {im} {l = l} e a k) = record {
   image = im;
   call = l;

@@ -188,6 +188,12 @@ front-is : {im o p : List ℕ} {a : Reply} {k n : ℕ}
 front-is {im} {o} {a = a} told =
     take-append_seam (reply_text a im) (drop (length (reply_text a im)) o)
 
+-- what fits is told with its image
+front-fits : {a : Reply} {im old after o p : List ℕ} {m n : ℕ} {c : Came}
+    → Fits a im old m c after → TellIs after o c (Told.Length n) p → take n p ≡ reply_text a im
+front-fits (fits e) w = front-is w
+front-fits (no_room e) w = elim w [ ]
+
 pub rules_say : {line xs ls o p : List ℕ} {m n : ℕ} → AnswerIs line m xs ls o (Told.Length n) p
     → Says line (take n p)
 rules_say {line} (asks_nothing e k w) =
@@ -196,5 +202,6 @@ rules_say {line} (asks e x h (call-told (unserved s) w)) = absurd (both-no x.ser
 rules_say {line} (asks {im} e x h (call-told (none s k) w)) =
     subst (λ (t : List ℕ). Says line t)
     (sym (front-is w ∙ refusal-alone (Answer.Refused Refusal.Form) im refl)) (not-by-form x k)
-rules_say {line} (asks e x h (call-told (some s t k r (fits f)) w)) =
-    subst (λ (t : List ℕ). Says line t) (sym (front-is w)) (answered x k)
+rules_say (asks e x h (call-told (few_words k s t f i) w)) = elim w [ ]
+rules_say {line} (asks e x h (call-told (some s t k r f) w)) =
+    subst (λ (t : List ℕ). Says line t) (sym (front-fits f w)) (answered x k)

@@ -1,6 +1,7 @@
 -- What a line asks: an image in hex, one space, and a call or a holds line of a trace, or `run` and
 -- a number of steps (Q-9), or `find`, a box and a left frame (Q-5).
-use Rattle.std.specs.Prelude.{ℕ, ◌+◌, ◌≤◌, ◌<◌, ◌≡◌, true, ◌||◌, List, ◌∷◌, ◌++◌, ltb, length, take, drop}
+use Rattle.std.specs.Prelude.{ℕ, ◌+◌, ◌≤◌, ◌<◌, ◌≡◌, true, ◌||◌, List, ◌∷◌, ◌++◌, ltb, length, take}
+use Rattle.std.specs.Prelude.{drop}
 use Rattle.scan.specs.Bytes.{index_of}
 use Rattle.rules.specs.Pick.{pick}
 use Rattle.hexed.specs.Hex.{hex_of, smalls, Bytes}

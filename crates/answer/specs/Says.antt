@@ -1,5 +1,6 @@
 -- What a line is answered, by the paper's rules alone; and what `answer` says of it.
-use Rattle.std.specs.Prelude.{ℕ, ◌+◌, ◌*◌, ◌≤◌, ◌<◌, ◌≡◌, Bool, true, false, List, [], ◌++◌, leb, length, drop}
+use Rattle.std.specs.Prelude.{ℕ, ◌+◌, ◌*◌, ◌≤◌, ◌<◌, ◌≡◌, Bool, true, false, List, [], ◌++◌, leb}
+use Rattle.std.specs.Prelude.{length, drop}
 use Rattle.rules.specs.declared.model.Refusal.{Refusal}
 use Rattle.rules.specs.Site.{Site}
 use Rattle.image.specs.Image.{image_of}

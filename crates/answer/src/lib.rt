@@ -1,6 +1,8 @@
 // A stored image and what is asked of it, as a line of text: the image in hex and a call or a
 // run, answered by a line with the answer and the image after it; or which load has a frame,
 // answered by its number.
+#![tactic(auto)]
+
 ghost use Rattle.std.specs.Prelude.{◌≡◌, ◌≤◌, length, take};
 ghost use Rattle.answer.specs.Says.{lends as lends_enough, text_room, CallTold, AnswerIs};
 

@@ -1,5 +1,6 @@
 -- What the buffers have room for, and where the larger ones are asked for.
-use Rattle.std.proofs.Common.{◌≡◌, ℕ, ◌<◌, ◌≤◌, Bool, true, false, ◌||◌, ltb, List, length, take, drop, sym, refl, ap, ◌∙◌, subst, arith}
+use Rattle.std.proofs.Common.{◌≡◌, ℕ, ◌<◌, ◌≤◌, Bool, true, false, ◌||◌, ltb, List, length, take}
+use Rattle.std.proofs.Common.{drop, sym, refl, ap, ◌∙◌, subst, arith}
 use Rattle.laws.proofs.Logic.{true≠false, pick_elim}
 use Rattle.answer.specs.declared.call.Came.{Came}
 use Rattle.answer.specs.declared.reply.Ask.{Ask}

@@ -15,7 +15,8 @@ use Rattle.rules.specs.Sizes.{most_boxes}
 use Rattle.laws.proofs.Logic.{and_both}
 use Rattle.laws.proofs.FormLaws.{sizes-says}
 use Rattle.cells.specs.Cells.{chain, Below}
-use Rattle.image.specs.Image.{boxes_of, general_body, box_body, mail_body, bodies, contents, table_of}
+use Rattle.image.specs.Image.{boxes_of, general_body, box_body, mail_body, bodies, contents}
+use Rattle.image.specs.Image.{table_of}
 use Rattle.image.specs.Image.{numbers_from, image_of}
 use Rattle.image.specs.Longest.{table_bytes, table_long}
 use Rattle.image.specs.Parts.{listed, GoodListed}

@@ -41,7 +41,8 @@ module _ (s : Site) where
     -- "in order without gaps": the first behind the table, each where the one before it ends, and
     -- the last ends with the image
     pub first : begin_of image 1 ≡ table_long s.n
-    pub next : (k : ℕ) → 1 ≤ k → k < last → begin_of image (k + 1) ≡ begin_of image k + long_of image k
+    pub next : (k : ℕ) → 1 ≤ k → k < last → begin_of image (k + 1)
+        ≡ begin_of image k + long_of image k
     pub end : begin_of image last + long_of image last ≡ length image
     -- the table and the bodies are the whole image, each byte once
     pub whole : take (table_long s.n) image ++ chain (body_of image) (numbers_from 1 last) ≡ image

@@ -2,7 +2,8 @@
 // general, boxes 1 to n, mail, each the part of the lent image that the table of contents names.
 //
 // An answer names a body by its place and length, and `part` hands the part itself out. The
-// functions over the struct `Bodies` each only take the struct apart and call one that is on a slice
+// functions over the struct `Bodies` each only take the struct apart and call one that is on a
+// slice
 // and a number.
 #![tactic(auto)]
 

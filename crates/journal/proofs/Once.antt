@@ -52,7 +52,8 @@ alone-once {s} {o} p q = (
 
 pub told-once : {n J : ℕ} {o : OwnOutcome} {x y z : List ℕ} {r q : ℕ}
     → ToldAlone n J o x y r → ToldAlone n J o x z q
-    → (r ≡ q) × (box_of n (row_of J y) ≡ box_of n (row_of J z)) × (is_refusal o.answer ≡ true → y ≡ z)
+    → (r ≡ q) × (box_of n (row_of J y) ≡ box_of n (row_of J z))
+    × (is_refusal o.answer ≡ true → y ≡ z)
 told-once {n} {J} {o} p q = (
   p.number ∙ sym q.number,
   same-box n J o p.told q.told,

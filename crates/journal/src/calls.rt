@@ -15,14 +15,7 @@ pub fn journal_fresh(site: &mut [u64], links: &mut [u64], n: u32, j: u32, l: u32
     answer_number(site::fresh(site, links, n, j, l))
 }
 
-pub fn journal_holds(
-    site: &[u64],
-    links: &[u64],
-    c: u32,
-    k: u32,
-    left: u32,
-    right: u32,
-) -> u32
+pub fn journal_holds(site: &[u64], links: &[u64], c: u32, k: u32, left: u32, right: u32) -> u32
     ensures { result ≡ answer_number (holds_on site.now links.now c k left right) }
 {
     answer_number(site::holds(site, links, c, k, left, right))
@@ -68,13 +61,7 @@ pub fn journal_ready(site: &mut [u64], links: &mut [u64], c: u32) -> u32
 }
 
 // A pair of frames waits at leader c.
-pub fn journal_offer(
-    site: &mut [u64],
-    links: &mut [u64],
-    c: u32,
-    left: u32,
-    right: u32,
-) -> u32
+pub fn journal_offer(site: &mut [u64], links: &mut [u64], c: u32, left: u32, right: u32) -> u32
     ensures { Stepped (Call.Offer c left right) site.old links.old
         site.new links.new result }
 {

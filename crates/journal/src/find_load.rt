@@ -26,13 +26,7 @@ fn found_number(w: Found, before: u32) -> u32
     }
 }
 
-pub fn journal_find(
-    site: &[u64],
-    links: &[u64],
-    c: u32,
-    left: u32,
-    number: &mut u32,
-) -> u32
+pub fn journal_find(site: &[u64], links: &[u64], c: u32, left: u32, number: &mut u32) -> u32
     ensures { FindAnswered (find_on site.now links.now c left)
         number.old number.new result }
 {

@@ -38,12 +38,7 @@ pub fn journal_image_length(site: &[u64], links: &[u64], length: &mut usize) -> 
     written_number(w)
 }
 
-pub fn journal_write(
-    site: &[u64],
-    links: &[u64],
-    image: &mut [u8],
-    length: &mut usize,
-) -> u32
+pub fn journal_write(site: &[u64], links: &[u64], image: &mut [u8], length: &mut usize) -> u32
     ensures { WriteAnswered site.now links.now image.old
         image.new length.old length.new result }
 {

@@ -34,12 +34,7 @@ fn run_used(r: Run, before: u32) -> u32
     }
 }
 
-pub fn journal_run(
-    site: &mut [u64],
-    links: &mut [u64],
-    steps: u32,
-    used: &mut u32,
-) -> u32
+pub fn journal_run(site: &mut [u64], links: &mut [u64], steps: u32, used: &mut u32) -> u32
     ensures { RunAnswered steps site.old links.old site.new
         links.new used.old used.new result }
 {

@@ -42,4 +42,5 @@ pub record CalledSafely : Type 0 where
   -- boxes.
   pub not-empty : (ds : List Call)
       × ((h : List (Said ℕ)) (xs ls : List ℕ) → Called 2 16 8 h xs ls → calls h ≡ ds
-      → (answer_number (holds_on xs ls 1 1 71 72) ≡ 0) × (answer_number (holds_on xs ls 2 1 71 72) ≡ 0))
+      → (answer_number (holds_on xs ls 1 1 71 72) ≡ 0)
+      × (answer_number (holds_on xs ls 2 1 71 72) ≡ 0))

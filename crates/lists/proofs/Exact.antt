@@ -105,7 +105,8 @@ record_read r e =
     let one : number_in (up_to 58 (record_text r)) ≡ left_of r =
     ap number_in (up-to-past 58 l (decimal (right_of r)) w) ∙ number_read (left_of r) b in
     let two : number_in (behind 58 (record_text r)) ≡ right_of r =
-    ap number_in (behind-past 58 l (decimal (right_of r)) w) ∙ number_read (right_of r) right-small in
+    ap number_in (behind-past 58 l (decimal (right_of r)) w)
+    ∙ number_read (right_of r) right-small in
     let whole : record_of (left_of r) (right_of r) ≡ r = omega arith in
     (λ i. record_from (one i) (two i))
     ∙ pick-false _ _ _

@@ -12,7 +12,8 @@ module _ (b : ℕ) (s : List ℕ) {e : ℕ} (found : e ≡ 0 + index_of b (slice
   pub found-is : e ≡ index_of b s
   unfolding slice
   found-is =
-      let z : 0 + index_of b (drop 0 (take (length s) s)) ≡ index_of b (drop 0 (take (length s) s)) =
+      let z : 0 + index_of b (drop 0 (take (length s) s))
+      ≡ index_of b (drop 0 (take (length s) s)) =
       omega arith in
       found ∙ z ∙ ap (index_of b) (take-length s)
 

@@ -108,7 +108,8 @@ module _ (line : List ℕ) {o o' : List ℕ} {r : ℕ} {w : Which} where
       → Wrote (length line + 11) o o' 0 r (which_text line w)
   differs-said t p = at_most (omega arith) (spelled (ap (which_text line) (sym t)) p)
 
-  pub which-said : {u : Said} → u ≡ Said.Is w → Wrote (length line + 11) o o' 0 r (which_text line w)
+  pub which-said : {u : Said} → u ≡ Said.Is w
+      → Wrote (length line + 11) o o' 0 r (which_text line w)
       → Wrote (length line + 11) o o' 0 r (said_text line u)
   which-said t p = spelled (ap (said_text line) (sym t)) p
 

@@ -115,7 +115,8 @@ module _ {s o₀ o : List ℕ} {i n : ℕ} (g : Going s o₀ o i n) where
       (listed-long (length o₀) (records_by s) (omega arith))
 
   -- the next record is stored
-  module _ {r : ℕ} (e : r ≡ record_in (up_to 44 (drop i s))) (some : r ≡ 0 → ⊥) (room : n < length o)
+  module _ {r : ℕ} (e : r ≡ record_in (up_to 44 (drop i s))) (some : r ≡ 0
+      → ⊥) (room : n < length o)
     where
       front : take (n + 1) (set o n r) ≡ take n o ++ (r ∷ [])
       front = ap (λ k. take k (set o n r)) (add-one n) ∙ take-suc-set o n r room
@@ -140,7 +141,8 @@ module _ {s o₀ o : List ℕ} {i n : ℕ} (g : Going s o₀ o i n) where
           record {
             answer =
                 ap Listed.Records (sym m)
-                ∙ listed-all (length o₀) (records_by s) (ap (each is_held) all ∙ held) (omega arith);
+                ∙ listed-all (length o₀) (records_by s) (ap (each is_held) all
+                ∙ held) (omega arith);
             records = λ k t.
                 let c : n + 1 ≡ k = cc in
                 ap (λ j. take j (set o n r)) (sym c) ∙ sym all;

@@ -45,7 +45,8 @@ parted-last b (x ∷ s) h = go (eqb x b) h (parted-last b s)
     go false k f = ap (ahead x) (f (omega arith))
 
 -- there is always a first
-pub parted-first : (b : ℕ) (s : List ℕ) → (rest : List (List ℕ)) × (parted_by b s ≡ up_to b s ∷ rest)
+pub parted-first : (b : ℕ) (s : List ℕ) → (rest : List (List ℕ))
+    × (parted_by b s ≡ up_to b s ∷ rest)
 parted-first b s = go (below? (index_of b s) (length s))
   where
     go : Or (index_of b s < length s) (length s ≤ index_of b s)

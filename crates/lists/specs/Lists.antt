@@ -1,7 +1,8 @@
 -- The text of a list, and what a line of two lists is answered: "lines of two lists, records
 -- `LEFT:RIGHT` parted by commas, `-` for an empty list, answered `1 LIST`, `2 LIST` or `refused
 -- 22`". A line that cannot be read is refused with 11.
-use Rattle.std.specs.Prelude.{ℕ, ◌+◌, ◌≡◌, Bool, not, ◌&&◌, ◌||◌, List, [], ◌∷◌, ◌++◌, map, leb, eqb, length, take, drop, get_or}
+use Rattle.std.specs.Prelude.{ℕ, ◌+◌, ◌≡◌, Bool, not, ◌&&◌, ◌||◌, List, [], ◌∷◌, ◌++◌, map, leb}
+use Rattle.std.specs.Prelude.{eqb, length, take, drop, get_or}
 use Rattle.rules.specs.Pick.{pick}
 use Rattle.rules.specs.Every.{each}
 use Rattle.rules.specs.Sizes.{record_of}

@@ -53,7 +53,8 @@ pub read_is : (n : Names) (w : Word) (t : List ℕ) → is_named (name_bytes n w
 unfolding read_in
 read_is n w t e h =
     pick-false _ _ _ (le-ltb 64 (length (name_bytes n w ++ t)) h)
-    ∙ ap (λ (v : Word). line_of v (numbers_of (drop (length (name_bytes n v)) (name_bytes n w ++ t))))
+    ∙ ap (λ (v : Word). line_of v
+    (numbers_of (drop (length (name_bytes n v)) (name_bytes n w ++ t))))
     (word-again n w t e)
     ∙ ap (λ (u : List ℕ). line_of w (numbers_of u)) (drop-append_seam (name_bytes n w) t)
 
@@ -89,7 +90,8 @@ module _ (n : Names) (s : List ℕ) where
   read_by h = pick-false _ _ _ (le-ltb 64 (length s) h)
 
   -- where no name is found there is no word
-  pub no_word : length s ≤ 64 → length (name_bytes n (word_in n s)) ≡ 0 → Line.Unreadable ≡ read_in n s
+  pub no_word : length s ≤ 64 → length (name_bytes n (word_in n s)) ≡ 0
+      → Line.Unreadable ≡ read_in n s
   no_word h z = sym (read_by h ∙ by (word_in n s) z (word_at n s) (numbers_of behind))
     where
       by : (w : Word) → length (name_bytes n w) ≡ 0 → At n s w → (x : Numbers)
@@ -180,7 +182,8 @@ pub record Printed (n : Names) (s : List ℕ) : Type 0 where
 
 pub printed : (n : Names) (s : List ℕ) → readable (read_in n s) ≡ true → Printed n s
 unfolding printed_in
-printed n s e = by (decide (ltb 64 (length s))) (decide (eqb (length (name_bytes n (word_in n s))) 0))
+printed n s e =
+    by (decide (ltb 64 (length s))) (decide (eqb (length (name_bytes n (word_in n s))) 0))
   where
     by : Or (ltb 64 (length s) ≡ true) (ltb 64 (length s) ≡ false)
         → Or (eqb (length (name_bytes n (word_in n s))) 0 ≡ true)

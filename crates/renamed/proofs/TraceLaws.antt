@@ -50,7 +50,8 @@ module _ (n : Names) where
           f (omega arith)
           ∙ ap (λ (u : List ℕ). read_in n u ∷ lines_in n (drop (index_of 10 s + 1) s))
           (append_assoc l (b ∷ []) (take (index_of 10 s) s))
-          ∙ ap (λ (m : ℕ). read_in n (l ++ (b ∷ take (index_of 10 s) s)) ∷ lines_in n (drop m (b ∷ s)))
+          ∙ ap (λ (m : ℕ). read_in n (l ++ (b ∷ take (index_of 10 s) s))
+          ∷ lines_in n (drop m (b ∷ s)))
           (over (index_of 10 s))
         where
           over : (m : ℕ) → suc (m + 1) ≡ suc m + 1
@@ -123,7 +124,8 @@ module _ (to : Names) where
   pub judged-on : (from : Names) (s : List ℕ) (i : ℕ) (j : Judged) {e : ℕ} {r : Judged}
       → e ≡ i + index_of 10 (slice i (length s) s) → e < length s
       → (let l = read_in from (take (e - i) (drop i s)) in r ≡ judged_by (has_name to l) j l)
-      → judged_all to r (lines_in from (drop (e + 1) s)) ≡ judged_all to j (lines_in from (drop i s))
+      → judged_all to r (lines_in from (drop (e + 1) s))
+      ≡ judged_all to j (lines_in from (drop i s))
   unfolding judged_all
   judged-on from s i j {e} found h q =
       ap (λ (x : Judged). judged_all to x (lines_in from (drop (e + 1) s))) q

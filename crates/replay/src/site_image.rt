@@ -15,7 +15,8 @@ fn send<S: Streams>(rt: &S, to: Result<S::File>, image: &[u8]) -> Result<()> {
     streams::send(rt, &mut file, image)
 }
 
-// The longest image of a replay, n 5, J 32, L 8 (`longest_of_traces`), has room in out: so only words
+// The longest image of a replay, n 5, J 32, L 8 (`longest_of_traces`), has room in out: so only
+// words
 // that hold no site are refused. Gives the status.
 pub(crate) fn send_image<S: Streams>(
     rt: &S,

@@ -9,7 +9,8 @@ use lib.Dec.{leb, eqb}
 use lib.ListN.{length, get_or, replicate}
 use borrow.Author.Tests.{leb-true, eqb-true}
 use Rattle.words.specs.Rows.{splice}
-use Rattle.words.proofs.PartLaws.{length_part, get_or_part, get_or-splice, length-splice, part-splice}
+use Rattle.words.proofs.PartLaws.{length_part, get_or_part, get_or-splice, length-splice}
+use Rattle.words.proofs.PartLaws.{part-splice}
 use Rattle.rules.specs.Every.{all}
 use Rattle.rules.specs.Sizes.{most_boxes, unknown}
 use Rattle.rules.proofs.BoundLaws.{first-of}
@@ -143,7 +144,8 @@ module _ (n J b : ℕ) (body : List ℕ) where
       let d = then-passed (peer_tests n b w) _ c.1 in
       let f = then-passed (count_test J w) Fault.None d.1 in
       let t : held_count J (get_or w first_at 0) (get_or w last_at 0) (get_or w count_at 0) ≡ true =
-      first-of (held_count J (get_or w first_at 0) (get_or w last_at 0) (get_or w count_at 0)) _ f.0 in
+      first-of (held_count J (get_or w first_at 0) (get_or w last_at 0) (get_or w count_at 0)) _
+      f.0 in
       sym (λ i. held_count J (word_first n body few i) (word-last n body few i)
       (word_count n body few i)) ∙ t
 

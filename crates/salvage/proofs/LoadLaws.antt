@@ -98,7 +98,8 @@ module _ (f : ℕ → Bool) (im : List ℕ) (n k : ℕ) where
   pub record TallyTo (i : ℕ) (t : Tally) : Type 0 where
     pub few : i ≤ n
     pub many : t.many ≤ i
-    pub is : tallied none_yet (kept_by f im n k) ≡ tallied t (map keeps (numbers_from (suc i) (n - i)))
+    pub is : tallied none_yet (kept_by f im n k)
+        ≡ tallied t (map keeps (numbers_from (suc i) (n - i)))
 
   pub tally-none : TallyTo 0 none_yet
   tally-none =
@@ -192,7 +193,8 @@ module _ (f : ℕ → Bool) (im : List ℕ) (n k : ℕ) where
               let no = eqb-false y (suc i) e in
               w.none j l (omega arith) y one (omega (arith, no))
 
-  held-nothing : (j a m : ℕ) → ((b : ℕ) → a ≤ b → b < a + m → kept_in (f b) n (box_body_of im b) j ≡ 0)
+  held-nothing : (j a m : ℕ) → ((b : ℕ) → a ≤ b → b < a + m
+      → kept_in (f b) n (box_body_of im b) j ≡ 0)
       → held (map (λ b. kept_in (f b) n (box_body_of im b) j) (numbers_from a m)) ≡ []
   unfolding held numbers_from
   held-nothing j a zero none = refl

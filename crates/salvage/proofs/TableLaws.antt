@@ -192,7 +192,10 @@ module _ (im : List ℕ) {count : ℕ} (is : count ≡ count_of im) where
   pub too_many : 3 ≤ count → most_bodies < count → false ≡ sound_table im
   unfolding sound_table
   too_many l h =
-      sym (rw (le-leb 3 (count_of im) (omega arith), lt-leb (count_of im) most_bodies (omega arith)))
+      sym (rw (
+        le-leb 3 (count_of im) (omega arith),
+        lt-leb (count_of im) most_bodies (omega arith),
+      ))
 
   pub no_table : 3 ≤ count → count ≤ most_bodies → length im < table_bytes count
       → false ≡ sound_table im

@@ -1,7 +1,8 @@
 -- "What it prints, one block an image": "for each body in order `body I general|box K|mail kept` or
 -- `body I .. set aside FIELD`; then [the load list]; or `refused 17` alone. .. Each block ends in a
 -- line `.`".
-use Rattle.std.specs.Prelude.{ℕ, ◌+◌, ◌≤◌, ◌<◌, ◌≡◌, Bool, true, false, List, [], ◌∷◌, ◌++◌, length, drop}
+use Rattle.std.specs.Prelude.{ℕ, ◌+◌, ◌≤◌, ◌<◌, ◌≡◌, Bool, true, false, List, [], ◌∷◌, ◌++◌, length}
+use Rattle.std.specs.Prelude.{drop}
 use Rattle.rules.specs.Pick.{pick}
 use Rattle.rules.specs.Sizes.{most_number}
 use Rattle.values.specs.declared.Field.{Field}
@@ -87,7 +88,8 @@ module _ (im : List ℕ) where
   found_box b = box_found n (loads_of n (general_of im)) b (box_body_of im b)
 
   abbrev pub found_mail : Found
-  found_mail = mail_found n (loads_of n (general_of im)) (mails_of n (general_of im)) (mail_body_of im)
+  found_mail = mail_found n (loads_of n (general_of im)) (mails_of n (general_of im))
+      (mail_body_of im)
 
   abbrev pub readable : ℕ → Bool
   readable b = is_kept (found_box b)

@@ -1,6 +1,7 @@
 -- "For every number that a readable box keeps as agreed: the record, how many boxes do so, or
 -- "differs" if two readable ones disagree."
-use Rattle.std.specs.Prelude.{ℕ, zero, suc, ◌+◌, ◌-◌, ◌*◌, Bool, ◌&&◌, List, [], ◌∷◌, ◌++◌, map, eqb, length}
+use Rattle.std.specs.Prelude.{ℕ, zero, suc, ◌+◌, ◌-◌, ◌*◌, Bool, ◌&&◌, List, [], ◌∷◌, ◌++◌, map}
+use Rattle.std.specs.Prelude.{eqb, length}
 use Rattle.rules.specs.Pick.{pick}
 use Rattle.rules.specs.Every.{each}
 use Rattle.rules.specs.Sizes.{left_of, right_of, within}

@@ -1,6 +1,7 @@
 -- The boxes one by one, for the functions that count: which of them are readable, what those seen
 -- so far keep, and the next number that one of them may keep.
-use Rattle.std.specs.Prelude.{ℕ, ◌+◌, ◌-◌, ◌≤◌, ◌<◌, ◌≡◌, Bool, false, not, ◌||◌, List, [], ◌∷◌, eqb, get_or}
+use Rattle.std.specs.Prelude.{ℕ, ◌+◌, ◌-◌, ◌≤◌, ◌<◌, ◌≡◌, Bool, false, not, ◌||◌, List, [], ◌∷◌}
+use Rattle.std.specs.Prelude.{eqb, get_or}
 use Rattle.rules.specs.Pick.{pick}
 use Rattle.salvage.specs.declared.loads.Tally.{Tally}
 use Rattle.salvage.specs.Loads.{kept_in, kept_by, held, record_text, differs_text}

@@ -1,5 +1,7 @@
 // What can be read from a damaged image (Q-8): its bodies, each kept or set aside, and the loads
 // that the boxes kept have as agreed, as the text of one block. Nothing here makes a site of it.
+#![tactic(auto)]
+
 ghost use Rattle.salvage.specs.Block.{Salvaged};
 
 mod block;

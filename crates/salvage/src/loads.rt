@@ -74,7 +74,8 @@ fn add(t: Tally, r: u64) -> Tally
 // What the boxes keep for number k.
 pub(crate) fn kept_by(image: &[u8], kept: &[u64], n: usize, k: u64) -> Tally
     requires image_value { (sound image.now ≡ true) × (n ≡ boxes_in image.now) }
-    requires n_le_most_boxes { (n ≤ most_boxes) × (length kept.now ≡ most_boxes) × (k ≤ most_number) }
+    requires n_le_most_boxes { (n ≤ most_boxes) × (length kept.now ≡ most_boxes)
+        × (k ≤ most_number) }
     ensures value { result ≡ tallied none_yet (kept_by (flagged kept.now) image.now n k) }
     ensures many_le_most_boxes { result.many ≤ most_boxes }
 {
@@ -122,7 +123,8 @@ fn least(a: u64, b: u64, k: u64) -> u64
 // The first number from k on that one of the boxes may keep.
 pub(crate) fn next_number(image: &[u8], kept: &[u64], n: usize, k: u64) -> u64
     requires image_value { (sound image.now ≡ true) × (n ≡ boxes_in image.now) }
-    requires n_le_most_boxes { (n ≤ most_boxes) × (length kept.now ≡ most_boxes) × (k ≤ most_number) }
+    requires n_le_most_boxes { (n ≤ most_boxes) × (length kept.now ≡ most_boxes)
+        × (k ≤ most_number) }
     ensures skips_all { SkipsAll (flagged kept.now) image.now n k result }
     ensures upper_bound { result ≤ most_number + 1 }
 {

@@ -32,7 +32,8 @@ use Rattle.image.proofs.BoxLaws.{peer-none, box-split, box-records, box_headed}
 use Rattle.image.proofs.BoxJudged.{box-passes}
 use Rattle.found.specs.declared.Found.{Found}
 use Rattle.found.specs.Stands.{word_at, words_at, groups_in}
-use Rattle.found.specs.Found.{leading, first_in, box_words_in, records_found, held_found, head_found}
+use Rattle.found.specs.Found.{leading, first_in, box_words_in, records_found, held_found}
+use Rattle.found.specs.Found.{head_found}
 use Rattle.found.specs.Found.{box_found}
 use Rattle.salvage.specs.Loads.{last_in, kept_in}
 use Rattle.salvage.proofs.KeptLaws.{word_first, word-last, word_count}

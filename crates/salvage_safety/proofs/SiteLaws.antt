@@ -25,7 +25,8 @@ use Rattle.bodies.proofs.Walked.{walked}
 use Rattle.found.specs.declared.Found.{Found}
 use Rattle.found.specs.Stands.{word_at, words_at}
 use Rattle.found.specs.Found.{is_kept, general_found, box_found, loads_of}
-use Rattle.salvage.specs.Table.{most_bytes, follow, sound_table, sound, boxes_in, general_of, box_body_of}
+use Rattle.salvage.specs.Table.{most_bytes, follow, sound_table, sound, boxes_in, general_of}
+use Rattle.salvage.specs.Table.{box_body_of}
 use Rattle.salvage.specs.Block.{found_general, found_box}
 use Rattle.salvage.proofs.TableLaws.{follow-sum}
 use Rattle.salvage_safety.proofs.ReadLaws.{words_stand, word_of}

@@ -142,7 +142,8 @@ first-lines input ls rest {s = s} e p =
     (retold-safely passes (held-done w.spoken)
     (λ b k l r q. line-done s b k l r (not-true _ q)) (spoken-safely.demand_3 w.spoken))
 
-whole-output : (input : List ℕ) {text : List ℕ} (o : Output (lines_of input) text) (k : ℕ) (s : Site)
+whole-output : (input : List ℕ) {text : List ℕ} (o : Output (lines_of input) text)
+    (k : ℕ) (s : Site)
     → run_after o ≡ going k s
     → Demand3 true false (said_from [] (answered_lines o)) (taken s) (firsts s)
 whole-output input {text} (stops.all-taken p) k s e =

@@ -1,5 +1,6 @@
 -- What is wrong with a line that cannot be read: the first of these that applies.
-use Rattle.std.specs.Prelude.{ℕ, ◌-◌, Bool, true, false, not, ◌||◌, List, [], ◌∷◌, eqb, ltb, length, get_or}
+use Rattle.std.specs.Prelude.{ℕ, ◌-◌, Bool, true, false, not, ◌||◌, List, [], ◌∷◌, eqb, ltb, length}
+use Rattle.std.specs.Prelude.{get_or}
 use Rattle.rules.specs.Pick.{pick}
 use Rattle.lines.specs.Table.{starts}
 use Rattle.wording.specs.declared.fault.Fault.{Fault}

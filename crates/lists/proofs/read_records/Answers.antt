@@ -1,5 +1,4 @@
 -- `lists::read_records` meets its contract.
-use Prim.Native.Nat.{◌-◌}
 use mathlib.Core.Path.{◌≡◌, ap, ◌∙◌}
 use native.Mathlib.Omega.{arith}
 use lib.ListN.{length, drop, length-set}
@@ -24,20 +23,23 @@ next-is c =
 
 pub returns-then-r-eq0 : goal.returns-then-r-eq0
 returns-then-r-eq0 c =
-    going-bad c.loop-n.invariant (next-is (goal.at.returns-then-r-eq0 c).After-record_in-r) c.if-r-eq0.true
+    going-bad c.loop-n.invariant (next-is (goal.at.returns-then-r-eq0 c).After-record_in-r)
+    c.if-r-eq0.true
 
 pub returns-then-t-e : goal.returns-then-t-e
 returns-then-t-e c =
     let cut = cut-rest c.args.s.now c.loop-n.i in
     let k = c.place_of-e.ensures.value ∙ ap (index_of 44) cut in
     let m = ap length cut in
-    going_end c.loop-n.invariant (next-is (goal.at.returns-then-t-e c).After-record_in-r) c.if-r-eq0.false (omega arith) (omega arith)
+    going_end c.loop-n.invariant (next-is (goal.at.returns-then-t-e c).After-record_in-r)
+    c.if-r-eq0.false (omega arith) (omega arith)
 
 pub loop-n-preserved : goal.loop-n-preserved
 loop-n-preserved c =
     let cut = cut-rest c.args.s.now c.loop-n.i in
     let m = ap length cut in
-    going_more c.loop-n.invariant (next-is (goal.at.loop-n-preserved c).After-record_in-r) c.if-r-eq0.false (omega arith)
+    going_more c.loop-n.invariant (next-is (goal.at.loop-n-preserved c).After-record_in-r)
+    c.if-r-eq0.false (omega arith)
     (c.place_of-e.ensures.value ∙ ap (index_of 44) cut) (omega arith)
 
 pub returns : goal.returns

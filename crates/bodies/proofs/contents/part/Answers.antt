@@ -20,7 +20,8 @@ is c =
     (sym (named-told c))
 
 pub overflow_add-result : goal.overflow_add-result
-overflow_add-result c = let end = (is (goal.at.overflow_add-result c).In-Part).end in record { fits = omega arith }
+overflow_add-result c = let end = (is (goal.at.overflow_add-result c).In-Part).end in
+    record { fits = omega arith }
 
 pub slice_bounds-result-end : goal.slice_bounds-result-end
 slice_bounds-result-end c = (is (goal.at.slice_bounds-result-end c).In-Part).end

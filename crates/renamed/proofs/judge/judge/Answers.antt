@@ -1,5 +1,4 @@
 -- `renamed::judge::judge` meets its contract.
-use Prim.Native.Nat.{◌-◌}
 use mathlib.Core.Path.{refl, sym, ◌∙◌}
 use native.Mathlib.Omega.{arith}
 use Rattle.renamed.proofs.TraceLaws.{judged-on, judged_uncut, judged-end}

@@ -1,5 +1,4 @@
 -- `renamed::text::has-room` meets its contract.
-use Prim.Native.Nat.{◌-◌}
 use Rattle.renamed.proofs.TextLaws.{room-start, here-good}
 use Rattle.renamed.proofs.TextLaws.{room-on, room-none, room-end}
 use Rattle.renamed.proofs.text.has_room.Goals as goal

@@ -1,5 +1,4 @@
 -- `renamed::text::put_lines` meets its contract.
-use Prim.Native.Nat.{◌-◌}
 use Rattle.renamed.proofs.TextLaws.{writing_start, now-good, next-room}
 use Rattle.renamed.proofs.TextLaws.{writing_on, writing_end}
 use Rattle.renamed.proofs.text.put_lines.Goals as goal

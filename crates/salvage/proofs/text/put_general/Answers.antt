@@ -1,0 +1,8 @@
+use native.Mathlib.Omega.{arith}
+use Rattle.print.proofs.WriteLaws.{then, at_most}
+use Rattle.salvage.proofs.text.put_general.Goals as goal
+
+pub returns : goal.returns
+returns c =
+    at_most (omega arith)
+    (then c.put_bytes-p.ensures c.put_found.ensures)
