@@ -25,7 +25,8 @@ use Rattle.site.proofs.KnownLaws.{AtBox}
 use Rattle.site.proofs.HoldsLaws.{row_here}
 use Rattle.agreed.specs.Agreed.{agreed_count, agreed_records, box_at, agreed_in, agreed_on}
 use Rattle.agreed.specs.Agreed.{records_on}
-use Rattle.agreed.specs.declared.Agreed.{Agreed}
+use Rattle.std.specs.Prelude.{Result, Ok, Err}
+use Rattle.agreed.specs.declared.Listed.{Listed}
 
 -- a row by form
 module _ (s : Setting) (r : List ℕ) (ok : RowByForm s r) where
@@ -48,6 +49,9 @@ module _ (s : Setting) (r : List ℕ) (ok : RowByForm s r) where
       agreed_records (box_of s.n r) ≡ part r head_words (agreed_count (box_of s.n r))
   records_are = take-take _ _ _ few
 
+abbrev pub listed : ℕ → ℕ → ℕ → Listed
+listed first place count = record { first = first; place = place; count = count }
+
 -- the row r of box c, of words by form
 module _ {xs ls : List ℕ} {c : ℕ} {s : Setting} (k : AtBox xs ls c s) where
   box-is : box_at xs ls c ≡ box_of s.n (row_at s.j xs c)
@@ -56,7 +60,7 @@ module _ {xs ls : List ℕ} {c : ℕ} {s : Setting} (k : AtBox xs ls c s) where
 
   pub kept-is : {r : List ℕ} {start count : ℕ} → r ≡ row_at s.j xs c
       → start ≡ row_start s.j c → count ≡ agreed_count (box_of s.n r)
-      → Agreed.Kept (get_or r first_at 0) (start + head_words) count ≡ agreed_in xs ls c
+      → Ok (listed (get_or r first_at 0) (start + head_words) count) ≡ agreed_in xs ls c
   unfolding agreed_in
   kept-is {r} {start} {count} cut at many =
       let box : box_at xs ls c ≡ box_of s.n r =
@@ -66,10 +70,10 @@ module _ {xs ls : List ℕ} {c : ℕ} {s : Setting} (k : AtBox xs ls c s) where
       let number : (box_at xs ls c).head.kept.first ≡ get_or r first_at 0 =
       ap (λ (x : Box). x.head.kept.first) box in
       sym (pick_true _ _ _ k.box
-      ∙ (λ i. Agreed.Kept (number i) (place i + head_words) ((ap agreed_count box ∙ sym many) i)))
+      ∙ (λ i. Ok (listed (number i) (place i + head_words) ((ap agreed_count box ∙ sym many) i))))
 
 pub no-box : (xs ls : List ℕ) (c : ℕ) → is_box (get_or xs n_at 0) c ≡ false
-    → Agreed.Refused Refusal.Box ≡ agreed_in xs ls c
+    → Err Refusal.Box ≡ agreed_in xs ls c
 unfolding agreed_in
 no-box xs ls c e = sym (pick-false _ _ _ e)
 
@@ -80,7 +84,7 @@ module _ (xs ls : List ℕ) (c : ℕ) where
   unfolding agreed_on
   formed-on f = sym (pick_true _ _ _ f)
 
-  pub unformed-on : memory_form xs ls ≡ false → Agreed.Refused Refusal.Form ≡ agreed_on xs ls c
+  pub unformed-on : memory_form xs ls ≡ false → Err Refusal.Form ≡ agreed_on xs ls c
   unfolding agreed_on
   unformed-on f = sym (pick-false _ _ _ f)
 
@@ -88,10 +92,10 @@ module _ (xs ls : List ℕ) (c : ℕ) where
 
 module _ (xs ls : List ℕ) (c : ℕ) where
   -- the part lies within the words, and is the records; none where it is refused
-  abbrev pub Found : Agreed → Type 0
-  Found (Agreed.Kept first at count) =
-      (at + count ≤ length xs) × (part xs at count ≡ records_on xs ls c)
-  Found (Agreed.Refused why) = [] ≡ records_on xs ls c
+  abbrev pub Found : Result Listed Refusal → Type 0
+  Found (Ok l) =
+      (l.place + l.count ≤ length xs) × (part xs l.place l.count ≡ records_on xs ls c)
+  Found (Err why) = [] ≡ records_on xs ls c
 
   module _ (f : memory_form xs ls ≡ true) (b : is_box (get_or xs n_at 0) c ≡ true) where
     at : AtBox xs ls c (setting_at xs c)
@@ -151,25 +155,24 @@ module _ (xs ls : List ℕ) (c : ℕ) where
   found =
       pick_elim Found (memory_form xs ls)
       (λ f. pick_elim Found (is_box (get_or xs n_at 0) c)
-      (λ b. subst (λ (x : Box). Found (Agreed.Kept x.head.kept.first
-      (row_start (get_or xs JAt 0) c + head_words) (agreed_count x))) (sym (box-is (at f b)))
+      (λ b. subst (λ (x : Box). Found (Ok (listed x.head.kept.first
+      (row_start (get_or xs JAt 0) c + head_words) (agreed_count x)))) (sym (box-is (at f b)))
       (kept-found f b))
       (not-a-box f))
       no-form
 
   -- w is what the code was answered
-  module _ {w : Agreed} (e : w ≡ agreed_on xs ls c) where
+  module _ {w : Result Listed Refusal} (e : w ≡ agreed_on xs ls c) where
     answered : Found w
     answered = subst Found (sym e) found
 
-    pub named-within : {first at count : ℕ} → w ≡ Agreed.Kept first at count
-        → at + count ≤ length xs
+    pub named-within : {l : Listed} → w ≡ Ok l → l.place + l.count ≤ length xs
     named-within t = (subst Found t answered).0
 
-    pub named_are : {first at count : ℕ} → w ≡ Agreed.Kept first at count
-        → take (at + count - at) (drop at xs) ≡ records_on xs ls c
-    named_are {first} {at} {count} t =
-        cut_at {a = at} {k = count} xs refl refl ∙ (subst Found t answered).1
+    pub named_are : {l : Listed} → w ≡ Ok l
+        → take (l.place + l.count - l.place) (drop l.place xs) ≡ records_on xs ls c
+    named_are {l} t =
+        cut_at {a = l.place} {k = l.count} xs refl refl ∙ (subst Found t answered).1
 
-    pub none_named : {why : Refusal} → w ≡ Agreed.Refused why → [] ≡ records_on xs ls c
+    pub none_named : {why : Refusal} → w ≡ Err why → [] ≡ records_on xs ls c
     none_named t = subst Found t answered

@@ -6,12 +6,15 @@ use lib.ListN.{length}
 use lib.Seq.{length-take-le}
 use Rattle.agreed.specs.Agreed.{agreed_count, box_at, agreed_on, named, records_on}
 use Rattle.agreed.specs.Places as specs
-use Rattle.agreed.specs.declared.Agreed.{Agreed}
+use Rattle.std.specs.Prelude.{Result, Ok, Err}
+use Rattle.agreed.specs.declared.Listed.{Listed}
+use Rattle.rules.specs.declared.model.Refusal.{Refusal}
 use Rattle.agreed.proofs.PlaceLaws.{Found, found, records-on, enough-held}
 
-handed : (xs ls : List ℕ) (c : ℕ) (w : Agreed) → Found xs ls c w → named xs w ≡ records_on xs ls c
-handed xs ls c (Agreed.Kept first at count) p = p.1
-handed xs ls c (Agreed.Refused why) p = p
+handed : (xs ls : List ℕ) (c : ℕ) (w : Result Listed Refusal) → Found xs ls c w
+    → named xs w ≡ records_on xs ls c
+handed xs ls c (Ok l) p = p.1
+handed xs ls c (Err why) p = p
 
 pub places : specs.Places
 places = record {

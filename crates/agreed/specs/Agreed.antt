@@ -7,7 +7,8 @@ use Rattle.rules.specs.Site.{is_box}
 use Rattle.rules.specs.declared.model.Refusal.{Refusal}
 use Rattle.row.specs.Row.{head_words}
 use Rattle.memory.specs.Memory.{n_at, JAt, row_start, site_of, memory_form}
-use Rattle.agreed.specs.declared.Agreed.{Agreed}
+use Rattle.std.specs.Prelude.{Result, Ok, Err}
+use Rattle.agreed.specs.declared.Listed.{Listed}
 
 -- how many numbers a box keeps as agreed: "from first to last" (Q-4)
 abbrev pub agreed_count : Box → ℕ
@@ -22,22 +23,24 @@ abbrev pub box_at : List ℕ → List ℕ → ℕ → Box
 box_at xs ls c = (site_of xs ls).box c
 
 -- 2 for no box; else the first number, where its record stands, and how many there are
-unfoldable pub agreed_in : List ℕ → List ℕ → ℕ → Agreed
+unfoldable pub agreed_in : List ℕ → List ℕ → ℕ → Result Listed Refusal
 agreed_in xs ls c =
     pick (is_box (get_or xs n_at 0) c)
-    (Agreed.Kept
-    (box_at xs ls c).head.kept.first (row_start (get_or xs JAt 0) c + head_words)
-    (agreed_count (box_at xs ls c)))
-    (Agreed.Refused Refusal.Box)
+    (Ok (record {
+      first = (box_at xs ls c).head.kept.first;
+      place = row_start (get_or xs JAt 0) c + head_words;
+      count = agreed_count (box_at xs ls c);
+    }))
+    (Err Refusal.Box)
 
 -- 1 first, for words that are not by form
-unfoldable pub agreed_on : List ℕ → List ℕ → ℕ → Agreed
-agreed_on xs ls c = pick (memory_form xs ls) (agreed_in xs ls c) (Agreed.Refused Refusal.Form)
+unfoldable pub agreed_on : List ℕ → List ℕ → ℕ → Result Listed Refusal
+agreed_on xs ls c = pick (memory_form xs ls) (agreed_in xs ls c) (Err Refusal.Form)
 
 -- the part of the words that an answer names, and none where it is refused
-abbrev pub named : List ℕ → Agreed → List ℕ
-named xs (Agreed.Kept first at count) = part xs at count
-named xs (Agreed.Refused why) = []
+abbrev pub named : List ℕ → Result Listed Refusal → List ℕ
+named xs (Ok l) = part xs l.place l.count
+named xs (Err why) = []
 
 -- the agreed records of box c, and none where it is refused
 unfoldable pub records_on : List ℕ → List ℕ → ℕ → List ℕ

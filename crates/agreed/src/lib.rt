@@ -14,9 +14,10 @@ use rules::ranges;
 // The first number that a box keeps, the word of `site` at which its record stands, and how many
 // records are agreed from it on.
 #[derive(Clone, Copy)]
-pub enum Agreed {
-    Kept(u64, usize, usize),
-    Refused(Refusal),
+pub struct Listed {
+    pub first: u64,
+    pub place: usize,
+    pub count: usize,
 }
 
 // How many numbers the box of a row keeps as agreed.
@@ -29,28 +30,32 @@ fn agreed_count(row: &[u64], s: Setting) -> usize
 }
 
 // Where the agreed records of box c stand, by words by form.
-fn agreed_formed(site: &[u64], links: &[u64], c: u32) -> Agreed
+fn agreed_formed(site: &[u64], links: &[u64], c: u32) -> Result<Listed, Refusal>
     requires { memory_form site.now links.now ≡ true }
     ensures { result ≡ agreed_in site.now links.now c }
 {
     let s = memory::setting_of(site, c);
     if !ranges::is_box(s.n, c) {
-        return Agreed::Refused(Refusal::Box);
+        return Err(Refusal::Box);
     }
     let start = memory::row_start(s, c);
     let row = memory::row_of(site, s, c);
     let count = agreed_count(row, s);
-    Agreed::Kept(row[row::FIRST], start + row::HEAD, count)
+    Ok(Listed {
+        first: row[row::FIRST],
+        place: start + row::HEAD,
+        count,
+    })
 }
 
 // Where the agreed records of box c stand, by any words.
-pub fn agreed_at(site: &[u64], links: &[u64], c: u32) -> Agreed
+pub fn agreed_at(site: &[u64], links: &[u64], c: u32) -> Result<Listed, Refusal>
     ensures { result ≡ agreed_on site.now links.now c }
 {
     if memory::is_by_form(site, links) {
         return agreed_formed(site, links, c);
     }
-    Agreed::Refused(Refusal::Form)
+    Err(Refusal::Form)
 }
 
 // The agreed records of box c: that part of the words itself, and none where it is refused.
@@ -58,7 +63,7 @@ pub fn agreed_records<'a>(site: &'a [u64], links: &[u64], c: u32) -> &'a [u64]
     ensures { result.now ≡ records_on site.now links.now c }
 {
     match agreed_at(site, links, c) {
-        Agreed::Kept(_, at, count) => &site[at..at + count],
-        Agreed::Refused(_) => &site[0..0],
+        Ok(l) => &site[l.place..l.place + l.count],
+        Err(_) => &site[0..0],
     }
 }

@@ -13,7 +13,7 @@ use Rattle.rules.specs.declared.model.Refusal.{Refusal}
 use Rattle.print.specs.Text.{Wrote}
 use Rattle.answer.specs.declared.ask.Asked.{Asked}
 use Rattle.answer.specs.declared.reply.Ask.{Ask}
-use Rattle.answer.specs.declared.tell.Told.{Told}
+use Rattle.std.specs.Prelude.{Option, Some, None}
 use Rattle.answer.specs.Asks.{Asks, AsksNothing, AskIs, asks, asks-long, asks_nothing}
 use Rattle.answer.specs.Text.{answer_text}
 use Rattle.answer.specs.Says.{text_room, lends, CallTold, AnswerIs}
@@ -72,7 +72,7 @@ found {line} {o} {n = n} {l} (asks {im} {l = k} b h) e =
 found (asks-long b h) e = absurd (let z : ◌≡◌ {A = ℕ} 0 1 = cc in omega arith)
 found (asks_nothing b) e = absurd (let z : ◌≡◌ {A = ℕ} 0 1 = cc in omega arith)
 
-pub answer-call : {line im p xs ls o q : List ℕ} {n : ℕ} {l : Ask} {r : Told}
+pub answer-call : {line im p xs ls o q : List ℕ} {n : ℕ} {l : Ask} {r : Option ℕ}
     → lends (length im) (length o) ≡ true → Found line im p n l
     → CallTold l (take n p) (length p) xs ls o r q → AnswerIs line (length im) xs ls o r q
 answer-call {p = p} {xs} {ls} {o} {q} {n} {l} {r} e f w =
@@ -80,7 +80,7 @@ answer-call {p = p} {xs} {ls} {o} {q} {n} {l} {r} e f w =
     (subst (λ (m : ℕ). CallTold l (take n p) m xs ls o r q) f.room w)
 
 pub answer-long : {line im p xs ls o : List ℕ} {a : Asked} → lends (length im) (length o) ≡ true
-    → AskIs line im a p → a ≡ Asked.Long → AnswerIs line (length im) xs ls o Told.Short o
+    → AskIs line im a p → a ≡ Asked.Long → AnswerIs line (length im) xs ls o None o
 answer-long e (asks b h) q = absurd (let z : ◌≡◌ {A = ℕ} 0 1 = cc in omega arith)
 answer-long e (asks-long b h) q = longer e b h
 answer-long e (asks_nothing b) q = absurd (let z : ◌≡◌ {A = ℕ} 0 1 = cc in omega arith)
@@ -93,6 +93,6 @@ found_none (asks_nothing b) e = b
 
 pub answer-nothing : {line xs ls o p : List ℕ} {m r : ℕ} → lends m (length o) ≡ true
     → AsksNothing line → Wrote 38 o p 0 r (answer_text (Answer.Refused Refusal.Line) [])
-    → AnswerIs line m xs ls o (Told.Length r) p
+    → AnswerIs line m xs ls o (Some r) p
 answer-nothing {o = o} {m = m} e n w =
     nothing e n (refused-told (omega (arith, lent-text m (length o) e)) w)

@@ -8,16 +8,16 @@ use lib.Dec.{eqb, ltb}
 use lib.ListN.{length, take, drop, get_or, length-append, length-drop}
 use lib.Seq.{take-length, take_all, take-append_seam, drop-append-add, split_at}
 use borrow.Author.Tests.{eqb-true, eq-eqb, ne_eqb, ltb-false}
+use Rattle.std.proofs.Common.{Option, Result}
 use Rattle.scan.specs.Bytes.{slice, index_after, index_of}
 use Rattle.rules.specs.Pick.{pick_true, pick-false}
 use Rattle.laws.proofs.Logic.{both-no}
 use Rattle.hexed.specs.Hex.{hex_of, smalls, Bytes, HexIs, read, long, bad}
-use Rattle.hexed.specs.declared.Hexed.{Hexed}
+use Rattle.hexed.specs.declared.HexError.{HexError}
 use Rattle.hexed.proofs.Once.{no_space}
 use Rattle.lines.specs.Printed.{readable}
 use Rattle.lines.specs.Read.{read_line, read_one}
 use Rattle.lines.specs.declared.Line.{Line}
-use Rattle.lines.specs.declared.One.{One}
 use Rattle.print.specs.Bytes.{bytes}
 use Rattle.answer.specs.declared.ask.Asked.{Asked}
 use Rattle.answer.specs.declared.reply.Ask.{Ask}
@@ -124,7 +124,8 @@ module _ (line part rest : List ℕ) (e : ℕ) (l : Ask) (at : e ≡ index_of 32
     served = f;
   }
 
-  asked_is : {o p : List ℕ} {h : Hexed} → HexIs part o h p → AskIs line o (asked_of h l) p
+  asked_is : {o p : List ℕ} {h : Result ℕ HexError} → HexIs part o h p
+      → AskIs line o (asked_of h l) p
   asked_is (read bs w fits t) = asks (asked bs w t) fits
   asked_is (long bs w over t) = asks-long (asked bs w t) over
   asked_is (bad n) =
@@ -132,7 +133,8 @@ module _ (line part rest : List ℕ) (e : ℕ) (l : Ask) (at : e ≡ index_of 32
       n im a.bytes (a.spells ∙ ap smalls (sym (parted line e at a).image ∙ sym hx)))
 
 -- the same, of the answer as it is computed; a part of the line comes as its own bytes
-pub asked_so : (line : List ℕ) (e k m : ℕ) {o p : List ℕ} {l : Ask} {h : Hexed} {r : Asked}
+pub asked_so : (line : List ℕ) (e k m : ℕ) {o p : List ℕ} {l : Ask}
+    {h : Result ℕ HexError} {r : Asked}
     → e ≡ index_of 32 line → e < length line → k ≡ e → length line ≤ m + (e + 1)
     → l ≡ ask_of (take m (drop (e + 1) line)) → served l ≡ true
     → HexIs (take k line) o h p → r ≡ asked_of h l → AskIs line o r p
@@ -154,7 +156,7 @@ line-asked t {l} k r e f =
     same (Line.Holds c m left right) g = refl
     same Line.Unreadable g = absurd (both-no g refl)
 
-pub run-asked : (t : List ℕ) {l : Line} {o : One} {other r : Ask} → l ≡ read_line t
+pub run-asked : (t : List ℕ) {l : Line} {o : Option ℕ} {other r : Ask} → l ≡ read_line t
     → l ≡ Line.Unreadable → o ≡ read_one (bytes "run ") t → other ≡ find_read t
     → r ≡ run_read o other → r ≡ ask_of t
 run-asked t e f g h q =
@@ -176,7 +178,7 @@ word-within t n = go (ltb (length t) 5) refl n
     go false e h = ltb-false (length t) 5 e
 
 -- the parts of the text come as their own bytes
-pub find-asked : (t : List ℕ) (e k m : ℕ) {c left : One} {r : Ask}
+pub find-asked : (t : List ℕ) (e k m : ℕ) {c left : Option ℕ} {r : Ask}
     → (ltb (length t) 5 || ltb 64 (length t)) ≡ false
     → e ≡ 5 + index_of 32 (slice 5 (length t) t) → k ≡ e → length t ≤ m + e
     → c ≡ read_one (bytes "find ") (take k t) → left ≡ read_one (bytes " ") (take m (drop e t))

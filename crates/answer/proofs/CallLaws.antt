@@ -19,7 +19,8 @@ use Rattle.site.specs.Entries.{FreshMade, fresh_on}
 use Rattle.site.proofs.AfterLaws.{no_needs, need-met, need-not}
 use Rattle.image.specs.Image.{image_of}
 use Rattle.image.proofs.MemoryImage.{memory_bounded}
-use Rattle.writer.specs.declared.Written.{Written}
+use Rattle.std.specs.Prelude.{Ok, Err}
+use Rattle.writer.specs.Writer.{Written}
 use Rattle.writer.specs.Writer.{WriteIs, too_short, written}
 use Rattle.writer.specs.Writer.{not-by-form as not-formed}
 use Rattle.reader.specs.Reader.{ReadIs, not-by-form, done}
@@ -28,8 +29,7 @@ use Rattle.reader.specs.Reader.{Holds as Stored}
 use Rattle.reader.proofs.Once.{held-form, held-room}
 use Rattle.answer.specs.declared.reply.Ask.{Ask}
 use Rattle.answer.specs.declared.reply.Reply.{Reply}
-use Rattle.answer.specs.declared.call.Came.{Came}
-use Rattle.answer.specs.declared.tell.Told.{Told}
+use Rattle.std.specs.Prelude.{Option, Some, None}
 use Rattle.answer.specs.Replies.{served, outcome_of, unchanged}
 use Rattle.answer.specs.Calls.{refusal, Holds, Fits, fits, no_room, Comes, unserved, none}
 use Rattle.answer.specs.Calls.{few_words, some, no-sizes, no_words, made, front, CallIs}
@@ -51,17 +51,17 @@ front_length im o h =
 -- ---- the writer
 
 pub put-done : {xs ls o p : List ℕ} {w : Written} {n : ℕ} (a : Reply) → WriteIs xs ls o w p
-    → w ≡ Written.Length n → PutIs a (image_of (site_of xs ls)) o (Came.Answered a n) p
+    → w ≡ Ok n → PutIs a (image_of (site_of xs ls)) o (Some (a, n)) p
 put-done a (not-formed f) e = absurd (let z : ◌≡◌ {A = ℕ} 0 1 = cc in omega arith)
 put-done a (too_short f h) e = absurd (let z : ◌≡◌ {A = ℕ} 0 1 = cc in omega arith)
 put-done {xs} {ls} {o} {n = n} a (written f h) e =
     let im = image_of (site_of xs ls) in
     let k : length im ≡ n = cc in
-    subst (λ (m : ℕ). PutIs a im o (Came.Answered a m) (front im o)) k (put h)
+    subst (λ (m : ℕ). PutIs a im o (Some (a, m)) (front im o)) k (put h)
 
 pub put-short : {xs ls o p : List ℕ} {w : Written} {f : Refusal} (a : Reply) → WriteIs xs ls o w p
-    → memory_form xs ls ≡ true → w ≡ Written.Refused f
-    → PutIs a (image_of (site_of xs ls)) o Came.Short p
+    → memory_form xs ls ≡ true → w ≡ Err f
+    → PutIs a (image_of (site_of xs ls)) o None p
 put-short a (not-formed g) h e = absurd (both-no h g)
 put-short a (too_short g l) h e = not-put l
 put-short a (written g l) h e = absurd (let z : ◌≡◌ {A = ℕ} 0 1 = cc in omega arith)
@@ -69,7 +69,8 @@ put-short a (written g l) h e = absurd (let z : ◌≡◌ {A = ℕ} 0 1 = cc in 
 -- ---- the engine
 
 module _ (l : Ask) (xs ls xs' ls' : List ℕ) {a : Reply} (s : Serves l xs ls xs' ls' a) where
-  pub put-served : {o p : List ℕ} {c : Came} → PutIs a (image_of (site_of xs' ls')) o c p
+  pub put-served : {o p : List ℕ} {c : Option (Reply × ℕ)}
+      → PutIs a (image_of (site_of xs' ls')) o c p
       → PutIs (outcome_of (site_of xs ls) l).answer (image_of (outcome_of (site_of xs ls) l).next) o
       c
       p
@@ -82,13 +83,13 @@ module _ (l : Ask) (xs ls xs' ls' : List ℕ) {a : Reply} (s : Serves l xs ls xs
   pub put_refused : (o : List ℕ) (n : ℕ) → unchanged a ≡ true → n ≤ length o
       → image_of (site_of xs ls) ≡ take n o
       → PutIs (outcome_of (site_of xs ls) l).answer (image_of (outcome_of (site_of xs ls) l).next) o
-      (Came.Answered a n) o
+      (Some (a, n)) o
   put_refused o n r h e = let k = s.kept r in
       let same : image_of (site_of xs' ls') ≡ take n o =
       (λ i. image_of (site_of (k.0 i) (k.1 i))) ∙ e in
-      put-served (subst (λ (im : List ℕ). PutIs a im o (Came.Answered a n) o) (sym same)
-      (subst (λ (q : List ℕ). PutIs a (take n o) o (Came.Answered a n) q) (front_same o n h)
-      (subst (λ (m : ℕ). PutIs a (take n o) o (Came.Answered a m) (front (take n o) o))
+      put-served (subst (λ (im : List ℕ). PutIs a im o (Some (a, n)) o) (sym same)
+      (subst (λ (q : List ℕ). PutIs a (take n o) o (Some (a, n)) q) (front_same o n h)
+      (subst (λ (m : ℕ). PutIs a (take n o) o (Some (a, m)) (front (take n o) o))
       (length-take-le n o h) (put (omega (arith, length-take-le n o h))))))
 
 -- ---- the reader
@@ -114,35 +115,37 @@ held {ys = ys} {ks} h =
 
 module _ (l : Ask) (n : ℕ) (o : List ℕ) {xs ls : List ℕ} (inside : n ≤ length o) where
   -- the image stays
-  stays : {c : Came} → Comes (take n o) l xs ls (length o) c (take n o) → CallIs l n xs ls o c o
+  stays : {c : Option (Reply × ℕ)} → Comes (take n o) l xs ls (length o) c (take n o)
+      → CallIs l n xs ls o c o
   stays {c} w =
       subst (λ (q : List ℕ). CallIs l n xs ls o c q) (front_same o n inside) (called inside w)
 
   refused_so : {a : Reply}
-      → Comes (take n o) l xs ls (length o) (Came.Answered a (length (take n o))) (take n o)
-      → CallIs l n xs ls o (Came.Answered a n) o
+      → Comes (take n o) l xs ls (length o) (Some (a, length (take n o))) (take n o)
+      → CallIs l n xs ls o (Some (a, n)) o
   refused_so {a} w =
-      subst (λ (m : ℕ). CallIs l n xs ls o (Came.Answered a m) o) (length-take-le n o inside)
+      subst (λ (m : ℕ). CallIs l n xs ls o (Some (a, m)) o) (length-take-le n o inside)
       (stays w)
 
   pub call-unserved : served l ≡ false
-      → CallIs l n xs ls o (Came.Answered (refusal Refusal.Line) n) o
+      → CallIs l n xs ls o (Some (refusal Refusal.Line, n)) o
   call-unserved s = refused_so (unserved s)
 
   pub call-short : {a : Answer} {ys ks : List ℕ} → served l ≡ true
-      → ReadIs (take n o) xs ls a ys ks → answer_number a ≡ 12 → CallIs l n xs ls o Came.Short o
+      → ReadIs (take n o) xs ls a ys ks → answer_number a ≡ 12 → CallIs l n xs ls o None o
   call-short s (not-by-form m) e = absurd (omega arith)
   call-short s (too_few t f i w) e = stays (few_words s t f i w)
   call-short s (done h) e = absurd (omega arith)
 
   pub call_none : {a : Answer} {ys ks : List ℕ} → served l ≡ true
       → ReadIs (take n o) xs ls a ys ks → (answer_number a ≡ 0 → ⊥) → (answer_number a ≡ 12 → ⊥)
-      → CallIs l n xs ls o (Came.Answered (refusal Refusal.Form) n) o
+      → CallIs l n xs ls o (Some (refusal Refusal.Form, n)) o
   call_none s (not-by-form m) d e = refused_so (none s m)
   call_none s (too_few t f i w) d e = absurd (e refl)
   call_none s (done h) d e = absurd (d refl)
 
-  pub call-some : {ys ks p : List ℕ} {c : Came} → served l ≡ true → Stored (take n o) xs ls ys ks
+  pub call-some : {ys ks p : List ℕ} {c : Option (Reply × ℕ)} → served l ≡ true
+      → Stored (take n o) xs ls ys ks
       → PutIs (outcome_of (site_of ys ks) l).answer (image_of (outcome_of (site_of ys ks) l).next) o
       c
       p → CallIs l n xs ls o c p
@@ -154,42 +157,46 @@ module _ (l : Ask) (n : ℕ) (o : List ℕ) {xs ls : List ℕ} (inside : n ≤ l
 -- ---- the image that is left
 
 -- what came has its image, of at most m bytes, at the front of the buffer
-data Left (after : List ℕ) (m : ℕ) : Came → Type 0 where
-  answered : {a : Reply} → length after ≤ m → Left after m (Came.Answered a (length after))
-  shorter : length after ≤ m → Left after m Came.Short
+data Left (after : List ℕ) (m : ℕ) : Option (Reply × ℕ) → Type 0 where
+  answered : {a : Reply} → length after ≤ m → Left after m (Some (a, length after))
+  shorter : length after ≤ m → Left after m None
 
-left-fits : {a : Reply} {im old after : List ℕ} {m : ℕ} {c : Came} → Fits a im old m c after
+left-fits : {a : Reply} {im old after : List ℕ} {m : ℕ} {c : Option (Reply × ℕ)}
+    → Fits a im old m c after
     → length old ≤ m → Left after m c
 left-fits (fits e) h = answered e
 left-fits (no_room e) h = shorter h
 
-left : {im xs ls after : List ℕ} {l : Ask} {m : ℕ} {c : Came} → Comes im l xs ls m c after
+left : {im xs ls after : List ℕ} {l : Ask} {m : ℕ} {c : Option (Reply × ℕ)}
+    → Comes im l xs ls m c after
     → length im ≤ m → Left after m c
 left (unserved s) h = answered h
 left (none s n) h = answered h
 left (few_words s t f i w) h = shorter h
 left (some s t k w f) h = left-fits f h
 
-left-within : {after : List ℕ} (o : List ℕ) {c : Came} → Left after (length o) c
+left-within : {after : List ℕ} (o : List ℕ) {c : Option (Reply × ℕ)} → Left after (length o) c
     → within (length (front after o)) c × (length (front after o) ≡ length o)
 left-within {after} o (answered h) = let e = front_length after o h in (omega arith, e)
 left-within {after} o (shorter h) = (tt, front_length after o h)
 
-told-left : {after : List ℕ} (b : List ℕ) {c : Came} {o q : List ℕ} {r : Told}
+told-left : {after : List ℕ} (b : List ℕ) {c : Option (Reply × ℕ)} {o q : List ℕ} {r : Option ℕ}
     → Left after (length b) c → TellIs (image_in c (front after b)) o c r q → TellIs after o c r q
 told-left {after} b {o = o} {q} {r} (answered {a} h) t =
-    subst (λ (x : List ℕ). TellIs x o (Came.Answered a (length after)) r q)
+    subst (λ (x : List ℕ). TellIs x o (Some (a, length after)) r q)
     (take-append_seam after (drop (length after) b)) t
 told-left b (shorter h) short = short
 
 -- what `call_on_image` leaves, for the one who tells it
-pub call-within : {l : Ask} {n : ℕ} {xs ls im p : List ℕ} {c : Came} → CallIs l n xs ls im c p
+pub call-within : {l : Ask} {n : ℕ} {xs ls im p : List ℕ} {c : Option (Reply × ℕ)}
+    → CallIs l n xs ls im c p
     → n ≤ length im → within (length p) c × (length p ≡ length im)
 call-within (too_long h) k = absurd (omega arith)
 call-within {n = n} {im = im} (called h w) k =
     left-within im (left w (omega (arith, length-take-le n im h)))
 
-pub told-call : {l : Ask} {n : ℕ} {xs ls im p : List ℕ} {c : Came} {o q : List ℕ} {r : Told}
+pub told-call : {l : Ask} {n : ℕ} {xs ls im p : List ℕ} {c : Option (Reply × ℕ)}
+    {o q : List ℕ} {r : Option ℕ}
     → CallIs l n xs ls im c p → n ≤ length im → TellIs (image_in c p) o c r q
     → CallTold l (take n im) (length im) xs ls o r q
 told-call (too_long h) k t = absurd (omega arith)
@@ -241,28 +248,29 @@ module _ (n J L : ℕ) (xs ls xs' ls' : List ℕ) (a : Answer) (w : FreshMade n 
         (λ s k q. absurd (omega (arith, ap answer_number q))) (λ s k q t. w.form (ap is_refusal q))
 
     module _ {o : List ℕ} where
-      pub fresh-short : answer_number a ≡ 12 → FreshIs n J L xs ls o Came.Short o
+      pub fresh-short : answer_number a ≡ 12 → FreshIs n J L xs ls o None o
       fresh-short e =
-          fresh-by (FreshIs n J L xs ls o Came.Short o)
+          fresh-by (FreshIs n J L xs ls o None o)
           (λ s q. absurd (omega (arith, ap answer_number q))) (λ s k q. comes (no_words s k))
           (λ s k q t. absurd (omega (arith, ap answer_number q)))
 
       pub fresh-refused : (answer_number a ≡ 0 → ⊥) → (answer_number a ≡ 12 → ⊥)
-          → FreshIs n J L xs ls o (Came.Answered (Reply.Answer a) 0) o
+          → FreshIs n J L xs ls o (Some (Reply.Answer a, 0)) o
       fresh-refused d e =
-          fresh-by (FreshIs n J L xs ls o (Came.Answered (Reply.Answer a) 0) o)
-          (λ s q. subst (λ (b : Answer). FreshIs n J L xs ls o (Came.Answered (Reply.Answer b) 0) o)
+          fresh-by (FreshIs n J L xs ls o (Some (Reply.Answer a, 0)) o)
+          (λ s q. subst (λ (b : Answer). FreshIs n J L xs ls o (Some (Reply.Answer b, 0)) o)
           (sym q)
           (comes (no-sizes s))) (λ s k q. absurd (e (ap answer_number q)))
           (λ s k q t. absurd (d (ap answer_number q)))
 
-      fresh-put : {c : Came} {p : List ℕ} → sizes_form n J L ≡ true → enough n J L xs ls ≡ true
+      fresh-put : {c : Option (Reply × ℕ)} {p : List ℕ} → sizes_form n J L ≡ true
+          → enough n J L xs ls ≡ true
           → PutIs (Reply.Answer Answer.Done) (image_of (fresh n J L)) o c p
           → FreshIs n J L xs ls o c p
       fresh-put s e (put h) = comes (made s e (fits h))
       fresh-put s e (not-put h) = comes (made s e (no_room h))
 
-      pub fresh-made : {c : Came} {p : List ℕ} → answer_number a ≡ 0
+      pub fresh-made : {c : Option (Reply × ℕ)} {p : List ℕ} → answer_number a ≡ 0
           → PutIs (Reply.Answer a) (image_of (site_of xs' ls')) o c p → FreshIs n J L xs ls o c p
       fresh-made {c} {p} z v =
           fresh-by (FreshIs n J L xs ls o c p) (λ s q. absurd (omega (arith, ap answer_number q)))

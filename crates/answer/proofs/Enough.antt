@@ -1,4 +1,4 @@
--- With room for every site nothing is too short: `answer` says Short only of a line whose image is
+-- With room for every site nothing is too short: `answer` says None only of a line whose image is
 -- longer than any site's, and `call_on_image`, `fresh_image` and `unheard_on_image` never do.
 use Prim.Native.Nat.{ℕ, ◌≤◌, ◌<◌}
 use mathlib.Core.Path.{◌≡◌, refl, ap, sym, ◌∙◌}
@@ -8,6 +8,7 @@ use native.Mathlib.Omega.{arith}
 use lib.Dec.{ltb}
 use lib.ListN.{length, take, drop}
 use borrow.Author.Tests.{le-leb}
+use Rattle.std.proofs.Common.{Option, Some, None}
 use Rattle.rules.specs.Site.{Site, fresh}
 use Rattle.rules.specs.Form.{form}
 use Rattle.rules.specs.declared.model.Call.{Call}
@@ -21,17 +22,14 @@ use Rattle.image.specs.Image.{image_of}
 use Rattle.image.specs.Longest.{longest_of_all}
 use Rattle.image.proofs.LongestLaws.{any_image}
 use Rattle.lines.specs.declared.Line.{Line}
-use Rattle.lines.specs.declared.One.{One}
 use Rattle.lines.specs.Read.{read_line, read_one}
 use Rattle.print.specs.Bytes.{bytes}
 use Rattle.wait.proofs.RunForm.{run-form}
 use Rattle.lines.specs.Printed.{readable, in_range}
 use Rattle.lines.proofs.Exact.{exact}
 use Rattle.lines.proofs.Ranges.{call_fits}
-use Rattle.answer.specs.declared.call.Came.{Came}
+use Rattle.std.specs.Prelude.{None}
 use Rattle.answer.specs.declared.reply.Ask.{Ask}
-use Rattle.answer.specs.declared.tell.Told.{Told}
-use Rattle.answer.specs.declared.unheard.Seen.{Seen}
 use Rattle.answer.specs.Asks.{Asks, run_read, find_of, second_space, find_read, ask_read, ask_of}
 use Rattle.answer.specs.Calls.{refusal, HoldsNone, no_room, Comes, few_words, some}
 use Rattle.answer.specs.Calls.{FreshComes, no_words, made, CallIs, too_long, called, FreshIs}
@@ -63,7 +61,7 @@ next-form s (Ask.Run steps) r e = run-form s steps e
 next-form s (Ask.Find c left) r e = e
 
 pub comes_ample : {im xs ls after : List ℕ} {l : Ask} {m : ℕ} → ask_in_range l ≡ true
-    → Ample m (length xs) (length ls) → Comes im l xs ls m Came.Short after → ⊥
+    → Ample m (length xs) (length ls) → Comes im l xs ls m None after → ⊥
 comes_ample {xs = xs} {ls} r lent (few_words v s f e w) =
     both-no (words-enough xs ls lent (form-says f).sizes) w
 comes_ample {l = l} r lent (some v s h w (no_room k)) =
@@ -72,23 +70,23 @@ comes_ample {l = l} r lent (some v s h w (no_room k)) =
 -- ---- on an image in a buffer
 
 pub call_ample : {l : Ask} {n : ℕ} {xs ls o p : List ℕ} → ask_in_range l ≡ true
-    → Ample (length o) (length xs) (length ls) → CallIs l n xs ls o Came.Short p → length o < n
+    → Ample (length o) (length xs) (length ls) → CallIs l n xs ls o None p → length o < n
 call_ample r lent (too_long h) = h
 call_ample r lent (called h w) = absurd (comes_ample r lent w)
 
 fresh_comes_ample : {n J L m : ℕ} {xs ls after : List ℕ} → Ample m (length xs) (length ls)
-    → FreshComes n J L xs ls m Came.Short after → ⊥
+    → FreshComes n J L xs ls m None after → ⊥
 fresh_comes_ample {xs = xs} {ls} lent (no_words s e) =
     both-no (words-enough xs ls lent (sizes-says s)) e
 fresh_comes_ample {n} {J} {L} lent (made s e (no_room k)) =
     omega (arith, any_image (fresh n J L) (fresh-form n J L s), lent.image)
 
 pub fresh_ample : {n J L : ℕ} {xs ls o p : List ℕ} → Ample (length o) (length xs) (length ls)
-    → FreshIs n J L xs ls o Came.Short p → ⊥
+    → FreshIs n J L xs ls o None p → ⊥
 fresh_ample lent (comes w) = fresh_comes_ample lent w
 
 pub unheard_ample : {c m : ℕ} {im xs ls : List ℕ} → Ample m (length xs) (length ls)
-    → UnheardIs c im xs ls Seen.Short → ⊥
+    → UnheardIs c im xs ls None → ⊥
 unheard_ample {xs = xs} {ls} lent (few-seen s f e w) =
     both-no (words-enough xs ls lent (form-says f).sizes) w
 
@@ -107,18 +105,18 @@ no_line t l h f =
     none : Ask.Line Line.Unreadable ≡ Ask.Line l → ⊥
     none g = let k : Line.Unreadable ≡ l = cc in both-no h (ap readable (sym k))
 
-    found : (c left : One) → find_of c left ≡ Ask.Line l → ⊥
-    found (One.Number c) (One.Number left) g = let z : ◌≡◌ {A = ℕ} 0 1 = cc in omega arith
-    found (One.Number c) One.Unreadable g = none g
-    found One.Unreadable left g = none g
+    found : (c left : Option ℕ) → find_of c left ≡ Ask.Line l → ⊥
+    found (Some c) (Some left) g = let z : ◌≡◌ {A = ℕ} 0 1 = cc in omega arith
+    found (Some c) None g = none g
+    found None left g = none g
 
 -- a line is asked what its text says, in numbers of 32 bits
 line-range : (t : List ℕ) (l : Line) → readable l ≡ true → ask_of t ≡ Ask.Line l → in_range l ≡ true
 line-range t l h e = ((exact t l h).0 (go (read_line t) refl e)).1
   where
-    no_run : (o : One) → run_read o (find_read t) ≡ Ask.Line l → ⊥
-    no_run (One.Number steps) f = let z : ◌≡◌ {A = ℕ} 0 1 = cc in omega arith
-    no_run One.Unreadable f = no_line t l h f
+    no_run : (o : Option ℕ) → run_read o (find_read t) ≡ Ask.Line l → ⊥
+    no_run (Some steps) f = let z : ◌≡◌ {A = ℕ} 0 1 = cc in omega arith
+    no_run None f = no_line t l h f
 
     same : {k : Line} → Ask.Line k ≡ Ask.Line l → k ≡ l
     same f = cc
@@ -143,7 +141,7 @@ none-longer : (im : List ℕ) → longest_of_all < length im → HoldsNone im
 none-longer im h s f e = omega (arith, any_image s f, ap length e)
 
 pub short-only : {line xs ls o p : List ℕ} {m : ℕ} → Ample m (length xs) (length ls)
-    → text_room m ≤ length o → AnswerIs line m xs ls o Told.Short p → TooLong line
+    → text_room m ≤ length o → AnswerIs line m xs ls o None p → TooLong line
 unfolding lends
 short-only {o = o} {m = m} lent h (too_short e) =
     absurd (both-no (le-leb (text_room m) (length o) h) e)

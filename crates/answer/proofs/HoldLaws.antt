@@ -11,13 +11,13 @@ use lib.ListN.{length, take, drop, get_or, set, length-append}
 use lib.Seq.{take_all, take-append-add, length-take-le}
 use lib.Seq.{paste, paste-suc}
 use borrow.Author.Tests.{ltb-true, ltb-false, lt-ltb}
+use Rattle.std.proofs.Common.{Option, None}
 use Rattle.rules.specs.Pick.{pick_true}
 use Rattle.laws.proofs.Logic.{both-no, or_left, or_right}
 use Rattle.hexed.specs.Hex.{hex_of}
 use Rattle.hexed.proofs.HexLaws.{digits-length, smalls-length}
 use Rattle.lines.specs.Read.{read_line}
 use Rattle.lines.specs.declared.Line.{Line}
-use Rattle.lines.specs.declared.One.{One}
 use Rattle.lines.specs.Read.{read_one}
 use Rattle.print.specs.Bytes.{bytes}
 use Rattle.answer.specs.declared.reply.Ask.{Ask}
@@ -90,7 +90,7 @@ long-line : (s : List ℕ) → 64 < length s → read_line s ≡ Line.Unreadable
 unfolding read_line
 long-line s h = pick_true _ _ _ (lt-ltb 64 (length s) h)
 
-long-one : (w s : List ℕ) → 64 < length s → read_one w s ≡ One.Unreadable
+long-one : (w s : List ℕ) → 64 < length s → read_one w s ≡ None
 unfolding read_one
 long-one w s h = pick_true _ _ _ (or_left _ (lt-ltb 64 (length s) h))
 
@@ -101,7 +101,7 @@ long-find s h = pick_true _ _ _ (or_right (ltb (length s) 5) (lt-ltb 64 (length 
 long-call : (s : List ℕ) → 64 < length s → ask_of s ≡ Ask.Line Line.Unreadable
 long-call s h =
     ap (λ (k : Line). ask_read k s) (long-line s h)
-    ∙ ap (λ (o : One). run_read o (find_read s)) (long-one (bytes "run ") s h) ∙ long-find s h
+    ∙ ap (λ (o : Option ℕ). run_read o (find_read s)) (long-one (bytes "run ") s h) ∙ long-find s h
 
 -- a line that asks of an image of at most m bytes has fewer bytes than are kept
 pub asks-short : (m : ℕ) {line im : List ℕ} {l : Ask} → 1 ≤ m → Asks line im l → length im ≤ m

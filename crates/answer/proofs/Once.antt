@@ -1,6 +1,7 @@
 -- Nothing else could satisfy what `answer`, `call_on_image`, `fresh_image` and `unheard_on_image`
 -- say: one answer, one buffer; and the text that `answer` writes is what the paper's rules say of
 -- the line.
+use Rattle.std.specs.Prelude.{Result}
 use Prim.Native.Nat.{ℕ}
 use mathlib.Core.Path.{◌≡◌, refl, ap, sym, ◌∙◌, subst}
 use mathlib.Core.List.{List}
@@ -18,12 +19,10 @@ use Rattle.hexed.proofs.Once.{hex-same}
 use Rattle.image.specs.Image.{image_of}
 use Rattle.image.proofs.OneImage.{one-site}
 use Rattle.reader.proofs.Once.{same-room}
-use Rattle.answer.specs.declared.call.Came.{Came}
+use Rattle.std.specs.Prelude.{Option, Some}
 use Rattle.answer.specs.declared.reply.Ask.{Ask}
 use Rattle.answer.specs.declared.reply.Reply.{Reply}
-use Rattle.answer.specs.declared.tell.Told.{Told}
 use Rattle.answer.specs.Replies.{outcome_of}
-use Rattle.answer.specs.declared.unheard.Seen.{Seen}
 use Rattle.answer.specs.Asks.{Asks, ask_of}
 use Rattle.answer.specs.Calls.{Holds, Fits, fits, no_room, Comes, unserved, none}
 use Rattle.answer.specs.Calls.{few_words, some, FreshComes, no-sizes, no_words, made, front}
@@ -55,21 +54,23 @@ holds-once {s = s} {t} h k =
 -- ---- what comes of a call
 
 -- one thing comes, and one image is there afterwards
-pub record Same (c d : Came) (p q : List ℕ) : Type 0 where
+pub record Same (c d : Option (Reply × ℕ)) (p q : List ℕ) : Type 0 where
   pub came : c ≡ d
   pub image : p ≡ q
 
-same : {c : Came} {p : List ℕ} → Same c c p p
+same : {c : Option (Reply × ℕ)} {p : List ℕ} → Same c c p p
 same = record { came = refl; image = refl }
 
-fits-once : {a : Reply} {im old p q : List ℕ} {m : ℕ} {c d : Came} → Fits a im old m c p
+fits-once : {a : Reply} {im old p q : List ℕ} {m : ℕ} {c d : Option (Reply × ℕ)}
+    → Fits a im old m c p
     → Fits a im old m d q → Same c d p q
 fits-once (fits h) (fits k) = same
 fits-once (fits h) (no_room k) = absurd (omega arith)
 fits-once (no_room h) (fits k) = absurd (omega arith)
 fits-once (no_room h) (no_room k) = same
 
-pub comes-once : {im xs ls p q : List ℕ} {l : Ask} {m : ℕ} {c d : Came} → Comes im l xs ls m c p
+pub comes-once : {im xs ls p q : List ℕ} {l : Ask} {m : ℕ} {c d : Option (Reply × ℕ)}
+    → Comes im l xs ls m c p
     → Comes im l xs ls m d q → Same c d p q
 comes-once (unserved s) (unserved t) = same
 comes-once (unserved s) (none t n) = absurd (both-no t s)
@@ -94,18 +95,20 @@ comes-once {im} {q = q} {l} {m} {d = d} (some s x h w v) (some t y k z u) =
     (holds-once k h) u)
 
 -- of the buffer o
-front-once : (o : List ℕ) {c d : Came} {p q : List ℕ} → Same c d p q
+front-once : (o : List ℕ) {c d : Option (Reply × ℕ)} {p q : List ℕ} → Same c d p q
     → Same c d (front p o) (front q o)
 front-once o s = record { came = s.came; image = ap (λ (p : List ℕ). front p o) s.image }
 
-pub call-once : {l : Ask} {n : ℕ} {xs ls o p q : List ℕ} {c d : Came} → CallIs l n xs ls o c p
+pub call-once : {l : Ask} {n : ℕ} {xs ls o p q : List ℕ} {c d : Option (Reply × ℕ)}
+    → CallIs l n xs ls o c p
     → CallIs l n xs ls o d q → Same c d p q
 call-once (too_long h) (too_long k) = same
 call-once (too_long h) (called k v) = absurd (omega arith)
 call-once (called h w) (too_long k) = absurd (omega arith)
 call-once {o = o} (called h w) (called k v) = front-once o (comes-once w v)
 
-fresh-comes-once : {n J L m : ℕ} {xs ls p q : List ℕ} {c d : Came} → FreshComes n J L xs ls m c p
+fresh-comes-once : {n J L m : ℕ} {xs ls p q : List ℕ} {c d : Option (Reply × ℕ)}
+    → FreshComes n J L xs ls m c p
     → FreshComes n J L xs ls m d q → Same c d p q
 fresh-comes-once (no-sizes s) (no-sizes t) = same
 fresh-comes-once (no-sizes s) (no_words t e) = absurd (both-no t s)
@@ -117,13 +120,15 @@ fresh-comes-once (made s e w) (no-sizes t) = absurd (both-no s t)
 fresh-comes-once (made s e w) (no_words t f) = absurd (both-no e f)
 fresh-comes-once (made s e w) (made t f v) = fits-once w v
 
-pub fresh-once : {n J L : ℕ} {xs ls o p q : List ℕ} {c d : Came} → FreshIs n J L xs ls o c p
+pub fresh-once : {n J L : ℕ} {xs ls o p q : List ℕ} {c d : Option (Reply × ℕ)}
+    → FreshIs n J L xs ls o c p
     → FreshIs n J L xs ls o d q → Same c d p q
 fresh-once {o = o} (comes w) (comes v) = front-once o (fresh-comes-once w v)
 
 -- ---- what is said of a lease
 
-pub unheard-once : {c : ℕ} {im xs ls : List ℕ} {r q : Seen} → UnheardIs c im xs ls r
+pub unheard-once : {c : ℕ} {im xs ls : List ℕ} {r q : Option (Result ℕ Refusal)}
+    → UnheardIs c im xs ls r
     → UnheardIs c im xs ls q → r ≡ q
 unheard-once (no-site n) (no-site k) = refl
 unheard-once (no-site n) (few-seen x f e w) = absurd (n x f e)
@@ -136,30 +141,31 @@ unheard-once (seen x h w) (no-site n) = absurd (n x h.form h.image)
 unheard-once {xs = xs} {ls} (seen x h w) (few-seen y g d v) =
     absurd (both-no w (same-room x y xs ls h.form g (h.image ∙ sym d) ∙ v))
 unheard-once {c} (seen x h w) (seen y k v) =
-    ap (λ (s : Site). Seen.Said (unheard s c)) (holds-once h k)
+    ap (λ (s : Site). Some (unheard s c)) (holds-once h k)
 
 -- ---- what is told
 
-pub record Alike (a b : Told) (p q : List ℕ) : Type 0 where
+pub record Alike (a b : Option ℕ) (p q : List ℕ) : Type 0 where
   pub answer : a ≡ b
   pub buffer : p ≡ q
 
-alike : {a : Told} {p : List ℕ} → Alike a a p p
+alike : {a : Option ℕ} {p : List ℕ} → Alike a a p p
 alike = record { answer = refl; buffer = refl }
 
-tell-once : {im o p q : List ℕ} {c : Came} {a b : Told} → TellIs im o c a p → TellIs im o c b q
+tell-once : {im o p q : List ℕ} {c : Option (Reply × ℕ)} {a b : Option ℕ} → TellIs im o c a p
+    → TellIs im o c b q
     → Alike a b p q
 tell-once told told = alike
 tell-once short short = alike
 
-told-once : {l : Ask} {im xs ls o p q : List ℕ} {m : ℕ} {a b : Told}
+told-once : {l : Ask} {im xs ls o p q : List ℕ} {m : ℕ} {a b : Option ℕ}
     → CallTold l im m xs ls o a p → CallTold l im m xs ls o b q → Alike a b p q
 told-once {o = o} {q = q} {b = b} (call-told {after = x} {c = c} w t)
     (call-told {after = y} {c = d} v u) = let s = comes-once v w in
-    tell-once t (subst (λ (e : Came). TellIs x o e b q) s.came
+    tell-once t (subst (λ (e : Option (Reply × ℕ)). TellIs x o e b q) s.came
     (subst (λ (i : List ℕ). TellIs i o d b q) s.image u))
 
-pub answer-once : {line xs ls o p q : List ℕ} {m : ℕ} {a b : Told} → AnswerIs line m xs ls o a p
+pub answer-once : {line xs ls o p q : List ℕ} {m : ℕ} {a b : Option ℕ} → AnswerIs line m xs ls o a p
     → AnswerIs line m xs ls o b q → Alike a b p q
 answer-once (too_short e) (too_short f) = alike
 answer-once (too_short e) (asks_nothing f n w) = absurd (both-no f e)
@@ -184,17 +190,17 @@ answer-once {xs = xs} {ls} {o} {q = q} {m} {b = b} (asks {im} e x h w) (asks {l 
 -- ---- what is written is what the rules say
 
 front-is : {im o p : List ℕ} {a : Reply} {k n : ℕ}
-    → TellIs im o (Came.Answered a k) (Told.Length n) p → take n p ≡ reply_text a im
+    → TellIs im o (Some (a, k)) (Some n) p → take n p ≡ reply_text a im
 front-is {im} {o} {a = a} told =
     take-append_seam (reply_text a im) (drop (length (reply_text a im)) o)
 
 -- what fits is told with its image
-front-fits : {a : Reply} {im old after o p : List ℕ} {m n : ℕ} {c : Came}
-    → Fits a im old m c after → TellIs after o c (Told.Length n) p → take n p ≡ reply_text a im
+front-fits : {a : Reply} {im old after o p : List ℕ} {m n : ℕ} {c : Option (Reply × ℕ)}
+    → Fits a im old m c after → TellIs after o c (Some n) p → take n p ≡ reply_text a im
 front-fits (fits e) w = front-is w
 front-fits (no_room e) w = elim w [ ]
 
-pub rules_say : {line xs ls o p : List ℕ} {m n : ℕ} → AnswerIs line m xs ls o (Told.Length n) p
+pub rules_say : {line xs ls o p : List ℕ} {m n : ℕ} → AnswerIs line m xs ls o (Some n) p
     → Says line (take n p)
 rules_say {line} (asks_nothing e k w) =
     subst (λ (t : List ℕ). Says line t) (sym (front-is w)) (unreadable k)

@@ -13,7 +13,7 @@ use Rattle.site.specs.Entries.{FormedStep}
 use Rattle.lines.specs.declared.Line.{Line}
 use Rattle.wait.specs.declared.model.Run.{Run}
 use Rattle.find.specs.Find.{find}
-use Rattle.find.specs.declared.Found.{Found}
+use Rattle.std.specs.Prelude.{Option, Result}
 use Rattle.until.specs.Until.{none_used, FormedRun}
 use Rattle.answer.specs.declared.reply.Ask.{Ask}
 use Rattle.answer.specs.declared.reply.Reply.{Reply}
@@ -81,7 +81,8 @@ of-run {xs} {ls} {xs'} {ls'} {r = r} e s =
     none-used (Run.Stopped why used) h = absurd (both-no h refl)
     none-used (Run.Refused why) h = refl
 
-pub of-find : {xs ls : List ℕ} {l : Ask} {c left : ℕ} {w : Found} → l ≡ Ask.Find c left
+pub of-find : {xs ls : List ℕ} {l : Ask} {c left : ℕ} {w : Result (Option ℕ) Refusal}
+    → l ≡ Ask.Find c left
     → memory_form xs ls ≡ true → w ≡ find (site_of xs ls) c left
     → Serves l xs ls xs ls (Reply.Found w)
 of-find {xs} {ls} {w = w} e f h =

@@ -6,6 +6,7 @@ use mathlib.Core.List.{List, [], ◌∷◌, ◌++◌}
 use native.Mathlib.Omega.{arith}
 use lib.ListN.{length, take, drop}
 use lib.Seq.{sets-eq, length-take-le}
+use Rattle.rules.specs.declared.model.Refusal.{Refusal}
 use Rattle.rules.specs.Numbers.{answer_number}
 use Rattle.rules.specs.declared.model.Answer.{Answer}
 use Rattle.rules.specs.declared.model.Cause.{Cause}
@@ -15,10 +16,9 @@ use Rattle.print.specs.Text.{Wrote}
 use Rattle.print.proofs.WriteLaws.{spelled, at_most}
 use Rattle.hexed.specs.Hex.{hex_of}
 use Rattle.wait.specs.declared.model.Run.{Run}
-use Rattle.find.specs.declared.Found.{Found}
-use Rattle.answer.specs.declared.call.Came.{Came}
+use Rattle.std.specs.Prelude.{Option, Result}
+use Rattle.std.specs.Prelude.{Some, None}
 use Rattle.answer.specs.declared.reply.Reply.{Reply}
-use Rattle.answer.specs.declared.tell.Told.{Told}
 use Rattle.answer.specs.Calls.{within, image_in}
 use Rattle.answer.specs.Text.{cause_word, word_of, answer_text, run_text, found_text, reply_text}
 use Rattle.answer.specs.Says.{text_room, TellIs, told, short}
@@ -60,7 +60,7 @@ pub run-wrote : {r q : Run} (im : List ℕ) {m i j : ℕ} {o p : List ℕ} → r
     → Wrote m o p i j (run_text q im) → Wrote m o p i j (run_text r im)
 run-wrote im e w = spelled (ap (λ (k : Run). run_text k im) (sym e)) w
 
-pub found-wrote : {w v : Found} {i j : ℕ} {o p : List ℕ} → w ≡ v
+pub found-wrote : {w v : Result (Option ℕ) Refusal} {i j : ℕ} {o p : List ℕ} → w ≡ v
     → Wrote 38 o p i j (found_text v) → Wrote 38 o p i j (found_text w)
 found-wrote e h = spelled (ap found_text (sym e)) h
 
@@ -81,17 +81,17 @@ front {r = r} {o = o} {t = t} h w =
 
 -- a text that was written at the front is told
 told-text : {a : Reply} {k r n : ℕ} {im o p : List ℕ} → k ≤ length o
-    → Wrote k o p 0 r (reply_text a im) → TellIs im o (Came.Answered a n) (Told.Length r) p
+    → Wrote k o p 0 r (reply_text a im) → TellIs im o (Some (a, n)) (Some r) p
 told-text {a} {r = r} {n} {im} {o} h w =
     let t = reply_text a im in
     let s = front h w in
-    subst (λ (q : List ℕ). TellIs im o (Came.Answered a n) (Told.Length r) q) (sym s.1)
-    (subst (λ (m : ℕ). TellIs im o (Came.Answered a n) (Told.Length m) (t ++ drop (length t) o))
+    subst (λ (q : List ℕ). TellIs im o (Some (a, n)) (Some r) q) (sym s.1)
+    (subst (λ (m : ℕ). TellIs im o (Some (a, n)) (Some m) (t ++ drop (length t) o))
     (sym s.0) told)
 
 pub refused-told : {a : Answer} {r : ℕ} {o p : List ℕ} → 38 ≤ length o
     → Wrote 38 o p 0 r (answer_text a [])
-    → TellIs [] o (Came.Answered (Reply.Answer a) 0) (Told.Length r) p
+    → TellIs [] o (Some (Reply.Answer a, 0)) (Some r) p
 refused-told h w = told-text h w
 
 -- ---- the line of any answer
@@ -111,19 +111,21 @@ image-wrote a im w = at_most (omega arith) w
 pub part_length : (image : List ℕ) (n k : ℕ) → k ≡ n → n ≤ length image → length (take k image) ≡ n
 part_length image n k e h = length-take-le k image (omega arith) ∙ e
 
-pub told-came : (image : List ℕ) (k : ℕ) {a : Reply} {c : Came} {n r : ℕ} {o q : List ℕ}
-    → c ≡ Came.Answered a n → k ≡ n → n ≤ length image → text_room (length image) ≤ length o
+pub told-came : (image : List ℕ) (k : ℕ) {a : Reply} {c : Option (Reply × ℕ)}
+    {n r : ℕ} {o q : List ℕ}
+    → c ≡ Some (a, n) → k ≡ n → n ≤ length image → text_room (length image) ≤ length o
     → Wrote (text_room (length (take k image))) o q 0 r (reply_text a (take k image))
-    → TellIs (image_in c image) o c (Told.Length r) q
+    → TellIs (image_in c image) o c (Some r) q
 told-came image k {a} {c} {n} {r} {o} {q} e f h g w =
-    subst (λ (d : Came). TellIs (image_in d image) o d (Told.Length r) q) (sym e)
+    subst (λ (d : Option (Reply × ℕ)). TellIs (image_in d image) o d (Some r) q) (sym e)
     (told-text (omega (arith, part_length image n k f h))
     (spelled (ap (λ (i : ℕ). reply_text a (take i image)) f) w))
 
-pub told_none : (image : List ℕ) {c : Came} {o : List ℕ} → c ≡ Came.Short
-    → TellIs (image_in c image) o c Told.Short o
+pub told_none : (image : List ℕ) {c : Option (Reply × ℕ)} {o : List ℕ} → c ≡ None
+    → TellIs (image_in c image) o c None o
 told_none image {c} {o} e =
-    subst (λ (d : Came). TellIs (image_in d image) o d Told.Short o) (sym e) short
+    subst (λ (d : Option (Reply × ℕ)). TellIs (image_in d image) o d None o) (sym e) short
 
-pub came-within : {c : Came} {a : Reply} {m n : ℕ} → within m c → c ≡ Came.Answered a n → n ≤ m
-came-within {m = m} h e = subst (λ (d : Came). within m d) e h
+pub came-within : {c : Option (Reply × ℕ)} {a : Reply} {m n : ℕ} → within m c
+    → c ≡ Some (a, n) → n ≤ m
+came-within {m = m} h e = subst (λ (d : Option (Reply × ℕ)). within m d) e h

@@ -1,4 +1,5 @@
 -- What is said of a lease, from what reader and engine say; and the text of a set, box by box.
+use Rattle.std.specs.Prelude.{Result, Err}
 use Prim.Native.Nat.{ℕ, ◌+◌, ◌<◌}
 use mathlib.Core.Path.{◌≡◌, refl, ap, sym, ◌∙◌, subst}
 use mathlib.Core.Bool.{Bool, true, false, not, cond}
@@ -10,7 +11,6 @@ use Rattle.rules.specs.Sets.{bit, includes}
 use Rattle.rules.specs.Unheard.{unheard}
 use Rattle.rules.specs.declared.model.Answer.{Answer}
 use Rattle.rules.specs.declared.model.Refusal.{Refusal}
-use Rattle.rules.specs.declared.model.Unheard.{Unheard}
 use Rattle.memory.specs.Memory.{site_of}
 use Rattle.print.specs.Decimal.{decimal}
 use Rattle.print.specs.Text.{Wrote}
@@ -19,27 +19,27 @@ use Rattle.print.proofs.WriteLaws.{nothing, then, spelled}
 use Rattle.reader.specs.Reader.{ReadIs, not-by-form, done}
 use Rattle.reader.specs.Reader.{too_short as too_few}
 use Rattle.reader.proofs.Once.{held-room}
-use Rattle.answer.specs.declared.unheard.Seen.{Seen}
+use Rattle.std.specs.Prelude.{Some, None}
 use Rattle.answer.specs.Unheard.{UnheardIs, none, few_words, some, box_line}
 use Rattle.answer.proofs.CallLaws.{read_done, held}
 
-pub seen-some : {c : ℕ} {im xs ls ys ks : List ℕ} {a : Answer} {u : Unheard}
+pub seen-some : {c : ℕ} {im xs ls ys ks : List ℕ} {a : Answer} {u : Result ℕ Refusal}
     → ReadIs im xs ls a ys ks → answer_number a ≡ 0 → u ≡ unheard (site_of ys ks) c
-    → UnheardIs c im xs ls (Seen.Said u)
+    → UnheardIs c im xs ls (Some u)
 seen-some {c} {im} {xs} {ls} {ys} {ks} w e f =
     let h = read_done w e in
-    subst (λ (u : Unheard). UnheardIs c im xs ls (Seen.Said u)) (sym f)
+    subst (λ (u : Result ℕ Refusal). UnheardIs c im xs ls (Some u)) (sym f)
     (some (site_of ys ks) (held h) (held-room h))
 
 pub seen-short : {c : ℕ} {im xs ls ys ks : List ℕ} {a : Answer} → ReadIs im xs ls a ys ks
-    → answer_number a ≡ 12 → UnheardIs c im xs ls Seen.Short
+    → answer_number a ≡ 12 → UnheardIs c im xs ls None
 seen-short (not-by-form n) e = absurd (omega arith)
 seen-short (too_few s f i w) e = few_words s f i w
 seen-short (done h) e = absurd (omega arith)
 
 pub seen_none : {c : ℕ} {im xs ls ys ks : List ℕ} {a : Answer} → ReadIs im xs ls a ys ks
     → (answer_number a ≡ 0 → ⊥) → (answer_number a ≡ 12 → ⊥)
-    → UnheardIs c im xs ls (Seen.Said (Unheard.Refused Refusal.Form))
+    → UnheardIs c im xs ls (Some (Err Refusal.Form))
 seen_none (not-by-form n) d e = none n
 seen_none (too_few s f i w) d e = absurd (e refl)
 seen_none (done h) d e = absurd (d refl)

@@ -1,32 +1,31 @@
 -- What a line asks: an image in hex, one space, and a call or a holds line of a trace, or `run` and
 -- a number of steps (Q-9), or `find`, a box and a left frame (Q-5).
 use Rattle.std.specs.Prelude.{ℕ, ◌+◌, ◌≤◌, ◌<◌, ◌≡◌, true, ◌||◌, List, ◌∷◌, ◌++◌, ltb, length, take}
-use Rattle.std.specs.Prelude.{drop}
+use Rattle.std.specs.Prelude.{drop, Option, Some, None, Result, Ok, Err}
 use Rattle.scan.specs.Bytes.{index_of}
 use Rattle.rules.specs.Pick.{pick}
 use Rattle.hexed.specs.Hex.{hex_of, smalls, Bytes}
-use Rattle.hexed.specs.declared.Hexed.{Hexed}
+use Rattle.hexed.specs.declared.HexError.{HexError}
 use Rattle.print.specs.Bytes.{bytes}
 use Rattle.lines.specs.Read.{read_line, read_one}
 use Rattle.lines.specs.declared.Line.{Line}
-use Rattle.lines.specs.declared.One.{One}
 use Rattle.answer.specs.declared.ask.Asked.{Asked}
 use Rattle.answer.specs.declared.reply.Ask.{Ask}
 use Rattle.answer.specs.Replies.{served}
 
 -- a run, else what other asks
-abbrev pub run_read : One → Ask → Ask
-run_read (One.Number steps) other = Ask.Run steps
-run_read One.Unreadable other = other
+abbrev pub run_read : Option ℕ → Ask → Ask
+run_read (Some steps) other = Ask.Run steps
+run_read None other = other
 
 -- two numbers, or nothing that can be read
-abbrev pub find_at : ℕ → One → Ask
-find_at c (One.Number left) = Ask.Find c left
-find_at c One.Unreadable = Ask.Line Line.Unreadable
+abbrev pub find_at : ℕ → Option ℕ → Ask
+find_at c (Some left) = Ask.Find c left
+find_at c None = Ask.Line Line.Unreadable
 
-abbrev pub find_of : One → One → Ask
-find_of (One.Number c) left = find_at c left
-find_of One.Unreadable left = Ask.Line Line.Unreadable
+abbrev pub find_of : Option ℕ → Option ℕ → Ask
+find_of (Some c) left = find_at c left
+find_of None left = Ask.Line Line.Unreadable
 
 -- where the first space behind the word `find` and its own stands, or the text's end
 abbrev pub second_space : List ℕ → ℕ
@@ -65,10 +64,10 @@ abbrev pub AsksNothing : List ℕ → Type 0
 AsksNothing line = (im : List ℕ) (l : Ask) → Asks line im l → ⊥
 
 -- the image's text is hex, or not
-abbrev pub asked_of : Hexed → Ask → Asked
-asked_of (Hexed.Length k) l = Asked.Step k l
-asked_of Hexed.Long l = Asked.Long
-asked_of Hexed.Bad l = Asked.Unreadable
+abbrev pub asked_of : Result ℕ HexError → Ask → Asked
+asked_of (Ok k) l = Asked.Step k l
+asked_of (Err HexError.Long) l = Asked.Long
+asked_of (Err HexError.Bad) l = Asked.Unreadable
 
 -- what `ask` finds, and what the buffer o becomes
 pub data AskIs (line o : List ℕ) : Asked → List ℕ → Type 0 where

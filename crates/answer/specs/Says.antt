@@ -4,8 +4,7 @@ use Rattle.std.specs.Prelude.{length, drop}
 use Rattle.rules.specs.declared.model.Refusal.{Refusal}
 use Rattle.rules.specs.Site.{Site}
 use Rattle.image.specs.Image.{image_of}
-use Rattle.answer.specs.declared.call.Came.{Came}
-use Rattle.answer.specs.declared.tell.Told.{Told}
+use Rattle.std.specs.Prelude.{Option, Some, None}
 use Rattle.answer.specs.Asks.{Asks, AsksNothing}
 use Rattle.answer.specs.declared.reply.Ask.{Ask}
 use Rattle.answer.specs.declared.reply.Reply.{Reply}
@@ -38,25 +37,26 @@ lends m k = leb (text_room m) k
 
 -- what came is told: the answer's text, with the image im after it, goes to the front of o; else o
 -- stays
-pub data TellIs (im o : List ℕ) : Came → Told → List ℕ → Type 0 where
+pub data TellIs (im o : List ℕ) : Option (Reply × ℕ) → Option ℕ → List ℕ → Type 0 where
   told : {a : Reply} {n : ℕ}
-      → TellIs im o (Came.Answered a n) (Told.Length (length (reply_text a im)))
+      → TellIs im o (Some (a, n)) (Some (length (reply_text a im)))
       (reply_text a im ++ drop (length (reply_text a im)) o)
-  short : TellIs im o Came.Short Told.Short o
+  short : TellIs im o None None o
 
 -- what came of l on the image im, told
 pub data CallTold (l : Ask) (im : List ℕ) (m : ℕ) (xs ls o : List ℕ)
-    : Told → List ℕ → Type 0 where
-  call-told : {after p : List ℕ} {c : Came} {r : Told} → Comes im l xs ls m c after
+    : Option ℕ → List ℕ → Type 0 where
+  call-told : {after p : List ℕ} {c : Option (Reply × ℕ)} {r : Option ℕ}
+      → Comes im l xs ls m c after
       → TellIs after o c r p → CallTold l im m xs ls o r p
 
 -- the answer to any line, with m bytes for images and the words xs and ls
-pub data AnswerIs (line : List ℕ) (m : ℕ) (xs ls o : List ℕ) : Told → List ℕ → Type 0 where
-  too_short : lends m (length o) ≡ false → AnswerIs line m xs ls o Told.Short o
-  asks_nothing : {p : List ℕ} {r : Told} → lends m (length o) ≡ true → AsksNothing line
-      → TellIs [] o (Came.Answered (refusal Refusal.Line) 0) r p
+pub data AnswerIs (line : List ℕ) (m : ℕ) (xs ls o : List ℕ) : Option ℕ → List ℕ → Type 0 where
+  too_short : lends m (length o) ≡ false → AnswerIs line m xs ls o None o
+  asks_nothing : {p : List ℕ} {r : Option ℕ} → lends m (length o) ≡ true → AsksNothing line
+      → TellIs [] o (Some (refusal Refusal.Line, 0)) r p
       → AnswerIs line m xs ls o r p
   asks-long : {im : List ℕ} {l : Ask} → lends m (length o) ≡ true → Asks line im l
-      → m < length im → AnswerIs line m xs ls o Told.Short o
-  asks : {im p : List ℕ} {l : Ask} {r : Told} → lends m (length o) ≡ true → Asks line im l
+      → m < length im → AnswerIs line m xs ls o None o
+  asks : {im p : List ℕ} {l : Ask} {r : Option ℕ} → lends m (length o) ≡ true → Asks line im l
       → length im ≤ m → CallTold l im m xs ls o r p → AnswerIs line m xs ls o r p

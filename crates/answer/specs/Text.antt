@@ -1,6 +1,7 @@
 -- The line of an answer: "`refused N`, or `done HEX`, or for mail `taken HEX` or `discarded
 -- role|phase|number|place HEX`", HEX the image after.
 use Rattle.std.specs.Prelude.{cond, ℕ, List, [], ◌∷◌, ◌++◌}
+use Rattle.rules.specs.declared.model.Refusal.{Refusal}
 use Rattle.rules.specs.Numbers.{answer_number, refusal_number}
 use Rattle.rules.specs.declared.model.Answer.{Answer}
 use Rattle.rules.specs.declared.model.Cause.{Cause}
@@ -9,7 +10,7 @@ use Rattle.print.specs.Bytes.{bytes}
 use Rattle.print.specs.Decimal.{decimal}
 use Rattle.hexed.specs.Hex.{hex_of}
 use Rattle.wait.specs.declared.model.Run.{Run}
-use Rattle.find.specs.declared.Found.{Found}
+use Rattle.std.specs.Prelude.{Option, Some, None, Result, Ok, Err}
 use Rattle.answer.specs.declared.reply.Reply.{Reply}
 
 abbrev pub cause_word : Cause → List ℕ
@@ -41,10 +42,10 @@ run_text (Run.Stopped why used) im =
 run_text (Run.Refused why) im = answer_text (Answer.Refused why) im
 
 -- "`found NUMBER`, `none` or `refused N`" (Q-5): no image, for it stays
-unfoldable pub found_text : Found → List ℕ
-found_text (Found.Number k) = bytes "found " ++ (decimal k ++ (10 ∷ []))
-found_text Found.None = bytes "none" ++ (10 ∷ [])
-found_text (Found.Refused why) = answer_text (Answer.Refused why) []
+unfoldable pub found_text : Result (Option ℕ) Refusal → List ℕ
+found_text (Ok (Some k)) = bytes "found " ++ (decimal k ++ (10 ∷ []))
+found_text (Ok None) = bytes "none" ++ (10 ∷ [])
+found_text (Err why) = answer_text (Answer.Refused why) []
 
 abbrev pub reply_text : Reply → List ℕ → List ℕ
 reply_text (Reply.Answer a) im = answer_text a im

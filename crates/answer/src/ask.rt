@@ -5,11 +5,12 @@ ghost use Rattle.answer.specs.Asks.{run_read, find_at, find_of, find_read, ask_o
 ghost use Rattle.answer.specs.Replies.{served_line, served};
 
 use crate::reply::Ask;
-use hexed::Hexed;
-use lines::{Line, One};
+use hexed::HexError;
+use lines::Line;
 
 // The image's length and what is to be done with it; or that there is no room for the image; or
-// that the line asks nothing.
+// that the line asks nothing. The three are three ends, and no Result of an Option says them
+// better.
 #[derive(Clone, Copy)]
 pub enum Asked {
     Step(usize, Ask),
@@ -39,30 +40,30 @@ pub(crate) fn serves(l: Ask) -> bool
 }
 
 // A text that is no line of a trace: where it is no run, it asks something else.
-fn run_or(t: One, other: Ask) -> Ask
+fn run_or(t: Option<u32>, other: Ask) -> Ask
     ensures { result ≡ run_read t other }
 {
     match t {
-        One::Number(steps) => Ask::Run(steps),
-        One::Unreadable => other,
+        Some(steps) => Ask::Run(steps),
+        None => other,
     }
 }
 
-fn find_at(c: u32, left: One) -> Ask
+fn find_at(c: u32, left: Option<u32>) -> Ask
     ensures { result ≡ find_at c left }
 {
     match left {
-        One::Number(k) => Ask::Find(c, k),
-        One::Unreadable => Ask::Line(Line::Unreadable),
+        Some(k) => Ask::Find(c, k),
+        None => Ask::Line(Line::Unreadable),
     }
 }
 
-fn find_of(c: One, left: One) -> Ask
+fn find_of(c: Option<u32>, left: Option<u32>) -> Ask
     ensures { result ≡ find_of c left }
 {
     match c {
-        One::Number(k) => find_at(k, left),
-        One::Unreadable => Ask::Line(Line::Unreadable),
+        Some(k) => find_at(k, left),
+        None => Ask::Line(Line::Unreadable),
     }
 }
 
@@ -95,13 +96,13 @@ pub fn read_ask(text: &[u8]) -> Ask
     }
 }
 
-fn found(h: Hexed, l: Ask) -> Asked
+fn found(h: Result<usize, HexError>, l: Ask) -> Asked
     ensures { result ≡ asked_of h l }
 {
     match h {
-        Hexed::Length(k) => Asked::Step(k, l),
-        Hexed::Long => Asked::Long,
-        Hexed::Bad => Asked::Unreadable,
+        Ok(k) => Asked::Step(k, l),
+        Err(HexError::Long) => Asked::Long,
+        Err(HexError::Bad) => Asked::Unreadable,
     }
 }
 

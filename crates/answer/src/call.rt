@@ -9,31 +9,30 @@ use crate::reply::{Ask, Reply};
 use crate::{ask, reply, serve};
 use rules::model::{Answer, Refusal};
 use rules::numbers;
-use writer::Written;
 
-// What came of it: the answer, and how many bytes the image after it has; or what was lent is too
+// The image of words by form, after the answer a, goes to the front of the buffer. What comes of a
+// call is the answer and how many bytes the image after it has; nothing where what was lent is too
 // short.
-#[derive(Clone, Copy)]
-pub enum Came {
-    Answered(Reply, usize),
-    Short,
-}
-
-// The image of words by form, after the answer a, goes to the front of the buffer.
-fn put(a: Reply, image: &mut [u8], site: &[u64], links: &[u64]) -> Came
+fn put(a: Reply, image: &mut [u8], site: &[u64], links: &[u64]) -> Option<(Reply, usize)>
     requires { memory_form site.now links.now ≡ true }
     ensures { PutIs a (image_of (site_of site.now links.now))
         image.old result image.new }
 {
     let w = writer::write_formed(site, links, image);
     match w {
-        Written::Length(n) => Came::Answered(a, n),
-        Written::Refused(_) => Came::Short,
+        Ok(n) => Some((a, n)),
+        Err(_) => None,
     }
 }
 
 // What l asks of words by form, whose image stands in the first n bytes of the buffer.
-fn call_formed(l: Ask, n: usize, image: &mut [u8], site: &mut [u64], links: &mut [u64]) -> Came
+fn call_formed(
+    l: Ask,
+    n: usize,
+    image: &mut [u8],
+    site: &mut [u64],
+    links: &mut [u64],
+) -> Option<(Reply, usize)>
     requires links_value { memory_form site.old links.old ≡ true }
     requires n_in_bounds { n ≤ length image.old }
     requires links_value_2 { image_of (site_of site.old links.old) ≡ take n image.old }
@@ -43,13 +42,19 @@ fn call_formed(l: Ask, n: usize, image: &mut [u8], site: &mut [u64], links: &mut
 {
     let a = serve::serve(site, links, l);
     if reply::is_unchanged(a) {
-        return Came::Answered(a, n);
+        return Some((a, n));
     }
     put(a, image, site, links)
 }
 
 // The image is read into the words: 1, else 12 as a short room, else l is done.
-fn call_served(l: Ask, n: usize, image: &mut [u8], site: &mut [u64], links: &mut [u64]) -> Came
+fn call_served(
+    l: Ask,
+    n: usize,
+    image: &mut [u8],
+    site: &mut [u64],
+    links: &mut [u64],
+) -> Option<(Reply, usize)>
     requires l_value { served l ≡ true }
     requires n_in_bounds { n ≤ length image.old }
     ensures { CallIs l n site.old links.old
@@ -61,9 +66,9 @@ fn call_served(l: Ask, n: usize, image: &mut [u8], site: &mut [u64], links: &mut
         return call_formed(l, n, image, site, links);
     }
     if k == 12 {
-        return Came::Short;
+        return None;
     }
-    Came::Answered(Reply::Answer(Answer::Refused(Refusal::Form)), n)
+    Some((Reply::Answer(Answer::Refused(Refusal::Form)), n))
 }
 
 // What l asks of the image in the first n bytes of the buffer; the image after it goes to the
@@ -74,15 +79,15 @@ pub fn call_on_image(
     image: &mut [u8],
     site: &mut [u64],
     links: &mut [u64],
-) -> Came
+) -> Option<(Reply, usize)>
     ensures { CallIs l n site.old links.old
         image.old result image.new }
 {
     if image.len() < n {
-        return Came::Short;
+        return None;
     }
     if !ask::serves(l) {
-        return Came::Answered(Reply::Answer(Answer::Refused(Refusal::Line)), n);
+        return Some((Reply::Answer(Answer::Refused(Refusal::Line)), n));
     }
     call_served(l, n, image, site, links)
 }
@@ -95,7 +100,7 @@ pub fn fresh_image(
     image: &mut [u8],
     site: &mut [u64],
     links: &mut [u64],
-) -> Came
+) -> Option<(Reply, usize)>
     ensures { FreshIs n j l site.old links.old
         image.old result image.new }
 {
@@ -105,7 +110,7 @@ pub fn fresh_image(
         return put(Reply::Answer(a), image, site, links);
     }
     if k == 12 {
-        return Came::Short;
+        return None;
     }
-    Came::Answered(Reply::Answer(a), 0)
+    Some((Reply::Answer(a), 0))
 }

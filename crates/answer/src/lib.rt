@@ -9,7 +9,6 @@ ghost use Rattle.answer.specs.Says.{lends as lends_enough, text_room, CallTold, 
 use ask::Asked;
 use reply::Ask;
 use rules::model::{Answer, Refusal};
-use tell::Told;
 
 pub mod ask;
 pub mod call;
@@ -38,7 +37,7 @@ fn answer_call(
     site: &mut [u64],
     links: &mut [u64],
     out: &mut [u8],
-) -> Told
+) -> Option<usize>
     requires n_in_bounds { n ≤ length image.old }
     requires image_in_bounds { text_room (length image.old) ≤ length out.old }
     ensures { CallTold l (take n image.old) (length image.old)
@@ -56,17 +55,17 @@ pub fn answer(
     site: &mut [u64],
     links: &mut [u64],
     out: &mut [u8],
-) -> Told
+) -> Option<usize>
     ensures { AnswerIs line.now (length image.old) site.old
         links.old out.old result out.new }
 {
     if !lends(image, out) {
-        return Told::Short;
+        return None;
     }
     let a = ask::ask(line, image);
     match a {
         Asked::Step(n, l) => answer_call(l, n, image, site, links, out),
-        Asked::Long => Told::Short,
-        Asked::Unreadable => Told::Length(tell::put_refusal(out, Answer::Refused(Refusal::Line))),
+        Asked::Long => None,
+        Asked::Unreadable => Some(tell::put_refusal(out, Answer::Refused(Refusal::Line))),
     }
 }

@@ -3,10 +3,9 @@
 ghost use Rattle.std.specs.Prelude.{◌≡◌};
 ghost use Rattle.answer.specs.Replies.{run_refused, unchanged};
 
-use find::Found;
 use lines::Line;
 use rules::answers;
-use rules::model::Answer;
+use rules::model::{Answer, Refusal};
 use wait::model::Run;
 
 #[derive(Clone, Copy)]
@@ -20,7 +19,7 @@ pub enum Ask {
 pub enum Reply {
     Answer(Answer),
     Run(Run),
-    Found(Found),
+    Found(Result<Option<u32>, Refusal>),
 }
 
 fn is_refused(r: Run) -> bool

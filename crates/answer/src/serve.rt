@@ -22,6 +22,7 @@ fn serve_line(site: &mut [u64], links: &mut [u64], l: Line) -> Answer
     }
 }
 
+// A match and no closure: what is asked comes as a value, from a line of text.
 pub(crate) fn serve(site: &mut [u64], links: &mut [u64], l: Ask) -> Reply
     requires { memory_form site.old links.old ≡ true }
     ensures { Serves l site.old links.old

@@ -1,28 +1,18 @@
 // The line of an answer: its word, and a refusal's number or the image after.
-ghost use Rattle.std.specs.Prelude.{◌≡◌, true, false, [], ◌+◌, ◌*◌, ◌≤◌, length};
+ghost use Rattle.std.specs.Prelude.{◌≡◌, true, false, [], ◌+◌, ◌*◌, ◌≤◌, length, Some, None, Ok};
 ghost use Rattle.rules.specs.Answers.{is_refusal};
 ghost use Rattle.print.specs.Text.{Wrote};
 ghost use Rattle.rules.specs.declared.model.Answer.{Answer};
 ghost use Rattle.wait.specs.declared.model.Run.{Run};
-ghost use Rattle.find.specs.declared.Found.{Found};
 ghost use Rattle.answer.specs.Text.{cause_word, word_of, answer_text};
 ghost use Rattle.answer.specs.Text.{used_text, run_text, found_text, reply_text};
 ghost use Rattle.answer.specs.Calls.{within, image_in};
 ghost use Rattle.answer.specs.Says.{text_room, TellIs};
 
-use crate::call::Came;
 use crate::reply::Reply;
-use find::Found;
 use rules::answers;
 use rules::model::{Answer, Cause, Refusal};
 use wait::model::Run;
-
-// How many bytes the answer has, or that what was lent is too short for it.
-#[derive(Clone, Copy)]
-pub enum Told {
-    Length(usize),
-    Short,
-}
 
 fn put_cause(out: &mut [u8], at: usize, c: Cause) -> usize
     requires { at + 7 ≤ length out.old }
@@ -141,7 +131,7 @@ fn put_run(out: &mut [u8], r: Run, image: &[u8]) -> usize
 
 fn put_number(out: &mut [u8], k: u32) -> usize
     requires { 38 ≤ length out.old }
-    ensures { Wrote 38 out.old out.new 0 result (found_text (Found.Number k)) }
+    ensures { Wrote 38 out.old out.new 0 result (found_text (Ok (Some k))) }
 {
     let p = print::put_bytes(out, 0, b"found ");
     let p = print::put_decimal(out, p, k as u64);
@@ -150,21 +140,30 @@ fn put_number(out: &mut [u8], k: u32) -> usize
 
 fn put_none(out: &mut [u8]) -> usize
     requires { 38 ≤ length out.old }
-    ensures { Wrote 38 out.old out.new 0 result (found_text Found.None) }
+    ensures { Wrote 38 out.old out.new 0 result (found_text (Ok None)) }
 {
     let p = print::put_bytes(out, 0, b"none");
     print::put_byte(out, p, 10)
 }
 
+fn put_load(out: &mut [u8], load: Option<u32>) -> usize
+    requires { 38 ≤ length out.old }
+    ensures { Wrote 38 out.old out.new 0 result (found_text (Ok load)) }
+{
+    match load {
+        Some(k) => put_number(out, k),
+        None => put_none(out),
+    }
+}
+
 // The line of a load that was asked for, at the front of out.
-pub fn put_found(out: &mut [u8], w: Found) -> usize
+pub fn put_found(out: &mut [u8], w: Result<Option<u32>, Refusal>) -> usize
     requires { 38 ≤ length out.old }
     ensures { Wrote 38 out.old out.new 0 result (found_text w) }
 {
     match w {
-        Found::Number(k) => put_number(out, k),
-        Found::None => put_none(out),
-        Found::Refused(why) => put_refusal(out, Answer::Refused(why)),
+        Ok(load) => put_load(out, load),
+        Err(why) => put_refusal(out, Answer::Refused(why)),
     }
 }
 
@@ -180,14 +179,15 @@ fn put_reply(out: &mut [u8], r: Reply, image: &[u8]) -> usize
     }
 }
 
-// The line of what came, with the image that it left at the front of image.
-pub(crate) fn tell(c: Came, image: &[u8], out: &mut [u8]) -> Told
+// The line of what came, with the image that it left at the front of image: how many bytes it has,
+// if what was lent was long enough.
+pub(crate) fn tell(c: Option<(Reply, usize)>, image: &[u8], out: &mut [u8]) -> Option<usize>
     requires within { within (length image.now) c }
     requires image_in_bounds { text_room (length image.now) ≤ length out.old }
     ensures { TellIs (image_in c image.now) out.old c result out.new }
 {
     match c {
-        Came::Answered(a, n) => Told::Length(put_reply(out, a, &image[0..n])),
-        Came::Short => Told::Short,
+        Some((a, n)) => Some(put_reply(out, a, &image[0..n])),
+        None => None,
     }
 }

@@ -3,29 +3,27 @@ ghost use Rattle.std.specs.Prelude.{◌+◌, ◌≤◌, ◌<◌, length};
 ghost use Rattle.print.specs.Text.{Wrote};
 ghost use Rattle.answer.specs.Unheard.{UnheardIs, box_line, boxes_text};
 
-use rules::model::{Refusal, Unheard};
+use rules::model::Refusal;
 use rules::{numbers, sets};
 
-// What is said; or the words that were lent are too few.
-#[derive(Clone, Copy)]
-pub enum Seen {
-    Said(Unheard),
-    Short,
-}
-
-// The words are work room.
-pub fn unheard_on_image(c: u32, image: &[u8], site: &mut [u64], links: &mut [u64]) -> Seen
+// What is said, if the words that were lent are enough. They are work room.
+pub fn unheard_on_image(
+    c: u32,
+    image: &[u8],
+    site: &mut [u64],
+    links: &mut [u64],
+) -> Option<Result<u32, Refusal>>
     ensures { UnheardIs c image.now site.old links.old result }
 {
     let a = reader::read(image, site, links);
     let k = numbers::answer_number(a);
     if k == 0 {
-        return Seen::Said(site::unheard_formed(site, links, c));
+        return Some(site::unheard_formed(site, links, c));
     }
     if k == 12 {
-        return Seen::Short;
+        return None;
     }
-    Seen::Said(Unheard::Refused(Refusal::Form))
+    Some(Err(Refusal::Form))
 }
 
 fn put_box(out: &mut [u8], at: usize, set: u32, k: u32) -> usize

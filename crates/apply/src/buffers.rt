@@ -4,10 +4,10 @@ ghost use Rattle.std.specs.Prelude.{length};
 ghost use Rattle.answer.specs.Ample.{Ample};
 ghost use Rattle.apply.specs.Room.{JobFits};
 
-use crate::run::Run;
 use crate::{each, pieces, raw};
 use answer::reply::Ask;
-use streams::Streams;
+use by_lines::Run;
+use streams::{Status, Streams, buffer};
 
 // Images of 128 KiB, and the links of most sites.
 const IMAGE: usize = 131072;
@@ -50,24 +50,6 @@ pub enum Job {
     Each(u32),
 }
 
-// Each large buffer comes from a function: a proof that has an array of millions of bytes before it
-// element by element does not end.
-fn longest_line() -> [u8; LONGEST_LINE] {
-    [0u8; LONGEST_LINE]
-}
-
-fn longest_out() -> [u8; LONGEST_OUT] {
-    [0u8; LONGEST_OUT]
-}
-
-fn longer_image() -> [u8; LONGER] {
-    [0u8; LONGER]
-}
-
-fn all_links() -> [u64; ALL_LINKS] {
-    [0u64; ALL_LINKS]
-}
-
 fn lines_large<S: Streams>(
     rt: &S,
     run: Run,
@@ -76,11 +58,11 @@ fn lines_large<S: Streams>(
     image: &mut [u8],
     site: &mut [u64],
     links: &mut [u64],
-) -> u8
+) -> Status
     requires { Ample (length image.old) (length site.old) (length links.old) }
 {
-    let mut line = longest_line();
-    let mut out = longest_out();
+    let mut line = buffer::bytes::<LONGEST_LINE>();
+    let mut out = buffer::bytes::<LONGEST_OUT>();
     pieces::serve_rest(
         rt, run, front, rest, &mut line, image, LONGEST, site, links, &mut out,
     )
@@ -89,12 +71,13 @@ fn lines_large<S: Streams>(
 // front: what is there of the line, or of the image; text: the rest of the piece, or the call.
 // Lines and calls enter here alike: a compiler that merges the frame of a function that is called
 // once into its caller's does not merge this one.
-pub(crate) fn serve_large<S: Streams>(rt: &S, job: Job, front: &[u8], text: &[u8]) -> u8
+// A job is a value: a closure's frame would hold what it takes a second time.
+pub(crate) fn serve_large<S: Streams>(rt: &S, job: Job, front: &[u8], text: &[u8]) -> Status
     requires { JobFits job }
 {
-    let mut image = longer_image();
+    let mut image = buffer::bytes::<LONGER>();
     let mut site = [0u64; SITE];
-    let mut links = all_links();
+    let mut links = buffer::words::<ALL_LINKS>();
     match job {
         Job::Lines(run) => lines_large(rt, run, front, text, &mut image, &mut site, &mut links),
         Job::Call(l) => raw::call_rest(rt, l, front, text, &mut image, &mut site, &mut links),
@@ -102,13 +85,18 @@ pub(crate) fn serve_large<S: Streams>(rt: &S, job: Job, front: &[u8], text: &[u8
     }
 }
 
-fn lines_small<S: Streams>(rt: &S, image: &mut [u8], site: &mut [u64], links: &mut [u64]) -> u8 {
+fn lines_small<S: Streams>(
+    rt: &S,
+    image: &mut [u8],
+    site: &mut [u64],
+    links: &mut [u64],
+) -> Status {
     let mut line = [0u8; LINE];
     let mut out = [0u8; OUT];
     pieces::serve_lines(rt, &mut line, image, site, links, &mut out)
 }
 
-pub(crate) fn serve<S: Streams>(rt: &S) -> u8 {
+pub(crate) fn serve<S: Streams>(rt: &S) -> Status {
     let mut image = [0u8; IMAGE];
     let mut site = [0u64; SITE];
     let mut links = [0u64; LINKS];

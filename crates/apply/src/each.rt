@@ -4,17 +4,13 @@
 ghost use Rattle.std.specs.Prelude.{◌≤◌, length};
 
 use crate::buffers::Job;
-use crate::raw::Filled;
-use crate::run::least;
 use crate::{buffers, ran, raw};
-use lines::One;
+use by_lines::whole;
 use rules::model::{Answer, Call, Refusal};
 use rules::numbers;
 use std::io::{Error, Result};
-use streams::Streams;
-use wait::model::{Next, Run};
-use wording::Place;
-use writer::Written;
+use streams::{Status, Streams};
+use wait::model::Run;
 
 const IMAGE: &str = "/proc/self/fd/4";
 
@@ -42,6 +38,7 @@ fn put_two(out: &mut [u8], a: u32, b: u32) -> usize
 }
 
 // The line of a step that a run takes; a run takes no other.
+// A match: each call carries numbers of its own.
 fn put_step(out: &mut [u8], d: Call) -> usize
     requires { 64 ≤ length out.old }
     ensures { result ≤ 50 }
@@ -64,44 +61,30 @@ fn tell_step<S: Streams>(rt: &S, d: Call) -> Result<()> {
     streams::write_output(rt, &out[0..n])
 }
 
-// What came of one step, or that it could not be told.
-#[derive(Clone, Copy)]
-pub enum Step {
-    Done,
-    Over,
-    Ended(Run),
-    Untold(Error),
-}
-
-// The next step, after so many that were used.
-fn take<S: Streams>(rt: &S, used: u32, site: &mut [u64], links: &mut [u64]) -> Step {
+// The next step, after so many that were used: none where the run goes on after it. Fails where it
+// could not be told.
+fn take<S: Streams>(rt: &S, used: u32, site: &mut [u64], links: &mut [u64]) -> Result<Option<Run>> {
     match until::next_turn(site, links) {
-        Next::Nothing => Step::Over,
-        Next::Turn(d) => match until::run(site, links, 1) {
+        None => Ok(Some(Run::Ran(used))),
+        Some(d) => match until::run(site, links, 1) {
             Run::Ran(_) => {
-                if let Err(error) = tell_step(rt, d) {
-                    return Step::Untold(error);
-                }
-                Step::Done
+                tell_step(rt, d)?;
+                Ok(None)
             }
-            Run::Stopped(why, _) => Step::Ended(Run::Stopped(why, used)),
-            Run::Refused(why) => Step::Ended(Run::Refused(why)),
+            Run::Stopped(why, _) => Ok(Some(Run::Stopped(why, used))),
+            Run::Refused(why) => Ok(Some(Run::Refused(why))),
         },
     }
 }
 
 // At most so many steps, each told.
 fn take_each<S: Streams>(rt: &S, steps: u32, site: &mut [u64], links: &mut [u64]) -> Result<Run> {
-    let mut used = 0;
-    while used < steps {
-        match take(rt, used, site, links) {
-            Step::Done => used += 1,
-            Step::Over => return Ok(Run::Ran(used)),
-            Step::Ended(r) => return Ok(r),
-            Step::Untold(error) => return Err(error),
+    for used in 0..steps {
+        if let Some(r) = take(rt, used, site, links)? {
+            return Ok(r);
         }
     }
-    Ok(Run::Ran(used))
+    Ok(Run::Ran(steps))
 }
 
 fn send<S: Streams>(rt: &S, to: Result<S::File>, image: &[u8]) -> Result<()> {
@@ -116,33 +99,32 @@ fn send_image<S: Streams>(
     image: &mut [u8],
     site: &[u64],
     links: &[u64],
-) -> u8 {
+) -> Status {
     match writer::write(site, links, image) {
-        Written::Length(n) => {
-            let n = least(n, image.len());
-            if let Err(error) = send(rt, to, &image[0..n]) {
+        Ok(n) => {
+            if let Err(error) = send(rt, to, &image[..n.min(image.len())]) {
                 streams::fail(rt, b"apply: the image", error);
-                return 3;
+                return Status::Failed;
             }
-            0
+            Status::Done
         }
-        Written::Refused(_) => 1,
+        Err(_) => Status::Refused,
     }
 }
 
-fn untold<S: Streams>(rt: &S, error: Error) -> u8 {
+fn untold<S: Streams>(rt: &S, error: Error) -> Status {
     streams::fail(rt, b"apply: standard output", error);
-    3
+    Status::Failed
 }
 
 // The call is refused: no step, and no image.
-fn refuse<S: Streams>(rt: &S, why: Refusal, text: &[u8]) -> u8 {
+fn refuse<S: Streams>(rt: &S, why: Refusal, text: &[u8]) -> Status {
     if let Err(error) = ran::tell(rt, Run::Refused(why)) {
         return untold(rt, error);
     }
     let n = numbers::answer_number(Answer::Refused(why));
-    wording::refuse(rt, b"apply", Place::Alone, text, n as u64, b"");
-    1
+    wording::refuse(rt, b"apply", None, text, n as u64, b"");
+    Status::Refused
 }
 
 fn end<S: Streams>(
@@ -153,16 +135,10 @@ fn end<S: Streams>(
     image: &mut [u8],
     site: &[u64],
     links: &[u64],
-) -> u8 {
+) -> Status {
     match r {
         Run::Refused(why) => refuse(rt, why, text),
-        Run::Ran(_) => {
-            if let Err(error) = ran::tell(rt, r) {
-                return untold(rt, error);
-            }
-            send_image(rt, to, image, site, links)
-        }
-        Run::Stopped(_, _) => {
+        Run::Ran(_) | Run::Stopped(_, _) => {
             if let Err(error) = ran::tell(rt, r) {
                 return untold(rt, error);
             }
@@ -179,11 +155,10 @@ fn run_words<S: Streams>(
     image: &mut [u8],
     site: &mut [u64],
     links: &mut [u64],
-) -> u8 {
+) -> Status {
     match until::run(site, links, 0) {
         Run::Refused(why) => return refuse(rt, why, text),
-        Run::Ran(_) => {}
-        Run::Stopped(_, _) => {}
+        Run::Ran(_) | Run::Stopped(_, _) => {}
     }
     match take_each(rt, steps, site, links) {
         Ok(r) => end(rt, to, r, text, image, site, links),
@@ -200,9 +175,8 @@ fn run_image<S: Streams>(
     image: &mut [u8],
     site: &mut [u64],
     links: &mut [u64],
-) -> u8 {
-    let n = least(n, image.len());
-    let a = reader::read(&image[0..n], site, links);
+) -> Status {
+    let a = reader::read(&image[..n.min(image.len())], site, links);
     if numbers::answer_number(a) != 0 {
         return refuse(rt, Refusal::Form, text);
     }
@@ -218,27 +192,27 @@ pub(crate) fn run_each<S: Streams>(
     image: &mut [u8],
     site: &mut [u64],
     links: &mut [u64],
-) -> u8 {
+) -> Status {
     let to = streams::open_to_write(rt, IMAGE);
-    match raw::fill(rt, image, 0) {
-        Filled::Whole(n) => run_image(rt, to, steps, n, text, image, site, links),
-        Filled::Full => refuse(rt, Refusal::Form, text),
-        Filled::Failed(error) => {
+    match whole::fill(rt, image, 0) {
+        Ok(Some(n)) => run_image(rt, to, steps, n, text, image, site, links),
+        Ok(None) => refuse(rt, Refusal::Form, text),
+        Err(error) => {
             streams::fail(rt, b"apply: standard input", error);
-            3
+            Status::Failed
         }
     }
 }
 
-fn each_text<S: Streams>(rt: &S, text: &[u8]) -> u8 {
+fn each_text<S: Streams>(rt: &S, text: &[u8]) -> Status {
     match lines::read_one(b"run ", text) {
-        One::Number(steps) => buffers::serve_large(rt, Job::Each(steps), b"", text),
-        One::Unreadable => refuse(rt, Refusal::Line, text),
+        Some(steps) => buffers::serve_large(rt, Job::Each(steps), b"", text),
+        None => refuse(rt, Refusal::Line, text),
     }
 }
 
 // Argument 3 is `run` and the number of steps.
-pub(crate) fn serve_each<S: Streams>(rt: &S) -> u8 {
+pub(crate) fn serve_each<S: Streams>(rt: &S) -> Status {
     let mut text = [0u8; TEXT];
     let n = raw::call_text(rt, &mut text);
     each_text(rt, &text[0..n])

@@ -3,88 +3,100 @@ ghost use Rattle.std.specs.Prelude.{◌≤◌, length};
 ghost use Rattle.image.specs.Longest.{longest_of_all};
 ghost use Rattle.answer.specs.Ample.{TooLong};
 ghost use Rattle.answer.specs.Hold.{held_for};
-ghost use Rattle.apply.specs.Room.{Room};
+ghost use Rattle.apply.specs.Room.{Room, cut_at};
 
 use crate::refused;
-use crate::run::{Run, Stage, least};
-use answer::tell::Told;
-use std::io::Error;
+use by_lines::{Answered, Answers, End};
+use std::io::Result;
 use streams::Streams;
 use wording::number;
 
-// Where a write fails the run is over.
-fn failed<S: Streams>(rt: &S, run: Run, error: Error) -> Run {
-    streams::fail(rt, b"apply: standard output", error);
-    run.with_stage(Stage::Failed)
+// What is lent to a line's answer. last: there are no larger buffers.
+#[derive(Drop)]
+pub(crate) struct Lent<'a> {
+    pub(crate) last: bool,
+    pub(crate) image: &'a mut [u8],
+    pub(crate) site: &'a mut [u64],
+    pub(crate) links: &'a mut [u64],
+    pub(crate) out: &'a mut [u8],
 }
 
-fn tell<S: Streams>(rt: &S, line: &[u8], answer: &[u8], run: Run) -> Run {
-    if let Err(error) = streams::write_output(rt, answer) {
-        return failed(rt, run, error);
-    }
+fn tell<S: Streams>(rt: &S, line: &[u8], answer: &[u8], k: u64) -> Result<Answered> {
+    streams::write_output(rt, answer)?;
     if !lines::starts(b"refused", answer) {
-        return run.with_line(false);
+        return Ok(Answered::Done);
     }
-    refused::say_refused(rt, line, number::code(answer), run.number());
-    run.with_line(true)
+    refused::say_refused(rt, line, number::code(answer), k);
+    Ok(Answered::Refused)
 }
 
 // A line whose image is longer than any site's: the rules say 1.
-fn refuse_image<S: Streams>(rt: &S, line: &[u8], run: Run) -> Run
+fn refuse_image<S: Streams>(rt: &S, line: &[u8], k: u64) -> Result<Answered>
     requires { TooLong line.now }
 {
-    if let Err(error) = streams::write_output(rt, b"refused 1\n") {
-        return failed(rt, run, error);
-    }
-    refused::say_long_line(rt, line, 1, run.number());
-    run.with_line(true)
+    streams::write_output(rt, b"refused 1\n")?;
+    refused::say_long_line(rt, line, 1, k);
+    Ok(Answered::Refused)
 }
 
 // A line that is longer than any with a site's image: it is not read further.
-pub(crate) fn refuse_long<S: Streams>(rt: &S, line: &[u8], run: Run) -> Run
+fn refuse_long<S: Streams>(rt: &S, line: &[u8], k: u64) -> Result<Answered>
     requires { held_for longest_of_all ≤ length line.now }
 {
-    if let Err(error) = streams::write_output(rt, b"refused 11\n") {
-        return failed(rt, run, error);
-    }
-    refused::say_long_line(rt, line, 11, run.number());
-    run.with_line(true)
+    streams::write_output(rt, b"refused 11\n")?;
+    refused::say_long_line(rt, line, 11, k);
+    Ok(Answered::Refused)
 }
 
 // The last bytes of the input are no line where no newline ended them.
-pub(crate) fn refuse_unended<S: Streams>(rt: &S, line: &[u8], run: Run) -> Run {
-    if let Err(error) = streams::write_output(rt, b"refused 11\n") {
-        return failed(rt, run, error);
-    }
-    refused::say_unreadable(rt, line, false, run.number());
-    run.with_line(true).with_stage(Stage::Ended)
+fn refuse_unended<S: Streams>(rt: &S, line: &[u8], k: u64) -> Result<Answered> {
+    streams::write_output(rt, b"refused 11\n")?;
+    refused::say_unreadable(rt, line, false, k);
+    Ok(Answered::Refused)
 }
 
-// last: there are no larger buffers.
-pub(crate) fn answer_line<S: Streams>(
+fn answer_line<S: Streams>(
     rt: &S,
     line: &[u8],
+    k: u64,
     last: bool,
-    run: Run,
     image: &mut [u8],
     site: &mut [u64],
     links: &mut [u64],
     out: &mut [u8],
-) -> Run
+) -> Result<Answered>
     requires { Room last (length image.old) (length site.old) (length links.old)
         (length out.old) }
 {
-    let t = answer::answer(line, image, site, links, out);
-    match t {
-        Told::Length(n) => {
-            let k = least(n, out.len());
-            tell(rt, line, &out[0..k], run)
-        }
-        Told::Short => {
+    match answer::answer(line, image, site, links, out) {
+        Some(n) => tell(rt, line, &out[..n.min(out.len())], k),
+        None => {
             if last {
-                return refuse_image(rt, line, run);
+                return refuse_image(rt, line, k);
             }
-            run.with_stage(Stage::Larger)
+            Ok(Answered::Larger)
+        }
+    }
+}
+
+impl<'a, S: Streams> Answers<S> for Lent<'a> {
+    ghost fits = { λ l. Room l.last (length l.image.now) (length l.site.now) (length l.links.now)
+        (length l.out.now) };
+
+    ghost cut_from = { λ l. cut_at l.last };
+
+    fn answer(&mut self, rt: &S, line: &[u8], number: u64, end: End) -> Result<Answered> {
+        match end {
+            End::Newline => answer_line(
+                rt, line, number, self.last, self.image, self.site, self.links, self.out,
+            ),
+            End::Input => refuse_unended(rt, line, number),
+            End::Buffer => {
+                if self.last {
+                    return refuse_long(rt, line, number);
+                }
+                Ok(Answered::Larger)
+            }
         }
     }
 }

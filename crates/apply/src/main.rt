@@ -10,13 +10,8 @@ mod pieces;
 mod ran;
 mod raw;
 mod refused;
-mod run;
 mod unheard;
 
-// `report`: the status goes to descriptor 3.
 fn main(rt: HostRuntime) {
-    let status = buffers::serve(&rt);
-    if streams::has_argument(&rt, 1, b"report") {
-        streams::report(&rt, status);
-    }
+    streams::report_if_asked(&rt, buffers::serve(&rt));
 }

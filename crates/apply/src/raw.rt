@@ -4,41 +4,31 @@ ghost use Rattle.std.specs.Prelude.{◌≡◌, ◌<◌, ◌≤◌, true, length}
 ghost use Rattle.image.specs.Longest.{longest_of_all};
 ghost use Rattle.lines.specs.Printed.{in_range};
 ghost use Rattle.answer.specs.Replies.{ask_in_range};
-ghost use Rattle.answer.specs.declared.call.Came.{Came};
 ghost use Rattle.answer.specs.Ample.{Ample};
 ghost use Rattle.apply.specs.declared.raw.Done.{Done};
-ghost use Rattle.apply.specs.Room.{FilledIn, OnLarger};
+ghost use Rattle.streams.specs.declared.status.Status.{Status};
+ghost use Rattle.apply.specs.Room.{OnLarger};
 
 use crate::buffers::Job;
-use crate::run::least;
 use crate::{buffers, ran, refused, unheard};
-use answer::call::Came;
 use answer::reply::{Ask, Reply};
 use answer::{ask, call, hold, tell as told};
-use find::Found;
-use lines::{Line, One};
-use rules::model::{Answer, Cause};
+use by_lines::whole;
+use lines::Line;
+use rules::model::{Answer, Cause, Refusal};
 use rules::{answers, numbers};
 use std::env::{Env, FillError};
 use std::io::Error;
-use streams::{Got, Streams};
+use streams::{Status, Streams};
 use wait::model::Run;
-use wording::{Place, fault};
+use wording::fault;
 
 const TEXT: usize = 128;
-
-// What was read: the whole input, or as much as there is room for.
-#[derive(Clone, Copy)]
-pub enum Filled {
-    Whole(usize),
-    Full,
-    Failed(Error),
-}
 
 // The status to report; or the call has to be done in larger buffers, with so much of the image.
 #[derive(Clone, Copy)]
 pub enum Done {
-    Status(u8),
+    Status(Status),
     Larger(usize),
 }
 
@@ -61,60 +51,58 @@ fn say_answer<S: Streams>(rt: &S, a: Answer) {
 }
 
 // The image after the answer goes to standard output, and the answer's word to standard error.
-pub(crate) fn tell<S: Streams>(rt: &S, a: Answer, image: &[u8], text: &[u8]) -> u8 {
+pub(crate) fn tell<S: Streams>(rt: &S, a: Answer, image: &[u8], text: &[u8]) -> Status {
     if answers::is_refusal(a) {
         wording::refuse(
             rt,
             b"apply",
-            Place::Alone,
+            None,
             text,
             numbers::answer_number(a) as u64,
             b"",
         );
-        return 1;
+        return Status::Refused;
     }
     if let Err(error) = streams::write_output(rt, image) {
         streams::fail(rt, b"apply: standard output", error);
-        return 3;
+        return Status::Failed;
     }
     say_answer(rt, a);
-    0
+    Status::Done
 }
 
 // The image after a run goes to standard output, and what the run did to standard error.
-fn tell_ran<S: Streams>(rt: &S, r: Run, image: &[u8]) -> u8 {
+fn tell_ran<S: Streams>(rt: &S, r: Run, image: &[u8]) -> Status {
     if let Err(error) = streams::write_output(rt, image) {
         streams::fail(rt, b"apply: standard output", error);
-        return 3;
+        return Status::Failed;
     }
     ran::say(rt, r);
-    0
+    Status::Done
 }
 
-fn tell_run<S: Streams>(rt: &S, r: Run, image: &[u8], text: &[u8]) -> u8 {
+fn tell_run<S: Streams>(rt: &S, r: Run, image: &[u8], text: &[u8]) -> Status {
     match r {
-        Run::Ran(_) => tell_ran(rt, r, image),
-        Run::Stopped(_, _) => tell_ran(rt, r, image),
+        Run::Ran(_) | Run::Stopped(_, _) => tell_ran(rt, r, image),
         Run::Refused(why) => tell(rt, Answer::Refused(why), image, text),
     }
 }
 
 // The load goes to standard output in place of an image.
-fn tell_line<S: Streams>(rt: &S, w: Found, text: &[u8]) -> u8 {
+fn tell_line<S: Streams>(rt: &S, w: Result<Option<u32>, Refusal>, text: &[u8]) -> Status {
     let mut out = [0u8; 38];
     let n = told::put_found(&mut out, w);
     tell(rt, Answer::Done, &out[0..n], text)
 }
 
-fn tell_found<S: Streams>(rt: &S, w: Found, text: &[u8]) -> u8 {
+fn tell_found<S: Streams>(rt: &S, w: Result<Option<u32>, Refusal>, text: &[u8]) -> Status {
     match w {
-        Found::Number(_) => tell_line(rt, w, text),
-        Found::None => tell_line(rt, w, text),
-        Found::Refused(why) => tell(rt, Answer::Refused(why), b"", text),
+        Ok(_) => tell_line(rt, w, text),
+        Err(why) => tell(rt, Answer::Refused(why), b"", text),
     }
 }
 
-fn tell_reply<S: Streams>(rt: &S, r: Reply, image: &[u8], text: &[u8]) -> u8 {
+fn tell_reply<S: Streams>(rt: &S, r: Reply, image: &[u8], text: &[u8]) -> Status {
     match r {
         Reply::Answer(a) => tell(rt, a, image, text),
         Reply::Run(k) => tell_run(rt, k, image, text),
@@ -123,38 +111,23 @@ fn tell_reply<S: Streams>(rt: &S, r: Reply, image: &[u8], text: &[u8]) -> u8 {
 }
 
 // What came of the call, of an image of n bytes.
-fn come<S: Streams>(rt: &S, c: Came, n: usize, image: &[u8], text: &[u8]) -> Done
-    ensures { OnLarger (λ k. (k ≡ n) × (c ≡ Came.Short)) result }
+fn come<S: Streams>(rt: &S, c: Option<(Reply, usize)>, n: usize, image: &[u8], text: &[u8]) -> Done
+    ensures { OnLarger (λ k. (k ≡ n) × (c ≡ None)) result }
 {
     match c {
-        Came::Answered(a, k) => {
-            let k = least(k, image.len());
-            Done::Status(tell_reply(rt, a, &image[0..k], text))
+        Some((a, k)) => {
+            let image = &image[..k.min(image.len())];
+            Done::Status(tell_reply(rt, a, image, text))
         }
-        Came::Short => Done::Larger(n),
+        None => Done::Larger(n),
     }
-}
-
-// Reads to the end of the input, behind the n bytes that are there.
-pub(crate) fn fill<S: Streams>(rt: &S, image: &mut [u8], n: usize) -> Filled
-    ensures { FilledIn (length image.new) result }
-{
-    let mut k = n;
-    while k < image.len() {
-        match streams::read_input(rt, &mut image[k..]) {
-            Got::Bytes(m) => k += m,
-            Got::End => return Filled::Whole(k),
-            Got::Failed(error) => return Filled::Failed(error),
-        }
-    }
-    Filled::Full
 }
 
 pub(crate) fn failed<S: Streams>(rt: &S, error: Error) -> Done
-    ensures { result ≡ Done.Status 3 }
+    ensures { result ≡ Done.Status Status.Failed }
 {
     streams::fail(rt, b"apply: standard input", error);
-    Done::Status(3)
+    Done::Status(Status::Failed)
 }
 
 // A call on the image of standard input, of which there are n bytes already.
@@ -171,22 +144,22 @@ fn call_on_input<S: Streams>(
     ensures { OnLarger (λ k. Ample (length image.old) (length site.old)
         (length links.old) → k ≡ length image.old) result }
 {
-    match fill(rt, image, n) {
-        Filled::Whole(k) => {
+    match whole::fill(rt, image, n) {
+        Ok(Some(k)) => {
             let c = call::call_on_image(l, k, image, site, links);
             come(rt, c, k, image, text)
         }
-        Filled::Full => Done::Larger(image.len()),
-        Filled::Failed(error) => failed(rt, error),
+        Ok(None) => Done::Larger(image.len()),
+        Err(error) => failed(rt, error),
     }
 }
 
 fn refuse_unreadable<S: Streams>(rt: &S, text: &[u8]) -> Done
-    ensures { result ≡ Done.Status 1 }
+    ensures { result ≡ Done.Status Status.Refused }
 {
     let f = fault::fault_of(text, true);
-    wording::refuse_unreadable(rt, b"apply", Place::Alone, text, f);
-    Done::Status(1)
+    wording::refuse_unreadable(rt, b"apply", None, text, f);
+    Done::Status(Status::Refused)
 }
 
 // A text that is no line of a trace, no run, and asks for no frame.
@@ -202,8 +175,8 @@ fn ask_in<S: Streams>(
         (length links.old) → k ≡ length image.old) result }
 {
     match lines::read_one(b"unheard ", text) {
-        One::Number(c) => unheard::ask_of_input(rt, c, n, text, image, site, links),
-        One::Unreadable => refuse_unreadable(rt, text),
+        Some(c) => unheard::ask_of_input(rt, c, n, text, image, site, links),
+        None => refuse_unreadable(rt, text),
     }
 }
 
@@ -247,17 +220,16 @@ fn call_in<S: Streams>(
 {
     match l {
         Ask::Line(k) => line_in(rt, k, n, text, image, site, links),
-        Ask::Run(_) => call_on_input(rt, l, n, text, image, site, links),
-        Ask::Find(_, _) => call_on_input(rt, l, n, text, image, site, links),
+        Ask::Run(_) | Ask::Find(_, _) => call_on_input(rt, l, n, text, image, site, links),
     }
 }
 
 // An image of at least n bytes is longer than any site's: 1.
-fn refuse_image<S: Streams>(rt: &S, n: usize, text: &[u8]) -> u8
+fn refuse_image<S: Streams>(rt: &S, n: usize, text: &[u8]) -> Status
     requires { longest_of_all < n }
 {
-    refused::say_too_long(rt, Place::Alone, text, 1);
-    1
+    refused::say_too_long(rt, None, text, 1);
+    Status::Refused
 }
 
 // In the larger set, where only an image that is longer than any site's has no room.
@@ -269,7 +241,7 @@ pub(crate) fn call_rest<S: Streams>(
     image: &mut [u8],
     site: &mut [u64],
     links: &mut [u64],
-) -> u8
+) -> Status
     requires l_value { ask_in_range l ≡ true }
     requires longest_of_all_in_bounds { longest_of_all < length image.old }
     requires ample { Ample (length image.old) (length site.old) (length links.old) }
@@ -288,14 +260,14 @@ fn call_small<S: Streams>(
     image: &mut [u8],
     site: &mut [u64],
     links: &mut [u64],
-) -> u8
+) -> Status
     requires { ask_in_range l ≡ true }
 {
     match call_in(rt, l, 0, text, image, site, links) {
         Done::Status(s) => s,
         Done::Larger(n) => {
-            let k = least(n, image.len());
-            buffers::serve_large(rt, Job::Call(l), &image[0..k], text)
+            let k = n.min(image.len());
+            buffers::serve_large(rt, Job::Call(l), &image[..k], text)
         }
     }
 }
@@ -317,7 +289,7 @@ fn call_as_asked<S: Streams>(
     image: &mut [u8],
     site: &mut [u64],
     links: &mut [u64],
-) -> u8 {
+) -> Status {
     call_small(rt, ask::read_ask(text), text, image, site, links)
 }
 
@@ -326,7 +298,7 @@ pub(crate) fn serve_call<S: Streams>(
     image: &mut [u8],
     site: &mut [u64],
     links: &mut [u64],
-) -> u8 {
+) -> Status {
     let mut text = [0u8; TEXT];
     let n = call_text(rt, &mut text);
     call_as_asked(rt, &text[0..n], image, site, links)

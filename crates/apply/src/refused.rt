@@ -1,8 +1,8 @@
 // Refused lines in words, on standard error.
 use lines::Line;
 use streams::Streams;
+use wording::fault;
 use wording::fault::Fault;
-use wording::{Place, fault};
 
 // What stands behind the line's first space, or the whole line where it has none.
 fn call_of(line: &[u8]) -> &[u8] {
@@ -15,11 +15,11 @@ fn call_of(line: &[u8]) -> &[u8] {
 }
 
 fn say_why<S: Streams>(rt: &S, text: &[u8], k: u64, why: &[u8]) {
-    wording::refuse(rt, b"apply", Place::Line(k), text, 11, why);
+    wording::refuse(rt, b"apply", Some(k), text, 11, why);
 }
 
 fn say_fault<S: Streams>(rt: &S, text: &[u8], k: u64, why: Fault) {
-    wording::refuse_unreadable(rt, b"apply", Place::Line(k), text, why);
+    wording::refuse_unreadable(rt, b"apply", Some(k), text, why);
 }
 
 // A call of more than 64 bytes is too long; of a shorter one it is not plain what is wrong.
@@ -35,8 +35,9 @@ fn say_call<S: Streams>(rt: &S, call: &[u8], k: u64) {
 fn say_parted<S: Streams>(rt: &S, call: &[u8], k: u64) {
     match lines::read_line(call) {
         Line::Site(_, _, _) => say_why(rt, call, k, b"a site line asks nothing of an image"),
-        Line::Call(_) => say_why(rt, call, k, b"the image is not in hex"),
-        Line::Holds(_, _, _, _) => say_why(rt, call, k, b"the image is not in hex"),
+        Line::Call(_) | Line::Holds(_, _, _, _) => {
+            say_why(rt, call, k, b"the image is not in hex")
+        }
         Line::Unreadable => say_call(rt, call, k),
     }
 }
@@ -52,29 +53,12 @@ fn say_parts<S: Streams>(rt: &S, line: &[u8], k: u64) {
     say_parted(rt, &line[e + 1..n], k);
 }
 
-// The fault is one of the whole line, but for its length.
-fn is_plain(f: Fault) -> bool {
-    match f {
-        Fault::Unended => true,
-        Fault::Empty => true,
-        Fault::Mark => true,
-        Fault::Return => true,
-        Fault::Remark => true,
-        Fault::Tab => true,
-        Fault::Space => true,
-        Fault::Long => false,
-        Fault::Other => false,
-    }
-}
-
 // Line k cannot be read; a newline ends it or not.
 pub(crate) fn say_unreadable<S: Streams>(rt: &S, line: &[u8], ended: bool, k: u64) {
-    let f = fault::fault_of(line, ended);
-    if is_plain(f) {
-        say_fault(rt, call_of(line), k, f);
-        return;
+    match fault::fault_of(line, ended) {
+        Fault::Long | Fault::Other => say_parts(rt, line, k),
+        plain => say_fault(rt, call_of(line), k, plain),
     }
-    say_parts(rt, line, k);
 }
 
 // Line k is refused by this number.
@@ -83,15 +67,15 @@ pub(crate) fn say_refused<S: Streams>(rt: &S, line: &[u8], code: u64, k: u64) {
         say_unreadable(rt, line, true, k);
         return;
     }
-    wording::refuse(rt, b"apply", Place::Line(k), call_of(line), code, b"");
+    wording::refuse(rt, b"apply", Some(k), call_of(line), code, b"");
 }
 
 // The text is refused by this number for its image's length.
-pub(crate) fn say_too_long<S: Streams>(rt: &S, place: Place, text: &[u8], code: u64) {
+pub(crate) fn say_too_long<S: Streams>(rt: &S, line: Option<u64>, text: &[u8], code: u64) {
     wording::refuse(
         rt,
         b"apply",
-        place,
+        line,
         text,
         code,
         b"the image is longer than the longest of any site, 10657940 bytes",
@@ -100,5 +84,5 @@ pub(crate) fn say_too_long<S: Streams>(rt: &S, place: Place, text: &[u8], code: 
 
 // Line k is, which may be the first part of one alone.
 pub(crate) fn say_long_line<S: Streams>(rt: &S, line: &[u8], code: u64, k: u64) {
-    say_too_long(rt, Place::Line(k), call_of(line), code);
+    say_too_long(rt, Some(k), call_of(line), code);
 }

@@ -1,36 +1,35 @@
 // Which boxes have not answered a lease, of a raw image: their numbers, a line for each.
 ghost use Rattle.std.specs.Prelude.{◌≡◌, length};
-ghost use Rattle.answer.specs.declared.unheard.Seen.{Seen};
 ghost use Rattle.answer.specs.Ample.{Ample};
 ghost use Rattle.apply.specs.Room.{OnLarger};
 
 use crate::raw;
-use crate::raw::{Done, Filled};
+use crate::raw::Done;
 use answer::unheard;
-use answer::unheard::Seen;
-use rules::model::{Answer, Unheard};
-use streams::Streams;
+use by_lines::whole;
+use rules::model::{Answer, Refusal};
+use streams::{Status, Streams};
 
-fn tell_boxes<S: Streams>(rt: &S, set: u32, text: &[u8]) -> u8 {
+fn tell_boxes<S: Streams>(rt: &S, set: u32, text: &[u8]) -> Status {
     let mut out = [0u8; 10];
     let n = unheard::put_boxes(&mut out, set);
     raw::tell(rt, Answer::Done, &out[0..n], text)
 }
 
-fn tell<S: Streams>(rt: &S, u: Unheard, text: &[u8]) -> u8 {
+fn tell<S: Streams>(rt: &S, u: Result<u32, Refusal>, text: &[u8]) -> Status {
     match u {
-        Unheard::Boxes(set) => tell_boxes(rt, set, text),
-        Unheard::Refused(why) => raw::tell(rt, Answer::Refused(why), b"", text),
+        Ok(set) => tell_boxes(rt, set, text),
+        Err(why) => raw::tell(rt, Answer::Refused(why), b"", text),
     }
 }
 
 // What is said, by an image of n bytes.
-fn come<S: Streams>(rt: &S, s: Seen, n: usize, text: &[u8]) -> Done
-    ensures { OnLarger (λ k. (k ≡ n) × (s ≡ Seen.Short)) result }
+fn come<S: Streams>(rt: &S, s: Option<Result<u32, Refusal>>, n: usize, text: &[u8]) -> Done
+    ensures { OnLarger (λ k. (k ≡ n) × (s ≡ None)) result }
 {
     match s {
-        Seen::Said(u) => Done::Status(tell(rt, u, text)),
-        Seen::Short => Done::Larger(n),
+        Some(u) => Done::Status(tell(rt, u, text)),
+        None => Done::Larger(n),
     }
 }
 
@@ -47,12 +46,12 @@ pub(crate) fn ask_of_input<S: Streams>(
     ensures { OnLarger (λ k. Ample (length image.old) (length site.old)
         (length links.old) → k ≡ length image.old) result }
 {
-    match raw::fill(rt, image, n) {
-        Filled::Whole(k) => {
+    match whole::fill(rt, image, n) {
+        Ok(Some(k)) => {
             let s = unheard::unheard_on_image(c, &image[0..k], site, links);
             come(rt, s, k, text)
         }
-        Filled::Full => Done::Larger(image.len()),
-        Filled::Failed(error) => raw::failed(rt, error),
+        Ok(None) => Done::Larger(image.len()),
+        Err(error) => raw::failed(rt, error),
     }
 }

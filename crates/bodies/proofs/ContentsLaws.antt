@@ -10,12 +10,14 @@ use Rattle.rules.specs.Pick.{pick_true, pick-false}
 use Rattle.rules.specs.declared.model.Refusal.{Refusal}
 use Rattle.laws.proofs.Logic.{and_yes, and_both, pick_elim}
 use Rattle.image.specs.Longest.{table_bytes}
-use Rattle.bodies.specs.declared.Named.{Named}
+use Rattle.std.specs.Prelude.{Ok, Err}
+use Rattle.bodies.specs.declared.Part.{Part}
+use Rattle.bodies.specs.Contents.{Named, part_from}
 use Rattle.bodies.specs.Contents.{count_of, begin_of, long_of, is_number, most_bodies, has_body}
 use Rattle.bodies.specs.Contents.{named, asked, after}
 
 abbrev none : Named
-none = Named.Refused Refusal.Condition
+none = Err Refusal.Condition
 
 and-not : (a : Bool) {b : Bool} → b ≡ false → (a && b) ≡ false
 and-not true e = e
@@ -28,7 +30,7 @@ not-and b e = ap (λ (t : Bool). t && b) e
 
 module _ (im : List ℕ) (k : ℕ) where
   abbrev entry : Named
-  entry = Named.Part (begin_of im k) (long_of im k)
+  entry = Ok (part_from (begin_of im k) (long_of im k))
 
   abbrev fits : Bool
   fits = leb k (count_of im) && leb (begin_of im k + long_of im k) (length im)
@@ -68,8 +70,8 @@ module _ (im : List ℕ) (k : ℕ) where
     pub end : a + n ≤ length im
 
   abbrev pub Told : Named → Type 0
-  Told (Named.Part a n) = Inside a n
-  Told (Named.Refused why) = (has_body im k ≡ false) × (why ≡ Refusal.Condition)
+  Told (Ok p) = Inside p.begin p.long
+  Told (Err why) = (has_body im k ≡ false) × (why ≡ Refusal.Condition)
 
   pub inside : has_body im k ≡ true → Inside (begin_of im k) (long_of im k)
   unfolding has_body
@@ -98,18 +100,18 @@ module _ (im : List ℕ) (k : ℕ) where
 
   -- ---- the places of a reader
 
-  pub after-part : {a n : ℕ} → named im k ≡ Named.Part a n → k + 1 ≡ after im k
+  pub after-part : {p : Part} → named im k ≡ Ok p → k + 1 ≡ after im k
   unfolding after
   after-part e = sym (pick_true _ (k + 1) k (told_as e).has)
 
-  pub after_none : {why : Refusal} → named im k ≡ Named.Refused why → k ≡ after im k
+  pub after_none : {why : Refusal} → named im k ≡ Err why → k ≡ after im k
   unfolding after
   after_none e = sym (pick-false _ (k + 1) k (told_as e).0)
 
-  pub asked-form : eqb k 0 ≡ true → Named.Refused Refusal.Form ≡ asked im k
+  pub asked-form : eqb k 0 ≡ true → Err Refusal.Form ≡ asked im k
   unfolding asked
-  asked-form e = sym (pick_true (eqb k 0) (Named.Refused Refusal.Form) (named im k) e)
+  asked-form e = sym (pick_true (eqb k 0) (Err Refusal.Form) (named im k) e)
 
   pub asked-named : {w : Named} → eqb k 0 ≡ false → w ≡ named im k → w ≡ asked im k
   unfolding asked
-  asked-named e h = h ∙ sym (pick-false (eqb k 0) (Named.Refused Refusal.Form) (named im k) e)
+  asked-named e h = h ∙ sym (pick-false (eqb k 0) (Err Refusal.Form) (named im k) e)

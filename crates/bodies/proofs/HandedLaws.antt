@@ -6,7 +6,9 @@ use mathlib.Core.List.{List}
 use lib.ListN.{take, drop}
 use denote.Ref.{Bor}
 use Rattle.words.proofs.PartLaws.{cut_at}
-use Rattle.bodies.specs.declared.Named.{Named}
+use Rattle.std.specs.Prelude.{Ok, Err}
+use Rattle.bodies.specs.declared.Part.{Part}
+use Rattle.bodies.specs.Contents.{Named}
 use Rattle.bodies.specs.Handed.{Handed}
 use Rattle.rules.specs.declared.model.Refusal.{Refusal}
 
@@ -18,13 +20,14 @@ module _ (x : Bor (List ℕ)) where
     now = take (e - a) (drop a x.now);
   }
 
-  pub handed-part : (a n : ℕ) {w : Named} → Named.Part a n ≡ w → Handed x w (cut a (a + n))
-  handed-part a n e =
-      subst (λ (w : Named). Handed x w (cut a (a + n))) e
+  pub handed-part : (p : Part) {w : Named} → Ok p ≡ w
+      → Handed x w (cut p.begin (p.begin + p.long))
+  handed-part p e =
+      subst (λ (w : Named). Handed x w (cut p.begin (p.begin + p.long))) e
       (record {
-        place = λ i. (x.ref_ptr.0, add_comm a x.ref_ptr.1 i);
-        bytes = cut_at {a = a} {k = n} x.now refl refl;
+        place = λ i. (x.ref_ptr.0, add_comm p.begin x.ref_ptr.1 i);
+        bytes = cut_at {a = p.begin} {k = p.long} x.now refl refl;
       })
 
-  pub handed-none : {why : Refusal} {w : Named} → Named.Refused why ≡ w → Handed x w (cut 0 0)
+  pub handed-none : {why : Refusal} {w : Named} → Err why ≡ w → Handed x w (cut 0 0)
   handed-none e = subst (λ (w : Named). Handed x w (cut 0 0)) e refl

@@ -5,7 +5,8 @@ use Prim.Native.Nat.{ℕ}
 use mathlib.Core.Path.{◌≡◌, refl, sym, ◌∙◌}
 use mathlib.Core.List.{List}
 use denote.Ref.{Bor}
-use Rattle.bodies.specs.declared.Named.{Named}
+use Rattle.std.specs.Prelude.{Ok, Err}
+use Rattle.bodies.specs.Contents.{Named}
 use Rattle.bodies.specs.Handed.{Handed, BodyIs, Opened}
 use Rattle.bodies.specs.Handed.BodyIs.{not-by-form as no-image, by_form as image}
 use Rattle.bodies.specs.Handed.Opened.{not-by-form as shut, by_form as open_at}
@@ -24,13 +25,13 @@ opened-once (open_at s f e) (open_at t g d) = refl
 
 -- A part has one place and one content; where nothing is handed out it is empty.
 abbrev pub Alike : Named → Bor (List ℕ) → Bor (List ℕ) → Type 0
-Alike (Named.Part a n) q r = (q.ref_ptr ≡ r.ref_ptr) × (q.now ≡ r.now)
-Alike (Named.Refused why) q r = q.now ≡ r.now
+Alike (Ok p) q r = (q.ref_ptr ≡ r.ref_ptr) × (q.now ≡ r.now)
+Alike (Err why) q r = q.now ≡ r.now
 
 pub handed-once : (x : Bor (List ℕ)) (w : Named) (q r : Bor (List ℕ)) → Handed x w q
     → Handed x w r → Alike w q r
-handed-once x (Named.Part a n) q r g h = (
+handed-once x (Ok p) q r g h = (
   g.place ∙ sym h.place,
   g.bytes ∙ sym h.bytes,
 )
-handed-once x (Named.Refused why) q r g h = g ∙ sym h
+handed-once x (Err why) q r g h = g ∙ sym h

@@ -7,7 +7,8 @@ use Rattle.rules.specs.Pick.{pick}
 use Rattle.rules.specs.Sizes.{most_boxes, within}
 use Rattle.rules.specs.declared.model.Refusal.{Refusal}
 use Rattle.image.specs.Longest.{table_bytes}
-use Rattle.bodies.specs.declared.Named.{Named}
+use Rattle.std.specs.Prelude.{Result, Ok, Err}
+use Rattle.bodies.specs.declared.Part.{Part}
 
 -- "Little-endian, 32 bits": number i of the table, counted from 0
 unfoldable pub table_number : List ℕ → ℕ → ℕ
@@ -42,17 +43,24 @@ has_body im k =
     && (leb (table_bytes k) (length im)
     && (leb k (count_of im) && leb (begin_of im k + long_of im k) (length im)))
 
+-- where a body begins and its length, or why there is none
+abbrev pub Named : Type 0
+Named = Result Part Refusal
+
+abbrev pub part_from : ℕ → ℕ → Part
+part_from a n = record { begin = a; long = n }
+
 -- where body k begins and its length; 3 where there is none
 unfoldable pub named : List ℕ → ℕ → Named
 named im k =
-    pick (has_body im k) (Named.Part (begin_of im k) (long_of im k))
-    (Named.Refused Refusal.Condition)
+    pick (has_body im k) (Ok (part_from (begin_of im k) (long_of im k)))
+    (Err Refusal.Condition)
 
 -- ---- a reader at place k: the next body's number, or 0 where the image is not by form
 
 -- "Refusals: 1; 3 after the last body."
 unfoldable pub asked : List ℕ → ℕ → Named
-asked im k = pick (eqb k 0) (Named.Refused Refusal.Form) (named im k)
+asked im k = pick (eqb k 0) (Err Refusal.Form) (named im k)
 
 -- "handing out one body at a time": the place afterwards, the same where nothing is handed out
 unfoldable pub after : List ℕ → ℕ → ℕ

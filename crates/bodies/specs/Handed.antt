@@ -7,7 +7,8 @@ use Rattle.rules.specs.Site.{Site}
 use Rattle.rules.specs.Form.{form}
 use Rattle.rules.specs.declared.model.Refusal.{Refusal}
 use Rattle.image.specs.Image.{image_of}
-use Rattle.bodies.specs.declared.Named.{Named}
+use Rattle.std.specs.Prelude.{Ok, Err}
+use Rattle.bodies.specs.Contents.{Named}
 use Rattle.bodies.specs.Contents.{named}
 
 -- "without copying": r lies in the lent bytes x, n of them from a on
@@ -17,8 +18,8 @@ pub record PartOf (x : Bor (List ℕ)) (a n : ℕ) (r : Bor (List ℕ)) : Type 0
 
 -- what is handed out for an answer
 abbrev pub Handed : Bor (List ℕ) → Named → Bor (List ℕ) → Type 0
-Handed x (Named.Part a n) r = PartOf x a n r
-Handed x (Named.Refused why) r = r.now ≡ []
+Handed x (Ok p) r = PartOf x p.begin p.long r
+Handed x (Err why) r = r.now ≡ []
 
 -- no site by form has this image
 abbrev pub NotByForm : List ℕ → Type 0
@@ -26,7 +27,7 @@ NotByForm im = (s : Site) → form s ≡ true → image_of s ≡ im → ⊥
 
 -- body k of an image: 1, else what its table names
 pub data BodyIs (im : List ℕ) (k : ℕ) : Named → Type 0 where
-  not-by-form : NotByForm im → BodyIs im k (Named.Refused Refusal.Form)
+  not-by-form : NotByForm im → BodyIs im k (Err Refusal.Form)
   by_form : (s : Site) → form s ≡ true → image_of s ≡ im → BodyIs im k (named im k)
 
 -- the place at which a reader of the image begins

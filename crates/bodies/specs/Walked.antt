@@ -6,7 +6,8 @@ use Rattle.rules.specs.declared.model.Refusal.{Refusal}
 use Rattle.cells.specs.Cells.{chain}
 use Rattle.image.specs.Image.{numbers_from, general_body, box_body, mail_body, image_of}
 use Rattle.image.specs.Longest.{table_long}
-use Rattle.bodies.specs.declared.Named.{Named}
+use Rattle.std.specs.Prelude.{Ok, Err}
+use Rattle.bodies.specs.Contents.{Named, part_from}
 use Rattle.bodies.specs.Contents.{count_of, begin_of, long_of, body_of, named, asked, after}
 
 -- where a reader that began at place k stands after it handed out, or was asked for, j bodies
@@ -16,10 +17,10 @@ place_after im k (suc j) = place_after im (after im k) j
 
 -- where the table says that body k is
 abbrev pub entry_of : List ℕ → ℕ → Named
-entry_of im k = Named.Part (begin_of im k) (long_of im k)
+entry_of im k = Ok (part_from (begin_of im k) (long_of im k))
 
 abbrev pub none : Named
-none = Named.Refused Refusal.Condition
+none = Err Refusal.Condition
 
 module _ (s : Site) where
   abbrev image : List ℕ
@@ -53,4 +54,4 @@ module _ (s : Site) where
 
 -- a reader of an image that is not by form answers 1, each time that it is asked
 abbrev pub Refused : Type 0
-Refused = (im : List ℕ) (j : ℕ) → asked im (place_after im 0 j) ≡ Named.Refused Refusal.Form
+Refused = (im : List ℕ) (j : ℕ) → asked im (place_after im 0 j) ≡ Err Refusal.Form

@@ -11,13 +11,12 @@ ghost use Rattle.bodies.specs.Contents.{
 };
 ghost use Rattle.bodies.specs.Handed.{Handed, Opened};
 
-use crate::Named;
-use cells::Walk;
+use crate::Part;
 use rules::model::Refusal;
 use words::size;
 
 // Number i of the table, counted from 0.
-fn table_number(image: &[u8], i: usize) -> usize
+pub fn table_number(image: &[u8], i: usize) -> usize
     requires { (4 * i + 4 ≤ length image.now) × (i < 16) }
     ensures { (result ≡ table_number image.now i) × (result < 4294967296) }
 {
@@ -25,7 +24,7 @@ fn table_number(image: &[u8], i: usize) -> usize
 }
 
 // The entry of body k, which stands in the table.
-fn entry(image: &[u8], k: usize) -> Named
+fn entry(image: &[u8], k: usize) -> Result<Part, Refusal>
     requires { (is_number k ≡ true) × (table_bytes k ≤ length image.now) }
     ensures { result ≡ named_in image.now k }
 {
@@ -33,13 +32,13 @@ fn entry(image: &[u8], k: usize) -> Named
     let begin = table_number(image, 2 * k - 1);
     let long = table_number(image, 2 * k);
     if (k <= count) & (begin + long <= image.len()) {
-        return Named::Part(begin, long);
+        return Ok(Part { begin, long });
     }
-    Named::Refused(Refusal::Condition)
+    Err(Refusal::Condition)
 }
 
 // What the table names for body k: 3 where k is no body's number, or nothing inside the bytes.
-pub fn named(image: &[u8], k: u32) -> Named
+pub fn named(image: &[u8], k: u32) -> Result<Part, Refusal>
     ensures { result ≡ named_in image.now k }
 {
     if (1 <= k) & (k <= 7) {
@@ -48,7 +47,7 @@ pub fn named(image: &[u8], k: u32) -> Named
             return entry(image, b);
         }
     }
-    Named::Refused(Refusal::Condition)
+    Err(Refusal::Condition)
 }
 
 // Body k itself, no copy of it; none where the table names none.
@@ -57,18 +56,18 @@ pub fn part<'a>(image: &'a [u8], k: u32) -> &'a [u8]
 {
     let is = named(image, k);
     match is {
-        Named::Part(a, n) => &image[a..a + n],
-        Named::Refused(_) => &image[0..0],
+        Ok(part) => &image[part.begin..part.begin + part.long],
+        Err(_) => &image[0..0],
     }
 }
 
 // What a reader answers at place k: 1 at place 0, where the image is not by form; 3 after the last
 // body.
-pub fn asked(image: &[u8], k: u32) -> Named
+pub fn asked(image: &[u8], k: u32) -> Result<Part, Refusal>
     ensures { result ≡ asked_in image.now k }
 {
     if k == 0 {
-        return Named::Refused(Refusal::Form);
+        return Err(Refusal::Form);
     }
     named(image, k)
 }
@@ -79,8 +78,8 @@ pub fn after(image: &[u8], k: u32) -> u32
 {
     let is = named(image, k);
     match is {
-        Named::Part(_, _) => k + 1,
-        Named::Refused(_) => k,
+        Ok(_) => k + 1,
+        Err(_) => k,
     }
 }
 
@@ -90,7 +89,7 @@ pub fn first(image: &[u8]) -> u32
 {
     let r = whole::check_image(image);
     match r {
-        Walk::Next(_) => 1,
-        Walk::Bad => 0,
+        Some(_) => 1,
+        None => 0,
     }
 }

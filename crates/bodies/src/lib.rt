@@ -11,26 +11,25 @@ ghost use Rattle.std.specs.Prelude.{◌≡◌};
 ghost use Rattle.bodies.specs.Contents.{named as named_in, asked as asked_in, after as after_in};
 ghost use Rattle.bodies.specs.Handed.{Handed, BodyIs, Opened};
 
-use cells::Walk;
 use rules::model::Refusal;
 
 pub mod contents;
 
-// Where a body begins and its length, or why there is none.
+// Where a body begins, and its length.
 #[derive(Clone, Copy)]
-pub enum Named {
-    Part(usize, usize),
-    Refused(Refusal),
+pub struct Part {
+    pub begin: usize,
+    pub long: usize,
 }
 
 // Body k of an image: 1 where the whole image is not by form, 3 where k is no body's number.
-pub fn body(image: &[u8], k: u32) -> Named
+pub fn body(image: &[u8], k: u32) -> Result<Part, Refusal>
     ensures { BodyIs image.now k result }
 {
     let r = whole::check_image(image);
     match r {
-        Walk::Next(_) => contents::named(image, k),
-        Walk::Bad => Named::Refused(Refusal::Form),
+        Some(_) => contents::named(image, k),
+        None => Err(Refusal::Form),
     }
 }
 
@@ -53,7 +52,7 @@ pub fn open<'a>(image: &'a [u8]) -> Bodies<'a>
 
 impl<'a> Bodies<'a> {
     // Where the next body is; or 1, or after the last body 3, each time that it is asked.
-    pub fn asked(self) -> Named
+    pub fn asked(self) -> Result<Part, Refusal>
         ensures { result ≡ asked_in self.entry.image.now self.entry.next }
     {
         contents::asked(self.image, self.next)

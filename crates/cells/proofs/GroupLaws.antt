@@ -2,7 +2,7 @@
 -- written and read one group after another.
 use mathlib.Core.Path.{◌≡◌, refl, sym, ap, ◌∙◌, subst}
 use mathlib.Core.Bool.{Bool, true, false}
-use Prim.Native.Nat.{ℕ, zero, suc, ◌+◌, ◌-◌, ◌*◌, ◌/◌, ◌^◌, ◌≤◌, ◌<◌}
+use Prim.Native.Nat.{ℕ, zero, suc, ◌+◌, ◌-◌, ◌*◌, ◌^◌, ◌≤◌, ◌<◌}
 use native.Mathlib.Nat.{add-sub_cancel_left}
 use native.Mathlib.Numerals.{add-one}
 use native.Mathlib.Omega.{arith}
@@ -13,18 +13,17 @@ use lib.ListN.{get_or-replicate}
 use lib.Seq.{take_at, drop_at, drop-drop}
 use lib.Seq.{ext_get_or, take-suc, take_all, length-take-le, take-take, get_or-take}
 use borrow.Author.Tests.{leb-true, leb-false, ltb-true, ltb-false}
-use Rattle.words.specs.Rows.{part, splice}
+use Rattle.words.specs.Rows.{splice}
 use Rattle.words.proofs.PartLaws.{length_part, get_or_part, length-splice, part-splice}
 use Rattle.words.proofs.PartLaws.{get_or-splice, get_or_past, part-below}
-use Rattle.cells.specs.Cells.{chain, cells, Each, All, Below, Stands, Read, Room}
-use Rattle.cells.specs.Cells.{Wrote}
-use Rattle.cells.specs.Groups.{Group, group_end, group_words, group_bytes, groups_bytes}
-use Rattle.cells.specs.Groups.{groups_length, Cut, groups_of, Outside, GroupFits}
+use Rattle.cells.specs.Cells.{chain, cells, Each, All, Below, Stands, Read}
+use Rattle.cells.specs.declared.groups.Group.{Group}
+use Rattle.cells.specs.Groups.{group_end, group_words, group_bytes, groups_bytes}
+use Rattle.cells.specs.Groups.{groups_length, Cut, Outside, GroupFits}
 use Rattle.cells.specs.Groups.{GroupedWords, GroupRead, GroupsRead}
 use Rattle.cells.proofs.ChainLaws.{length-cells, chain_snoc, each_snoc, each_take, each_at}
 use Rattle.cells.proofs.ChainLaws.{each_map, chain_same}
 use Rattle.cells.proofs.StandLaws.{stands-nil, stands_seq, stands_as}
-use Rattle.cells.proofs.WriteLaws.{room-next, wrote-next}
 use Rattle.cells.proofs.CodeLaws.{Code, cells-code, cancel-same, regroup}
 
 abbrev pub no_group : Group
@@ -178,94 +177,6 @@ groups-code gs m rest c v w r s p q e =
     (λ k h. same_at v w gs same k
     (λ o. p.none k (omega arith) o ∙ sym (q.none k (omega arith) o)))
 
--- ---- as the code has them: three numbers each
-
-pub length-groups-of : (ns : List ℕ) → length (groups_of ns) ≡ length ns / 3
-unfolding groups_of
-length-groups-of [] = refl
-length-groups-of (k ∷ []) = omega arith
-length-groups-of (k ∷ a ∷ []) = omega arith
-length-groups-of (k ∷ a ∷ c ∷ ns) = let h = length-groups-of ns in omega arith
-
-pub groups-of-at : (ns : List ℕ) (i : ℕ) → i < length (groups_of ns)
-    → get_or (groups_of ns) i no_group
-    ≡ record {
-      width = get_or ns (3 * i) 0;
-      from = get_or ns (3 * i + 1) 0;
-      count = get_or ns (3 * i + 2) 0;
-    }
-unfolding groups_of
-groups-of-at [] i h = absurd (omega arith)
-groups-of-at (k ∷ []) i h = absurd (omega arith)
-groups-of-at (k ∷ a ∷ []) i h = absurd (omega arith)
-groups-of-at (k ∷ a ∷ c ∷ ns) zero h = refl
-groups-of-at (k ∷ a ∷ c ∷ ns) (suc i) h =
-    let s0 : 3 * suc i ≡ suc (suc (suc (3 * i))) = omega arith in
-    let s1 : 3 * suc i + 1 ≡ suc (suc (suc (3 * i + 1))) = omega arith in
-    let s2 : 3 * suc i + 2 ≡ suc (suc (suc (3 * i + 2))) = omega arith in
-    let all = k ∷ a ∷ c ∷ ns in
-    groups-of-at ns i (omega arith)
-    ∙ sym (λ j. record {
-      width = get_or all (s0 j) 0;
-      from = get_or all (s1 j) 0;
-      count = get_or all (s2 j) 0;
-    })
-
-module _ (ns : List ℕ) (i : ℕ) (h : i < length ns / 3) where
-  abbrev pub width_at : ℕ
-  width_at = get_or ns (3 * i) 0
-
-  abbrev pub from_at : ℕ
-  from_at = get_or ns (3 * i + 1) 0
-
-  abbrev pub count_at : ℕ
-  count_at = get_or ns (3 * i + 2) 0
-
-  pub group-is : get_or (groups_of ns) i no_group
-      ≡ record { width = width_at; from = from_at; count = count_at }
-  group-is = groups-of-at ns i (omega (arith, length-groups-of ns))
-
-  group-here : i < length (groups_of ns)
-  group-here = omega (arith, length-groups-of ns)
-
-  -- It lies within the words.
-  pub group_in : (m : ℕ) → Cut 0 m (groups_of ns) → (from_at + count_at ≤ m) × (width_at ≤ 8)
-  group_in m c =
-      let b = cut-at-group m (groups_of ns) 0 i c group-here in
-      let e = group-is in (
-        subst (λ (g : Group). group_end g ≤ m) e b.1,
-        subst (λ (g : Group). g.width ≤ 8) e b.2,
-      )
-
-  -- How long the groups with it are.
-  pub group-end : groups_length (take (i + 1) (groups_of ns))
-      ≡ groups_length (take i (groups_of ns)) + count_at * width_at
-  group-end =
-      length-next-group (groups_of ns) i group-here
-      ∙ ap (λ (g : Group). groups_length (take i (groups_of ns)) + g.count * g.width) group-is
-
-  module _ (w : List ℕ) where
-    group-bytes : group_bytes w (get_or (groups_of ns) i no_group)
-        ≡ cells width_at (part w from_at count_at)
-    group-bytes = ap (group_bytes w) group-is
-
-    -- There is room for it, and it is written.
-    pub group-room : {o o' : List ℕ} {at p : ℕ} → Room (groups_bytes (groups_of ns) w) o at
-        → Wrote (chain (group_bytes w) (take i (groups_of ns))) o at o' p
-        → Room (cells width_at (part w from_at count_at)) o' p
-    unfolding groups_bytes
-    group-room {o} {o'} {at} {p} r v =
-        subst (λ (l : List ℕ). Room l o' p) group-bytes
-        (room-next (group_bytes w) (groups_of ns) no_group i group-here r v)
-
-    pub group-wrote : {o o1 o2 : List ℕ} {at p q : ℕ}
-        → Wrote (chain (group_bytes w) (take i (groups_of ns))) o at o1 p
-        → Wrote (cells width_at (part w from_at count_at)) o1 p o2 q
-        → Wrote (chain (group_bytes w) (take (i + 1) (groups_of ns))) o at o2 q
-    group-wrote {o} {o1} {o2} {at} {p} {q} v x =
-        wrote-next (group_bytes w) (groups_of ns) no_group i group-here v
-        (subst (λ (l : List ℕ). Wrote l o1 p o2 q) (sym group-bytes) x)
-
 -- ---- read, the first i of them
 
 module _ (gs : List Group) (src : List ℕ) (at : ℕ) (w : List ℕ) where
@@ -374,10 +285,10 @@ module _ (gs : List Group) (src : List ℕ) (at : ℕ) (w : List ℕ) where
         rest = λ k o. outside k (apart k o) ∙ g.rest k (before k o);
       }
 
--- Read into words that were all `rest`, by the code's numbers for the groups gs.
-pub groups-grouped : (gs : List Group) (m rest : ℕ) (ns : List ℕ) {src : List ℕ} {at : ℕ}
-    {w v : List ℕ} {r : ℕ} → groups_of ns ≡ gs → w ≡ replicate m rest
-    → GroupsRead (groups_of ns) src at w v r
+-- Read into words that were all `rest`, by the code's list of the groups gs.
+pub groups-grouped : (gs : List Group) (m rest : ℕ) (ns : List Group) {src : List ℕ} {at : ℕ}
+    {w v : List ℕ} {r : ℕ} → ns ≡ gs → w ≡ replicate m rest
+    → GroupsRead ns src at w v r
     → GroupedWords gs m rest v × Stands (groups_bytes gs v) src at r
 groups-grouped gs m rest ns {src} {at} {w} {v} {r} n e g' =
     let g = subst (λ (l : List Group). GroupsRead l src at w v r) n g' in (
@@ -390,20 +301,14 @@ groups-grouped gs m rest ns {src} {at} {w} {v} {r} n e g' =
       g.stands,
     )
 
--- As the code has it: the next group was read, with its three numbers.
-module _ (ns : List ℕ) (i : ℕ) (h : i < length ns / 3) (src : List ℕ) (at : ℕ) (w : List ℕ)
-    (cut : Cut 0 (length w) (groups_of ns)) where
-  pub group-read : {v u : List ℕ} {p q : ℕ} → GroupsRead (take i (groups_of ns)) src at w v p
-      → GroupRead (width_at ns i h) (from_at ns i h) (count_at ns i h) src p v u q
-      → GroupsRead (take (i + 1) (groups_of ns)) src at w u q
+-- The next group was read.
+module _ (gs : List Group) (i : ℕ) (h : i < length gs) (src : List ℕ) (at : ℕ) (w : List ℕ)
+    (cut : Cut 0 (length w) gs) where
+  pub group-read : {v u : List ℕ} {p q : ℕ} → GroupsRead (take i gs) src at w v p
+      → GroupRead (get_or gs i no_group) src p v u q → GroupsRead (take (i + 1) gs) src at w u q
   group-read {v} {u} {p} {q} g r =
-      let e = group-is ns i h in
-      let d = r.words in
-      subst (λ (x : List ℕ). GroupsRead (take (i + 1) (groups_of ns)) src at w x q)
-      (ap (λ (x : Group). splice v x.from x.count d) e ∙ sym r.put)
-      (groups-next (groups_of ns) src at w 0 cut i (group-here ns i h) v d g
-      (r.count ∙ sym (ap (λ (x : Group). x.count) e))
-      (subst (λ (k : ℕ). Read k src p d q) (sym (ap (λ (x : Group). x.width) e)) r.read))
+      subst (λ (x : List ℕ). GroupsRead (take (i + 1) gs) src at w x q) (sym r.put)
+      (groups-next gs src at w 0 cut i h v r.words g r.count r.read)
 
 -- Behind a head v, m records ys take the place of what the row w had there.
 pub headed_put : (v w : List ℕ) {tail : List ℕ} (h m : ℕ) (ys : List ℕ) → tail ≡ drop h w

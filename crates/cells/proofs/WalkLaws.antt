@@ -6,8 +6,10 @@ use native.Mathlib.Omega.{arith}
 use mathlib.Core.List.{List, [], ◌∷◌, ◌++◌}
 use lib.ListN.{length, take, drop, get_or, length-append}
 use lib.Seq.{length-take-le, drop-cons}
-use Rattle.cells.specs.declared.Walk.{Walk}
+use Rattle.std.specs.Prelude.{Option, Some, None}
 use Rattle.cells.specs.Cells.{chain, Each, All, Stands, Found, NoneAt, WalkIs, Many}
+use Rattle.cells.specs.Steps.{Reached, Steps}
+use Rattle.cells.specs.Steps.Reached.{start, onward}
 use Rattle.cells.proofs.ChainLaws.{chain-cons, chain_snoc, chain-split, each_snoc, each_take}
 use Rattle.cells.proofs.ChainLaws.{each_at, each_map}
 use Rattle.cells.proofs.StandLaws.{stands-nil, stands_as, stands_seq, stands-first}
@@ -17,9 +19,12 @@ use Rattle.cells.proofs.CodeLaws.{Code, chain-code}
 -- ---- what a walk has answered
 
 module _ {A : Type 0} {enc : A → List ℕ} {Good : A → Type 0} {src : List ℕ} {at : ℕ} where
-  pub walk-found : {r : Walk} {q : ℕ} → r ≡ Walk.Next q → WalkIs enc Good src at r
+  pub walk-found : {r : Option ℕ} {q : ℕ} → r ≡ Some q → WalkIs enc Good src at r
       → Found enc Good src at q
   walk-found e f = subst (WalkIs enc Good src at) e f
+
+  pub none-found : {r : Option ℕ} → r ≡ None → NoneAt enc Good src at → WalkIs enc Good src at r
+  none-found e none = subst (WalkIs enc Good src at) (sym e) none
 
 -- Behind the first i of the things l stands the next.
 pub next-stands : {A : Type 0} (enc : A → List ℕ) (l : List A) (i : ℕ) (d : A) {src : List ℕ}
@@ -103,7 +108,7 @@ module _ {A : Type 0} {enc : A → List ℕ} {Good : ℕ → A → Type 0} {src 
   -- The next is not by form: there are no n such things.
   pub walk-stop : {Range : A → Type 0} → Code enc Range
       → ((i : ℕ) (a : A) → Good i a → Range a) → {i p : ℕ} → Walked enc Good src at n i p
-      → i < n → {r : Walk} → r ≡ Walk.Bad → WalkIs enc (Good i) src p r
+      → i < n → {r : Option ℕ} → r ≡ None → WalkIs enc (Good i) src p r
       → NoneAt (chain enc) (Many Good n) src at
   walk-stop code fits w h bad none [] q g v = let count = g.count in omega arith
   walk-stop {Range = Range} code fits {i} {p} w h bad none (d ∷ m) q g v =
@@ -130,3 +135,24 @@ module _ {A : Type 0} {enc : A → List ℕ} {Good : ℕ → A → Type 0} {src 
           (f.good.count ∙ sym (length-take-le i l (omega (arith, within))))
           (ranged f.thing f.good.each)
           (ranged (take i l) (each_take Good i l g.each)) (sym f.stands.here ∙ first.here)
+
+-- ---- by steps
+
+module _ {A : Type 0} {enc : A → List ℕ} {Good : A → Type 0} {src : List ℕ} {at : ℕ}
+    {R : ℕ → Option ℕ → Type 0} (n : ℕ)
+    (finds : (p : ℕ) (r : Option ℕ) → p ≤ length src → R p r → WalkIs enc Good src p r)
+    (within : at ≤ length src) where
+  reached-walked : {i p : ℕ} → i ≤ n → Reached R at i p → Walked enc (λ k. Good) src at n i p
+  reached-walked few start = walk_none within
+  reached-walked few (onward {i} {p} {q} w r) =
+      let b = reached-walked (omega arith) w in
+      walk-next b (omega arith) (finds p (Some q) b.room r)
+
+  -- What n steps answer, each of which finds the next thing or none.
+  pub steps-found : {Range : A → Type 0} → Code enc Range → ((a : A) → Good a → Range a)
+      → (r : Option ℕ) → Steps R at n r → WalkIs (chain enc) (Many (λ k. Good) n) src at r
+  steps-found code fits (Some p) w = walk-all (reached-walked (omega arith) w) (omega arith)
+  steps-found code fits None e =
+      let few = e.few in
+      let b = reached-walked (omega arith) e.reached in
+      walk-stop code (λ k. fits) b few refl (finds e.place None b.room e.none)

@@ -3,7 +3,7 @@
 use Rattle.std.specs.Prelude.{◌≡◌, Bool, true, false, ℕ, suc, ◌+◌, ◌*◌, ◌^◌, ◌≤◌, ◌<◌, List, []}
 use Rattle.std.specs.Prelude.{◌∷◌, ◌++◌, length, take, drop}
 use Rattle.le.specs.Le.{le}
-use Rattle.cells.specs.declared.Walk.{Walk}
+use Rattle.std.specs.Prelude.{Option, Some, None}
 
 -- what each thing is made of, one after another: mostly its bytes
 unfoldable pub chain {ℓ κ} : {A : Type ℓ} {B : Type κ} → (A → List B) → List A → List B
@@ -69,9 +69,9 @@ module _ {A : Type 0} (enc : A → List ℕ) (Good : A → Type 0) (src : List �
   NoneAt = (a : A) (r : ℕ) → Good a → Stands (enc a) src at r → ⊥
 
   -- what a walk answers
-  abbrev pub WalkIs : Walk → Type 0
-  WalkIs (Walk.Next r) = Found r
-  WalkIs Walk.Bad = NoneAt
+  abbrev pub WalkIs : Option ℕ → Type 0
+  WalkIs (Some r) = Found r
+  WalkIs None = NoneAt
 
   -- some thing by form stands at `at`
   pub record Has : Type 0 where

@@ -3,14 +3,10 @@
 use Rattle.std.specs.Prelude.{◌≡◌, ℕ, ◌+◌, ◌*◌, ◌^◌, ◌≤◌, ◌<◌, List, [], ◌∷◌, ◌++◌, length, drop}
 use Rattle.std.specs.Prelude.{get_or}
 use Rattle.words.specs.Rows.{part, splice}
+use Rattle.cells.specs.declared.groups.Group.{Group}
 use Rattle.cells.specs.Cells.{chain, cells, All, Below, Stands, Read}
 
 -- `count` words from word `from` on, each of `width` bytes
-pub record Group : Type 0 where
-  pub width : ℕ
-  pub from : ℕ
-  pub count : ℕ
-
 abbrev pub group : ℕ → ℕ → ℕ → Group
 group k a c = record { width = k; from = a; count = c }
 
@@ -35,13 +31,6 @@ unfoldable pub Cut : ℕ → ℕ → List Group → Type 0
 Cut low m [] = low ≤ m
 Cut low m (g ∷ gs) = (low ≤ g.from) × (g.width ≤ 8) × Cut (group_end g) m gs
 
--- in code a group is three numbers
-unfoldable pub groups_of : List ℕ → List Group
-groups_of [] = []
-groups_of (k ∷ []) = []
-groups_of (k ∷ a ∷ []) = []
-groups_of (k ∷ a ∷ c ∷ ns) = group k a c ∷ groups_of ns
-
 -- word k is in none of them
 abbrev pub Outside : List Group → ℕ → Type 0
 Outside gs k = All (λ (g : Group). g.from ≤ k → k < group_end g → ⊥) gs
@@ -56,12 +45,12 @@ pub record GroupedWords (gs : List Group) (m rest : ℕ) (w : List ℕ) : Type 0
   pub below : All (GroupFits w) gs
   pub none : (k : ℕ) → k < m → Outside gs k → get_or w k 0 ≡ rest
 
--- the words w have become v: c numbers of k bytes stand at `at`, and are those from a on
-pub record GroupRead (k a c : ℕ) (src : List ℕ) (at : ℕ) (w v : List ℕ) (r : ℕ) : Type 0 where
+-- the words w have become v: the group's numbers stand at `at`, and are its words
+pub record GroupRead (g : Group) (src : List ℕ) (at : ℕ) (w v : List ℕ) (r : ℕ) : Type 0 where
   pub words : List ℕ
-  pub count : length words ≡ c
-  pub read : Read k src at words r
-  pub put : v ≡ splice w a c words
+  pub count : length words ≡ g.count
+  pub read : Read g.width src at words r
+  pub put : v ≡ splice w g.from g.count words
 
 -- the words w have become v: the groups stand at `at`, r is the place behind them, and the words in
 -- no group are as they were

@@ -2,3 +2,4 @@
 pub mod Cells
 pub mod Groups
 pub mod Stored
+pub mod Steps

@@ -3,29 +3,28 @@ ghost use Rattle.std.specs.Prelude.{◌+◌, ◌^◌, ◌≤◌, ◌<◌, length
 ghost use Rattle.cells.specs.Cells.{Wrote, Room};
 ghost use Rattle.cells.specs.Groups.{
   Cut,
-  groups_of,
   groups_length,
   headed_bytes,
   RecordsThere,
   HeadedRead,
 };
 
-use crate::{get_groups, get_words, put_groups, put_words};
+use crate::{Group, get_groups, get_words, put_groups, put_words};
 
 // The words of `row` are written at `at`: its head, and the records behind it.
 pub fn put_headed(
     out: &mut [u8],
     at: usize,
-    groups: &[usize],
+    groups: &[Group],
     head: usize,
     count: usize,
     row: &[u64],
 ) -> usize
-    requires cut { Cut 0 (length row.now) (groups_of groups.now) }
+    requires cut { Cut 0 (length row.now) groups.now }
     requires count_in_bounds { (count < length row.now)
         × (head + get_or row.now count 0 ≤ length row.now) }
-    requires room { Room (headed_bytes (groups_of groups.now) head count row.now) out.old at }
-    ensures { Wrote (headed_bytes (groups_of groups.now) head count row.now)
+    requires room { Room (headed_bytes groups.now head count row.now) out.old at }
+    ensures { Wrote (headed_bytes groups.now head count row.now)
         out.old at out.new result }
 {
     let p = put_groups(out, at, groups, row);
@@ -38,18 +37,18 @@ pub fn put_headed(
 pub fn get_headed(
     src: &[u8],
     at: usize,
-    groups: &[usize],
+    groups: &[Group],
     head: usize,
     count: usize,
     rest: u64,
     row: &mut [u64],
 ) -> usize
-    requires cut { Cut 0 head (groups_of groups.now) }
+    requires cut { Cut 0 head groups.now }
     requires count_lt_head { (count < head) × (head ≤ length row.old) × (length row.old < 2 ^ 64) }
-    requires groups_in_bounds { at + groups_length (groups_of groups.now) ≤ length src.now }
-    requires records_there { RecordsThere (groups_of groups.now) head count rest src.now at
+    requires groups_in_bounds { at + groups_length groups.now ≤ length src.now }
+    requires records_there { RecordsThere groups.now head count rest src.now at
         (length row.old) }
-    ensures { HeadedRead (groups_of groups.now) head count rest src.now at
+    ensures { HeadedRead groups.now head count rest src.now at
         row.old row.new result }
 {
     words::fill(&mut row[..head], rest);

@@ -6,16 +6,11 @@ ghost use Rattle.cells.specs.Cells.{cells, Wrote, Room, Read, WordsAre};
 
 mod groups;
 mod headed;
+mod steps;
 
-pub use groups::{get_groups, put_groups};
+pub use groups::{Group, get_groups, put_groups};
 pub use headed::{get_headed, put_headed};
-
-// What a walk over bytes finds: the place behind a thing by form, or that there is none.
-#[derive(Clone, Copy)]
-pub enum Walk {
-    Next(usize),
-    Bad,
-}
+pub use steps::walk;
 
 // The numbers ws, of k bytes each, are written at `at`. The place behind them is answered.
 pub fn put_words(out: &mut [u8], at: usize, k: usize, ws: &[u64]) -> usize
@@ -23,11 +18,9 @@ pub fn put_words(out: &mut [u8], at: usize, k: usize, ws: &[u64]) -> usize
     ensures { Wrote (cells k ws.now) out.old at out.new result }
 {
     let mut p = at;
-    let mut i = 0;
-    while i < ws.len() {
-        le::put_at(out, p, k, ws[i]);
+    for x in ws {
+        le::put_at(out, p, k, *x);
         p += k;
-        i += 1;
     }
     p
 }
@@ -39,11 +32,9 @@ pub fn get_words(src: &[u8], at: usize, k: usize, dst: &mut [u64]) -> usize
     ensures { Read k src.now at dst.new result }
 {
     let mut p = at;
-    let mut i = 0;
-    while i < dst.len() {
-        dst[i] = le::get_at(src, p, k);
+    for x in dst.iter_mut() {
+        *x = le::get_at(src, p, k);
         p += k;
-        i += 1;
     }
     p
 }
@@ -54,13 +45,11 @@ pub fn has_words(src: &[u8], at: usize, k: usize, ws: &[u64]) -> bool
     ensures { WordsAre k ws.now src.now at result }
 {
     let mut p = at;
-    let mut i = 0;
-    while i < ws.len() {
-        if le::get_at(src, p, k) != ws[i] {
+    for x in ws {
+        if le::get_at(src, p, k) != *x {
             return false;
         }
         p += k;
-        i += 1;
     }
     true
 }

@@ -9,7 +9,7 @@ use Rattle.words.specs.Rows.{part}
 use Rattle.words.proofs.PartLaws.{gets-all}
 use Rattle.le.specs.Le.{le, Number}
 use Rattle.rules.specs.Sizes.{most_loads, most_mails, proper}
-use Rattle.cells.specs.declared.Walk.{Walk}
+use Rattle.std.specs.Prelude.{Option, Some, None}
 use Rattle.cells.specs.Cells.{chain, cells, Found, NoneAt, WalkIs, Many}
 use Rattle.cells.proofs.StandLaws.{stands-le, stands_seq, stands_as}
 use Rattle.cells.proofs.CodeLaws.{le-code, same-thing}
@@ -39,10 +39,10 @@ module _ {J L : ℕ} (loads : J ≤ most_loads) (mails : L ≤ most_mails) {src 
   pub link-none : L < count → NoneAt link_bytes (GoodLink J L) src at
   link-none over ys q h v = let room = h.room in omega (arith, (link-told loads mails g h v).0)
 
-  pub link-then : count ≤ L → (r : Walk)
+  pub link-then : count ≤ L → (r : Option ℕ)
       → WalkIs (chain letter_bytes) (Many (λ i. GoodLetter J) count) src p r
       → WalkIs link_bytes (GoodLink J L) src at r
-  link-then few (Walk.Next q) f =
+  link-then few (Some q) f =
       let n = f.good.count in
       let e : w ≡ count_word f.thing =
       sym (gets-all 0 w 1 g.one) ∙ ap (λ (k : ℕ). k ∷ []) (sym (n ∙ g.said)) in
@@ -52,6 +52,6 @@ module _ {J L : ℕ} (loads : J ≤ most_loads) (mails : L ≤ most_mails) {src 
         stands = stands_as (sym (link-split f.thing))
             (stands_seq (stands_as (ap (cells 4) e) g.read.stands) f.stands);
       }
-  link-then few Walk.Bad none = λ ys q h v.
+  link-then few None none = λ ys q h v.
       let t = link-told loads mails g h v in
       none ys q (record { count = t.0; each = h.letters }) t.1

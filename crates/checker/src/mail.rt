@@ -6,58 +6,42 @@ ghost use Rattle.cells.specs.Cells.{chain, cells, WalkIs, Many};
 ghost use Rattle.image.specs.Image.{letter_bytes, link_bytes};
 ghost use Rattle.image.specs.Parts.{GoodRecord, GoodLetter, GoodLink};
 
-use cells::Walk;
-use values::Fault;
 use words::size;
 
-pub fn check_record(src: &[u8], at: usize) -> Walk
+pub fn check_record(src: &[u8], at: usize) -> Option<usize>
     requires { at ≤ length src.now }
     ensures { WalkIs (le 8) GoodRecord src.now at result }
 {
     if src.len() - at < 8 {
-        return Walk::Bad;
+        return None;
     }
     let x = le::get_at(src, at, 8);
     if values::is_proper(x) {
-        return Walk::Next(at + 8);
+        return Some(at + 8);
     }
-    Walk::Bad
+    None
 }
 
-pub fn check_records(src: &[u8], at: usize, n: usize) -> Walk
+pub fn check_records(src: &[u8], at: usize, n: usize) -> Option<usize>
     requires { at ≤ length src.now }
     ensures { WalkIs (cells 8) (Many (λ i. GoodRecord) n) src.now at result }
 {
-    let mut p = at;
-    let mut i = 0;
-    while i < n {
-        let r = check_record(src, p);
-        match r {
-            Walk::Next(q) => {
-                p = q;
-                i += 1;
-            }
-            Walk::Bad => {
-                return Walk::Bad;
-            }
-        }
-    }
-    Walk::Next(p)
+    cells::walk(at, n, |p| check_record(src, p))
 }
 
 // Its kind says how long its head is.
-pub fn check_letter(src: &[u8], at: usize, j: u32) -> Walk
+pub fn check_letter(src: &[u8], at: usize, j: u32) -> Option<usize>
     requires at_in_bounds { at ≤ length src.now }
     requires j_le_most_loads { j ≤ most_loads }
     ensures { WalkIs letter_bytes (GoodLetter j) src.now at result }
 {
     if src.len() - at < 4 {
-        return Walk::Bad;
+        return None;
     }
     let kind = letter::kind_of(le::get_at(src, at, 4));
     let least = image::letter_head_bytes(kind);
     if src.len() - at < least {
-        return Walk::Bad;
+        return None;
     }
     let mut w = [0u64; letter::HEAD];
     let groups = image::letter_groups(kind);
@@ -65,69 +49,41 @@ pub fn check_letter(src: &[u8], at: usize, j: u32) -> Walk
     let count = size(w[letter::COUNT]);
     let f = letter::head_fault(&w, j);
     match f {
-        Fault::None => check_records(src, p, count),
-        Fault::At(_) => Walk::Bad,
+        None => check_records(src, p, count),
+        Some(_) => None,
     }
 }
 
-pub fn check_letters(src: &[u8], at: usize, n: usize, j: u32) -> Walk
+pub fn check_letters(src: &[u8], at: usize, n: usize, j: u32) -> Option<usize>
     requires at_in_bounds { at ≤ length src.now }
     requires j_le_most_loads { j ≤ most_loads }
     ensures { WalkIs (chain letter_bytes) (Many (λ i. GoodLetter j) n) src.now at result }
 {
-    let mut p = at;
-    let mut i = 0;
-    while i < n {
-        let r = check_letter(src, p, j);
-        match r {
-            Walk::Next(q) => {
-                p = q;
-                i += 1;
-            }
-            Walk::Bad => {
-                return Walk::Bad;
-            }
-        }
-    }
-    Walk::Next(p)
+    cells::walk(at, n, |p| check_letter(src, p, j))
 }
 
-pub fn check_link(src: &[u8], at: usize, j: u32, l: usize) -> Walk
+pub fn check_link(src: &[u8], at: usize, j: u32, l: usize) -> Option<usize>
     requires at_in_bounds { at ≤ length src.now }
     requires j_le_most_loads { (j ≤ most_loads) × (l ≤ most_mails) }
     ensures { WalkIs link_bytes (GoodLink j l) src.now at result }
 {
     if src.len() - at < 4 {
-        return Walk::Bad;
+        return None;
     }
     let mut w = [0u64; 1];
     let p = cells::get_words(src, at, 4, &mut w);
     let count = size(w[0]);
     if l < count {
-        return Walk::Bad;
+        return None;
     }
     check_letters(src, p, count, j)
 }
 
 // The links of the mail body, m of them.
-pub fn check_links(src: &[u8], at: usize, m: usize, j: u32, l: usize) -> Walk
+pub fn check_links(src: &[u8], at: usize, m: usize, j: u32, l: usize) -> Option<usize>
     requires at_in_bounds { at ≤ length src.now }
     requires j_le_most_loads { (j ≤ most_loads) × (l ≤ most_mails) }
     ensures { WalkIs (chain link_bytes) (Many (λ i. GoodLink j l) m) src.now at result }
 {
-    let mut p = at;
-    let mut i = 0;
-    while i < m {
-        let r = check_link(src, p, j, l);
-        match r {
-            Walk::Next(q) => {
-                p = q;
-                i += 1;
-            }
-            Walk::Bad => {
-                return Walk::Bad;
-            }
-        }
-    }
-    Walk::Next(p)
+    cells::walk(at, m, |p| check_link(src, p, j, l))
 }

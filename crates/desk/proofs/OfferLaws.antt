@@ -24,9 +24,7 @@ use Rattle.site.specs.Entries.{After, FormedStep}
 use Rattle.site.proofs.AfterLaws.{need-met, need-not, no_needs, refused-after}
 use Rattle.desk.specs.Desk.{chosen_of, leaves}
 use Rattle.desk.specs.Offer.{offered, offered_on, is_settled, answer_by, PairIs}
-use Rattle.desk.specs.declared.answers.Chosen.{Chosen}
-use Rattle.desk.specs.declared.answers.Offered.{Offered}
-use Rattle.desk.specs.declared.answers.Pairing.{Pairing}
+use Rattle.std.specs.Prelude.{⊤, Result, Ok, Err}
 use Rattle.desk.specs.declared.answers.Why.{Why}
 
 -- ---- an offer is never taken or discarded
@@ -113,20 +111,20 @@ module _ (xs ls : List ℕ) (f g : ℕ) where
 
 -- ---- the ways of `offer_pair` and `pair`; o is what the offer came to
 
-module _ {f g : ℕ} {ws xs ls ys ms : List ℕ} {o : Offered} (chosen : chosen_of f ws
-    ≡ Chosen.Right g)
+module _ {f g : ℕ} {ws xs ls ys ms : List ℕ} {o : Result ⊤ Refusal} (chosen : chosen_of f ws
+    ≡ Ok g)
     (after : After (offered_on xs ls f g) xs ls ys ms (answer_by o)) where
-  pub pair-accepted : {vs : List ℕ} → o ≡ Offered.Accepted → vs ≡ leaves f g ws
-      → PairIs f ws xs ls vs ys ms (Pairing.Paired g)
+  pub pair-accepted : {vs : List ℕ} → o ≡ Ok tt → vs ≡ leaves f g ws
+      → PairIs f ws xs ls vs ys ms (Ok g)
   pair-accepted e l =
       rw l (PairIs.accepted chosen
       (subst (After (offered_on xs ls f g) xs ls ys ms) (ap answer_by e) after))
 
-  pub pair-kept : {why : Refusal} → o ≡ Offered.Refused why
-      → PairIs f ws xs ls ws ys ms (Pairing.Refused (Why.Engine why))
+  pub pair-kept : {why : Refusal} → o ≡ Err why
+      → PairIs f ws xs ls ws ys ms (Err (Why.Engine why))
   pair-kept e =
       PairIs.kept chosen (subst (After (offered_on xs ls f g) xs ls ys ms) (ap answer_by e) after)
 
-pub pair-none : {f : ℕ} {ws xs ls : List ℕ} {r : Chosen} {why : Why} → r ≡ chosen_of f ws
-    → r ≡ Chosen.Refused why → PairIs f ws xs ls ws xs ls (Pairing.Refused why)
+pub pair-none : {f : ℕ} {ws xs ls : List ℕ} {r : Result ℕ Why} {why : Why} → r ≡ chosen_of f ws
+    → r ≡ Err why → PairIs f ws xs ls ws xs ls (Err why)
 pair-none e n = PairIs.no-pair (sym e ∙ n)

@@ -8,7 +8,7 @@ use Rattle.laws.proofs.Logic.{pick_elim}
 use Rattle.words.proofs.WriteLaws.{write_more, write_end}
 use Rattle.desk.specs.Sides.{frame_of, place_of, stands, unless, without, Outcome, SideIs}
 use Rattle.desk.specs.Sides.{give_in, withdraw_from}
-use Rattle.desk.specs.declared.answers.Took.{Took}
+use Rattle.std.specs.Prelude.{Ok, Err}
 use Rattle.desk.specs.declared.answers.Why.{Why}
 
 -- ---- the first place with a frame
@@ -86,29 +86,29 @@ module _ (f : ℕ) (ws : List ℕ) {p : ℕ} (found : p ≡ place_of f ws) where
   pub absent : length ws ≤ p → stands f ws ≡ false
   absent h = rw (← found) (le-ltb _ _ h)
 
-  pub give_waits : (t : ℕ) → p < length ws → SideIs (give_in f t ws) ws (Took.Refused Why.Waits)
+  pub give_waits : (t : ℕ) → p < length ws → SideIs (give_in f t ws) ws (Err Why.Waits)
   unfolding give_in
   give_waits t h = side-is (pick_true _ _ _ (standing h))
 
-  pub withdraw_away : length ws ≤ p → SideIs (withdraw_from f ws) ws (Took.Refused Why.Away)
+  pub withdraw_away : length ws ≤ p → SideIs (withdraw_from f ws) ws (Err Why.Away)
   unfolding withdraw_from
   withdraw_away h = side-is (pick_true _ _ _ (ap not (absent h)))
 
   pub withdraw_done : {ws' : List ℕ} → p < length ws → ws' ≡ without f ws
-      → SideIs (withdraw_from f ws) ws' Took.Done
+      → SideIs (withdraw_from f ws) ws' (Ok tt)
   unfolding withdraw_from
   withdraw_done h e = rw e (side-is (pick-false _ _ _ (ap not (standing h))))
 
 module _ (f t : ℕ) (ws : List ℕ) {p q : ℕ} (found : p ≡ place_of f ws) (none : length ws ≤ p)
     (free : q ≡ place_of 0 ws) where
-  pub give_full : length ws ≤ q → SideIs (give_in f t ws) ws (Took.Refused Why.Full)
+  pub give_full : length ws ≤ q → SideIs (give_in f t ws) ws (Err Why.Full)
   unfolding give_in
   give_full h =
       side-is (pick-false _ _ _ (absent f ws found none)
       ∙ pick_true _ _ _ (ap not (absent 0 ws free h)))
 
   pub give_done : q < length ws
-      → SideIs (give_in f t ws) (set ws q (f * 4294967296 + t)) Took.Done
+      → SideIs (give_in f t ws) (set ws q (f * 4294967296 + t)) (Ok tt)
   unfolding give_in
   give_done h =
       rw free (side-is (pick-false _ _ _ (absent f ws found none)

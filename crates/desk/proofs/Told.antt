@@ -13,9 +13,8 @@ use Rattle.desk.specs.Desk.{side_at, side_of, on_side, named}
 use Rattle.desk.specs.Desk.{given, withdrawn, right_by, chosen_of}
 use Rattle.desk.specs.Told as specs
 use Rattle.desk.specs.Told.{WaitsAt, Nearest}
-use Rattle.desk.specs.declared.answers.Chosen.{Chosen}
+use Rattle.std.specs.Prelude.{Result, Ok, Err}
 use Rattle.desk.specs.declared.answers.Side.{Side}
-use Rattle.desk.specs.declared.answers.Took.{Took}
 use Rattle.desk.specs.declared.answers.Why.{Why}
 use Rattle.desk.proofs.Chosen.{apart-both, near-says, near-made, nearest-is}
 
@@ -56,14 +55,14 @@ module _ (f : ℕ) (ws : List ℕ) where
   abbrev nearest : ℕ
   nearest = nearest_of (tick_in f (side_of Side.Left ws)) (side_of Side.Right ws)
 
-pub data Case (f : ℕ) (ws : List ℕ) : Chosen → Type 0 where
-  short : length ws < 64 → Case f ws (Chosen.Refused Why.Words)
-  zero-frame : f ≡ 0 → Case f ws (Chosen.Refused Why.Frame)
-  away : Case f ws (Chosen.Refused Why.Away)
+pub data Case (f : ℕ) (ws : List ℕ) : Result ℕ Why → Type 0 where
+  short : length ws < 64 → Case f ws (Err Why.Words)
+  zero-frame : f ≡ 0 → Case f ws (Err Why.Frame)
+  away : Case f ws (Err Why.Away)
   far : stands f (side_of Side.Left ws) ≡ true → nearest f ws ≡ 0
-      → Case f ws (Chosen.Refused Why.Far)
+      → Case f ws (Err Why.Far)
   found : {g : ℕ} → 64 ≤ length ws → (f ≡ 0 → ⊥) → stands f (side_of Side.Left ws) ≡ true
-      → (nearest f ws ≡ 0 → ⊥) → frame_of (nearest f ws) ≡ g → Case f ws (Chosen.Right g)
+      → (nearest f ws ≡ 0 → ⊥) → frame_of (nearest f ws) ≡ g → Case f ws (Ok g)
 
 case-of : (f : ℕ) (ws : List ℕ) → Case f ws (chosen_of f ws)
 unfolding chosen_of right_by
@@ -75,7 +74,7 @@ case-of f ws =
     (λ n. far (not-false _ a) (eqb-true _ _ n))
     (λ n. found (ltb-false _ _ h) (eqb-false _ _ z) (not-false _ a) (eqb-false _ _ n) refl))))
 
-pub chosen-case : (f : ℕ) (ws : List ℕ) {c : Chosen} → chosen_of f ws ≡ c → Case f ws c
+pub chosen-case : (f : ℕ) (ws : List ℕ) {c : Result ℕ Why} → chosen_of f ws ≡ c → Case f ws c
 chosen-case f ws e = subst (Case f ws) e (case-of f ws)
 
 -- ---- the nearest
@@ -157,11 +156,11 @@ module _ (t : ℕ) (ws : List ℕ) where
 
 -- ---- a choice
 
-pub chosen-says : (f g : ℕ) (ws : List ℕ) → chosen_of f ws ≡ Chosen.Right g
+pub chosen-says : (f g : ℕ) (ws : List ℕ) → chosen_of f ws ≡ Ok g
     → (t : ℕ) × WaitsAt f t (side_of Side.Left ws) × (u : ℕ) × Nearest t g u (side_of Side.Right ws)
 chosen-says f g ws e = go (chosen-case f ws e)
   where
-    go : Case f ws (Chosen.Right g)
+    go : Case f ws (Ok g)
         → (t : ℕ) × WaitsAt f t (side_of Side.Left ws)
         × (u : ℕ) × Nearest t g u (side_of Side.Right ws)
     go (found h n s k q) = (
@@ -171,12 +170,12 @@ chosen-says f g ws e = go (chosen-case f ws e)
       nearest-says (tick_in f (side_of Side.Left ws)) (side_of Side.Right ws) k q,
     )
 
-far-says : (f : ℕ) (ws : List ℕ) → chosen_of f ws ≡ Chosen.Refused Why.Far
+far-says : (f : ℕ) (ws : List ℕ) → chosen_of f ws ≡ Err Why.Far
     → (t : ℕ) × WaitsAt f t (side_of Side.Left ws)
     × ((g u : ℕ) → WaitsAt g u (side_of Side.Right ws) → (g ≡ 0 → ⊥) → 40 < apart t u)
 far-says f ws e = go (chosen-case f ws e)
   where
-    go : Case f ws (Chosen.Refused Why.Far)
+    go : Case f ws (Err Why.Far)
         → (t : ℕ) × WaitsAt f t (side_of Side.Left ws)
         × ((g u : ℕ) → WaitsAt g u (side_of Side.Right ws) → (g ≡ 0 → ⊥) → 40 < apart t u)
     go (far s z) = (
@@ -189,7 +188,7 @@ far-says f ws e = go (chosen-case f ws e)
 
 -- where it answers with a refusal, the words stay
 abbrev Keeps : List ℕ → Outcome → Type 0
-Keeps ws o = (why : Why) → o.answer ≡ Took.Refused why → o.next ≡ ws
+Keeps ws o = (why : Why) → o.answer ≡ Err why → o.next ≡ ws
 
 give_keeps : (f t : ℕ) (ws : List ℕ) → Keeps ws (give_in f t ws)
 unfolding give_in

@@ -5,10 +5,8 @@ use Rattle.rules.specs.Numbers.{refusal_number}
 use Rattle.words.specs.Rows.{part, splice}
 use Rattle.desk.specs.Sides.{Outcome, refused, frame_of, stands, tick_in, give_in, withdraw_from}
 use Rattle.desk.specs.Near.{nearest_of}
-use Rattle.desk.specs.declared.answers.Chosen.{Chosen}
-use Rattle.desk.specs.declared.answers.Pairing.{Pairing}
+use Rattle.std.specs.Prelude.{Result, Ok, Err}
 use Rattle.desk.specs.declared.answers.Side.{Side}
-use Rattle.desk.specs.declared.answers.Took.{Took}
 use Rattle.desk.specs.declared.answers.Why.{Why}
 
 -- "up to 32 left and 32 right frames": the left ones first. Any 64 words are a desk.
@@ -47,16 +45,16 @@ unfoldable pub withdrawn : Side → ℕ → List ℕ → Outcome
 withdrawn s f ws = named f (on_side s (withdraw_from f)) ws
 
 -- "21 exactly when no waiting right frame is near enough"
-unfoldable pub right_by : ℕ → Chosen
-right_by w = pick (w == 0) (Chosen.Refused Why.Far) (Chosen.Right (frame_of w))
+unfoldable pub right_by : ℕ → Result ℕ Why
+right_by w = pick (w == 0) (Err Why.Far) (Ok (frame_of w))
 
 -- "The desk's pair call names a waiting left frame, which is paired with the waiting right frame of
 -- smallest difference": "10, then 23 if the named frame does not wait; 21 ..". The right frame
-unfoldable pub chosen_of : ℕ → List ℕ → Chosen
+unfoldable pub chosen_of : ℕ → List ℕ → Result ℕ Why
 chosen_of f ws =
-    pick (nat_lt (length ws) desk_words) (Chosen.Refused Why.Words)
-    (pick (f == 0) (Chosen.Refused Why.Frame)
-    (pick (not (stands f (side_of Side.Left ws))) (Chosen.Refused Why.Away)
+    pick (nat_lt (length ws) desk_words) (Err Why.Words)
+    (pick (f == 0) (Err Why.Frame)
+    (pick (not (stands f (side_of Side.Left ws))) (Err Why.Away)
     (right_by (nearest_of (tick_in f (side_of Side.Left ws)) (side_of Side.Right ws)))))
 
 -- the pair has left the desk
@@ -75,10 +73,7 @@ why_number Why.Away = 23
 why_number Why.Far = 21
 why_number (Why.Engine why) = refusal_number why
 
-abbrev pub took_number : Took → ℕ
-took_number Took.Done = 0
-took_number (Took.Refused why) = why_number why
-
-abbrev pub pairing_number : Pairing → ℕ
-pairing_number (Pairing.Paired g) = 0
-pairing_number (Pairing.Refused why) = why_number why
+-- 0, or the refusal's number
+abbrev pub number_of : {T : Type 0} → Result T Why → ℕ
+number_of (Ok value) = 0
+number_of (Err why) = why_number why

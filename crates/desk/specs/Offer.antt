@@ -11,9 +11,7 @@ use Rattle.wait.specs.Run.{leader_of}
 use Rattle.memory.specs.Memory.{site_of, readable}
 use Rattle.site.specs.Entries.{After}
 use Rattle.desk.specs.Desk.{chosen_of, leaves}
-use Rattle.desk.specs.declared.answers.Chosen.{Chosen}
-use Rattle.desk.specs.declared.answers.Offered.{Offered}
-use Rattle.desk.specs.declared.answers.Pairing.{Pairing}
+use Rattle.std.specs.Prelude.{⊤, Result, Ok, Err}
 use Rattle.desk.specs.declared.answers.Why.{Why}
 
 -- "offered to the leader": "then the engine's (3 with no leader)"
@@ -37,20 +35,20 @@ is_settled Answer.Taken = false
 is_settled (Answer.Discarded why) = false
 is_settled (Answer.Refused why) = true
 
-abbrev pub answer_by : Offered → Answer
-answer_by Offered.Accepted = Answer.Done
-answer_by (Offered.Refused why) = Answer.Refused why
+abbrev pub answer_by : Result ⊤ Refusal → Answer
+answer_by (Ok tt) = Answer.Done
+answer_by (Err why) = Answer.Refused why
 
 -- pairing the left frame f: the desk ws and the words xs and ls have become ws', xs' and ls'
-pub data PairIs (f : ℕ) (ws xs ls : List ℕ) : List ℕ → List ℕ → List ℕ → Pairing → Type 0 where
+pub data PairIs (f : ℕ) (ws xs ls : List ℕ) : List ℕ → List ℕ → List ℕ → Result ℕ Why → Type 0 where
   -- the desk refuses, before the site is looked at
-  no-pair : {why : Why} → chosen_of f ws ≡ Chosen.Refused why
-      → PairIs f ws xs ls ws xs ls (Pairing.Refused why)
+  no-pair : {why : Why} → chosen_of f ws ≡ Err why
+      → PairIs f ws xs ls ws xs ls (Err why)
   -- the engine refuses: the pair waits on
-  kept : {g : ℕ} {xs' ls' : List ℕ} {why : Refusal} → chosen_of f ws ≡ Chosen.Right g
+  kept : {g : ℕ} {xs' ls' : List ℕ} {why : Refusal} → chosen_of f ws ≡ Ok g
       → After (offered_on xs ls f g) xs ls xs' ls' (Answer.Refused why)
-      → PairIs f ws xs ls ws xs' ls' (Pairing.Refused (Why.Engine why))
+      → PairIs f ws xs ls ws xs' ls' (Err (Why.Engine why))
   -- the offer is accepted: the pair leaves
-  accepted : {g : ℕ} {xs' ls' : List ℕ} → chosen_of f ws ≡ Chosen.Right g
+  accepted : {g : ℕ} {xs' ls' : List ℕ} → chosen_of f ws ≡ Ok g
       → After (offered_on xs ls f g) xs ls xs' ls' Answer.Done
-      → PairIs f ws xs ls (leaves f g ws) xs' ls' (Pairing.Paired g)
+      → PairIs f ws xs ls (leaves f g ws) xs' ls' (Ok g)

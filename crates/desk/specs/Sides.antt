@@ -3,7 +3,7 @@ use Rattle.std.specs.Prelude.{◌≡◌, ℕ, ◌+◌, Bool, not, List, [], ◌�
 use Rattle.std.specs.Prelude.{slice_index, slice_set}
 use Rattle.rules.specs.Pick.{pick}
 use Rattle.rules.specs.Sizes.{record_of, left_of, right_of}
-use Rattle.desk.specs.declared.answers.Took.{Took}
+use Rattle.std.specs.Prelude.{⊤, Result, Ok, Err}
 use Rattle.desk.specs.declared.answers.Why.{Why}
 
 -- "frame number and a 32-bit shutter tick": a word is frame × 4,294,967,296 + tick, as a record is
@@ -37,14 +37,14 @@ without f ws = map (unless f) ws
 -- ---- what is done on a side: the answer, and the side after it
 
 pub record Outcome : Type 0 where
-  pub answer : Took
+  pub answer : Result ⊤ Why
   pub next : List ℕ
 
 abbrev pub refused : Why → List ℕ → Outcome
-refused why ws = record { answer = Took.Refused why; next = ws }
+refused why ws = record { answer = Err why; next = ws }
 
 abbrev pub done : List ℕ → Outcome
-done ws = record { answer = Took.Done; next = ws }
+done ws = record { answer = Ok tt; next = ws }
 
 -- "19 if that side already waits with this number; 20 if that side is full"; else the frame stands
 -- at the first free place
@@ -60,6 +60,6 @@ withdraw_from f ws =
     pick (not (stands f ws)) (refused Why.Away ws) (done (without f ws))
 
 -- ws' and r are what o says
-pub record SideIs (o : Outcome) (ws' : List ℕ) (r : Took) : Type 0 where
+pub record SideIs (o : Outcome) (ws' : List ℕ) (r : Result ⊤ Why) : Type 0 where
   pub answer : r ≡ o.answer
   pub words : ws' ≡ o.next

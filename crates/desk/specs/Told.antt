@@ -3,9 +3,8 @@ use Rattle.std.specs.Prelude.{◌≡◌, ℕ, ◌<◌, ◌≤◌, true, List, le
 use Rattle.desk.specs.Sides.{frame_of, tick_of, stands, SideIs}
 use Rattle.desk.specs.Near.{apart, most_apart, near, nearest_of}
 use Rattle.desk.specs.Desk.{side_of, given, withdrawn, chosen_of}
-use Rattle.desk.specs.declared.answers.Chosen.{Chosen}
+use Rattle.std.specs.Prelude.{Ok, Err}
 use Rattle.desk.specs.declared.answers.Side.{Side}
-use Rattle.desk.specs.declared.answers.Took.{Took}
 use Rattle.desk.specs.declared.answers.Why.{Why}
 
 -- frame f waits on a side with tick t
@@ -29,11 +28,11 @@ pub record Told : Type 0 where
   pub stands_at : (f : ℕ) (ws : List ℕ) → stands f ws ≡ true → (t : ℕ) × WaitsAt f t ws
   pub at-stands : (f t : ℕ) (ws : List ℕ) → WaitsAt f t ws → stands f ws ≡ true
   -- A right frame is chosen: the left frame waits, and the right one is the nearest to its tick.
-  pub chosen : (f g : ℕ) (ws : List ℕ) → chosen_of f ws ≡ Chosen.Right g
+  pub chosen : (f g : ℕ) (ws : List ℕ) → chosen_of f ws ≡ Ok g
       → (t : ℕ) × WaitsAt f t (side_of Side.Left ws)
       × (u : ℕ) × Nearest t g u (side_of Side.Right ws)
   -- "21 exactly when no waiting right frame is near enough": only then ..
-  pub far : (f : ℕ) (ws : List ℕ) → chosen_of f ws ≡ Chosen.Refused Why.Far
+  pub far : (f : ℕ) (ws : List ℕ) → chosen_of f ws ≡ Err Why.Far
       → (t : ℕ) × WaitsAt f t (side_of Side.Left ws)
       × ((g u : ℕ) → WaitsAt g u (side_of Side.Right ws) → (g ≢ 0) → most_apart < apart t u)
   -- .. for where one is, it is never given.
@@ -43,6 +42,6 @@ pub record Told : Type 0 where
   pub both_ways : (a b : ℕ) → apart a b ≡ apart b a
   -- A refusal leaves the desk as it was, and no call changes how many words there are.
   pub kept_give : (s : Side) (f t : ℕ) (ws ws' : List ℕ) (why : Why)
-      → SideIs (given s f t ws) ws' (Took.Refused why) → ws' ≡ ws
+      → SideIs (given s f t ws) ws' (Err why) → ws' ≡ ws
   pub kept_withdraw : (s : Side) (f : ℕ) (ws ws' : List ℕ) (why : Why)
-      → SideIs (withdrawn s f ws) ws' (Took.Refused why) → ws' ≡ ws
+      → SideIs (withdrawn s f ws) ws' (Err why) → ws' ≡ ws

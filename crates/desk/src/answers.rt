@@ -1,6 +1,7 @@
 // What the desk answers, and the paper's numbers.
 ghost use Rattle.std.specs.Prelude.{◌≡◌};
-ghost use Rattle.desk.specs.Desk.{why_number, took_number, pairing_number};
+ghost use Rattle.desk.specs.Desk.{why_number, number_of};
+ghost use Rattle.desk.specs.declared.answers.Why.{Why};
 
 use rules::model::Refusal;
 use rules::numbers;
@@ -24,31 +25,12 @@ pub enum Why {
     Engine(Refusal),
 }
 
-// Giving in and withdrawing.
-#[derive(Clone, Copy)]
-pub enum Took {
-    Done,
-    Refused(Why),
-}
+impl From<Refusal> for Why {
+    ghost from_gives = { λ r why. why ≡ Why.Engine r };
 
-// The right frame for a left one, before it is offered.
-#[derive(Clone, Copy)]
-pub enum Chosen {
-    Right(u32),
-    Refused(Why),
-}
-
-#[derive(Clone, Copy)]
-pub enum Offered {
-    Accepted,
-    Refused(Refusal),
-}
-
-// Pairing: with which right frame.
-#[derive(Clone, Copy)]
-pub enum Pairing {
-    Paired(u32),
-    Refused(Why),
+    fn from(r: Refusal) -> Why {
+        Why::Engine(r)
+    }
 }
 
 pub fn why_number(why: Why) -> u32
@@ -61,26 +43,16 @@ pub fn why_number(why: Why) -> u32
         Why::Full => 20,
         Why::Away => 23,
         Why::Far => 21,
-        Why::Engine(r) => numbers::refusal_number(r),
+        Why::Engine(refusal) => numbers::refusal_number(refusal),
     }
 }
 
-// 0 where it is done.
-pub fn took_number(t: Took) -> u32
-    ensures { result ≡ took_number t }
+// 0, or the refusal's number.
+pub fn number_of<T: Copy>(answer: Result<T, Why>) -> u32
+    ensures { result ≡ number_of answer }
 {
-    match t {
-        Took::Done => 0,
-        Took::Refused(why) => why_number(why),
-    }
-}
-
-// 0 where they are paired.
-pub fn pairing_number(p: Pairing) -> u32
-    ensures { result ≡ pairing_number p }
-{
-    match p {
-        Pairing::Paired(_) => 0,
-        Pairing::Refused(why) => why_number(why),
+    match answer {
+        Ok(_) => 0,
+        Err(why) => why_number(why),
     }
 }

@@ -49,10 +49,8 @@ pub(crate) fn nearest_of(row: &[u64], tick: u32) -> u64
     ensures { result ≡ nearest_of tick row.now }
 {
     let mut found = 0;
-    let mut i = 0;
-    while i < row.len() {
-        found = better_of(tick, found, row[i]);
-        i += 1;
+    for w in row {
+        found = better_of(tick, found, *w);
     }
     found
 }

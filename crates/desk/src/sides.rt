@@ -11,7 +11,7 @@ ghost use Rattle.desk.specs.Sides.{
   SideIs,
 };
 
-use crate::answers::{Took, Why};
+use crate::answers::Why;
 
 const FRAME: u64 = 4294967296;
 
@@ -32,14 +32,12 @@ pub(crate) fn place_of(row: &[u64], frame: u32) -> usize
     ensures value { result ≡ place_of frame row.now }
     ensures upper_bound { result ≤ length row.now }
 {
-    let mut i = 0;
-    while i < row.len() {
+    for i in 0..row.len() {
         if frame_of(row[i]) == frame {
             return i;
         }
-        i += 1;
     }
-    i
+    row.len()
 }
 
 fn unless_of(w: u64, frame: u32) -> u64
@@ -55,35 +53,33 @@ fn unless_of(w: u64, frame: u32) -> u64
 pub(crate) fn clear(row: &mut [u64], frame: u32)
     ensures { row.new ≡ without frame row.old }
 {
-    let mut i = 0;
-    while i < row.len() {
+    for i in 0..row.len() {
         row[i] = unless_of(row[i], frame);
-        i += 1;
     }
 }
 
 // The frame goes to the first free place.
-pub(crate) fn give_in(row: &mut [u64], frame: u32, tick: u32) -> Took
+pub(crate) fn give_in(row: &mut [u64], frame: u32, tick: u32) -> Result<(), Why>
     ensures { SideIs (give_in frame tick row.old) row.new result }
 {
     if place_of(row, frame) < row.len() {
-        return Took::Refused(Why::Waits);
+        return Err(Why::Waits);
     }
     let free = place_of(row, 0);
     if row.len() <= free {
-        return Took::Refused(Why::Full);
+        return Err(Why::Full);
     }
     row[free] = frame as u64 * FRAME + tick as u64;
-    Took::Done
+    Ok(())
 }
 
 // The frame leaves.
-pub(crate) fn withdraw_from(row: &mut [u64], frame: u32) -> Took
+pub(crate) fn withdraw_from(row: &mut [u64], frame: u32) -> Result<(), Why>
     ensures { SideIs (withdraw_from frame row.old) row.new result }
 {
     if row.len() <= place_of(row, frame) {
-        return Took::Refused(Why::Away);
+        return Err(Why::Away);
     }
     clear(row, frame);
-    Took::Done
+    Ok(())
 }

@@ -15,7 +15,7 @@ use Rattle.words.proofs.PartLaws.{part-splice, part-above, part-below, splice-sa
 use Rattle.desk.specs.Sides.{place_of, stands, without, Outcome, SideIs, give_in, withdraw_from}
 use Rattle.desk.specs.Desk.{side_at, side_of, on_side, given, withdrawn, leaves}
 use Rattle.desk.specs.declared.answers.Side.{Side}
-use Rattle.desk.specs.declared.answers.Took.{Took}
+use Rattle.std.specs.Prelude.{⊤, Result, Ok, Err}
 use Rattle.desk.specs.declared.answers.Why.{Why}
 use Rattle.desk.proofs.SideLaws.{length_without}
 use Rattle.desk.proofs.DeskLaws.{length-side}
@@ -52,26 +52,26 @@ module _ (ws v : List ℕ) (h : 64 ≤ length ws) (e : length v ≡ 32) where
 
 -- ---- giving in
 
-pub data GaveCase (s : Side) (f t : ℕ) (ws ws' : List ℕ) : Took → Type 0 where
-  refused : {why : Why} → ws' ≡ ws → GaveCase s f t ws ws' (Took.Refused why)
+pub data GaveCase (s : Side) (f t : ℕ) (ws ws' : List ℕ) : Result ⊤ Why → Type 0 where
+  refused : {why : Why} → ws' ≡ ws → GaveCase s f t ws ws' (Err why)
   done : 64 ≤ length ws → stands f (side_of s ws) ≡ false → stands 0 (side_of s ws) ≡ true
       → side_of s ws' ≡ set (side_of s ws) (place_of 0 (side_of s ws)) (record_of f t)
-      → side_of (other s) ws' ≡ side_of (other s) ws → GaveCase s f t ws ws' Took.Done
+      → side_of (other s) ws' ≡ side_of (other s) ws → GaveCase s f t ws ws' (Ok tt)
 
-module _ (s : Side) (f t : ℕ) (ws ws' : List ℕ) (r : Took) where
+module _ (s : Side) (f t : ℕ) (ws ws' : List ℕ) (r : Result ⊤ Why) where
   abbrev From : Outcome → Type 0
   From o = SideIs o ws' r → GaveCase s f t ws ws' r
 
   abbrev OnSide : Outcome → Type 0
   OnSide o = From (record { answer = o.answer; next = splice ws (side_at s) 32 o.next })
 
-  still : (why : Why) → SideIs (record { answer = Took.Refused why; next = ws }) ws' r
+  still : (why : Why) → SideIs (record { answer = Err why; next = ws }) ws' r
       → GaveCase s f t ws ws' r
   still why i = subst (GaveCase s f t ws ws') (sym i.answer) (refused i.words)
 
   on-still : (why : Why)
       → SideIs (record {
-        answer = Took.Refused why;
+        answer = Err why;
         next = splice ws (side_at s) 32 (side_of s ws);
       }) ws' r → GaveCase s f t ws ws' r
   on-still why i =
@@ -89,7 +89,7 @@ module _ (s : Side) (f t : ℕ) (ws ws' : List ℕ) (r : Took) where
     where
       made : 64 ≤ length ws → stands f (side_of s ws) ≡ false → stands 0 (side_of s ws) ≡ true
           → SideIs (record {
-            answer = Took.Done;
+            answer = Ok tt;
             next = splice ws (side_at s) 32
                 (set (side_of s ws) (place_of 0 (side_of s ws)) (record_of f t));
           }) ws' r → GaveCase s f t ws ws' r
@@ -104,12 +104,12 @@ module _ (s : Side) (f t : ℕ) (ws ws' : List ℕ) (r : Took) where
 
 -- ---- withdrawing
 
-pub data WithdrewCase (s : Side) (f : ℕ) (ws ws' : List ℕ) : Took → Type 0 where
-  refused_too : {why : Why} → ws' ≡ ws → WithdrewCase s f ws ws' (Took.Refused why)
+pub data WithdrewCase (s : Side) (f : ℕ) (ws ws' : List ℕ) : Result ⊤ Why → Type 0 where
+  refused_too : {why : Why} → ws' ≡ ws → WithdrewCase s f ws ws' (Err why)
   gone : side_of s ws' ≡ without f (side_of s ws) → side_of (other s) ws' ≡ side_of (other s) ws
-      → WithdrewCase s f ws ws' Took.Done
+      → WithdrewCase s f ws ws' (Ok tt)
 
-module _ (s : Side) (f : ℕ) (ws ws' : List ℕ) (r : Took) where
+module _ (s : Side) (f : ℕ) (ws ws' : List ℕ) (r : Result ⊤ Why) where
   abbrev Out : Outcome → Type 0
   Out o = SideIs o ws' r → WithdrewCase s f ws ws' r
 
@@ -125,10 +125,10 @@ module _ (s : Side) (f : ℕ) (ws ws' : List ℕ) (r : Took) where
       (λ a i. stay i.answer (i.words ∙ splice-same (side_at s) 32 ws))
       (λ a i. made (ltb-false _ _ y) i.answer i.words)))
     where
-      stay : {why : Why} → r ≡ Took.Refused why → ws' ≡ ws → WithdrewCase s f ws ws' r
+      stay : {why : Why} → r ≡ Err why → ws' ≡ ws → WithdrewCase s f ws ws' r
       stay q w = subst (WithdrewCase s f ws ws') (sym q) (refused_too w)
 
-      made : 64 ≤ length ws → r ≡ Took.Done
+      made : 64 ≤ length ws → r ≡ Ok tt
           → ws' ≡ splice ws (side_at s) 32 (without f (side_of s ws)) → WithdrewCase s f ws ws' r
       made h q w =
           let v = without f (side_of s ws) in

@@ -24,7 +24,7 @@ use Rattle.engine_safety.proofs.Filed.{filed}
 use Rattle.desk.specs.Sides.{stands, tick_in}
 use Rattle.desk.specs.Desk.{side_of}
 use Rattle.desk.specs.Offer.{offered, offered_on, PairIs}
-use Rattle.desk.specs.declared.answers.Pairing.{Pairing}
+use Rattle.std.specs.Prelude.{Result, Ok, Err}
 use Rattle.desk.specs.declared.answers.Side.{Side}
 use Rattle.desk.specs.declared.answers.Why.{Why}
 use Rattle.desk.proofs.Told.{tick-at, at-stands, chosen-says}
@@ -182,30 +182,30 @@ module _ {n J L : ℕ} {ws xs ls ys ms : List ℕ} {es : List Event} {a : Answer
 
 -- a pairing
 pair-told : {n J L : ℕ} {ws us xs ls : List ℕ} (f : ℕ) {vs ys ms : List ℕ} {es : List Event}
-    {q : Pairing} → runs.Fits f → runs.RightFits q
+    {q : Result ℕ Why} → runs.Fits f → runs.RightFits q
     → ((s : Side) (h t : ℕ) → (h ≡ 0 → ⊥) → In s h t us → Waited ws s h t es)
     → PairIs f us xs ls vs ys ms q → Told n J L ws es xs ls
     → Told n J L ws (runs.paired f q ∷ es) ys ms
 pair-told f fits fits' known (PairIs.no-pair {why = why} c) t =
-    silent (runs.paired f (Pairing.Refused why)) t
+    silent (runs.paired f (Err why)) t
 pair-told {n} {J} {L} {ws} {us} {xs} {ls} f {es = es} fits fits' known
     (PairIs.kept {xs' = ys} {ls' = ms} {why = why} c after) t =
     let k = after.kept refl in
-    let e = runs.paired f (Pairing.Refused (Why.Engine why)) in
+    let e = runs.paired f (Err (Why.Engine why)) in
     subst (λ x. Told n J L ws (e ∷ es) x ms) (sym k.0)
     (subst (λ y. Told n J L ws (e ∷ es) xs y) (sym k.1) (silent e t))
 pair-told {n} {J} {L} {ws} {us} {xs} {ls} f {es = es} fits fits' known
     (PairIs.accepted {g = g} {xs' = ys} {ls' = ms} c after) t =
-    said_more (Call.Offer (leader_of (site_of xs ls)) f g) (runs.paired f (Pairing.Paired g)) t
+    said_more (Call.Offer (leader_of (site_of xs ls)) f g) (runs.paired f (Ok g)) t
     (stepped (Call.Offer (leader_of (site_of xs ls)) f g) (fits, fits') t.served
     (offer-stepped f g after))
     (λ b l r e.
     let i : f ≡ l = cc in
     let j : g ≡ r = cc in
-    inr (subst (λ x. PairedNear ws x r (runs.paired f (Pairing.Paired g) ∷ es)) i
-    (subst (λ y. PairedNear ws f y (runs.paired f (Pairing.Paired g) ∷ es)) j near-now)))
+    inr (subst (λ x. PairedNear ws x r (runs.paired f (Ok g) ∷ es)) i
+    (subst (λ y. PairedNear ws f y (runs.paired f (Ok g) ∷ es)) j near-now)))
   where
-    near-now : PairedNear ws f g (runs.paired f (Pairing.Paired g) ∷ es)
+    near-now : PairedNear ws f g (runs.paired f (Ok g) ∷ es)
     near-now =
         let k = chosen-says f g us c in
         PairedNear.now k.0 k.2 (known Side.Left f k.0 (chosen-named f us c) k.1)

@@ -11,10 +11,9 @@ use Rattle.desk.specs.Sides.{frame_of, tick_of, place_of, stands, tick_in, witho
 use Rattle.desk.specs.Desk.{side_of, chosen_of, leaves}
 use Rattle.desk.specs.Offer.{PairIs}
 use Rattle.desk.specs.Told.{WaitsAt}
-use Rattle.desk.specs.declared.answers.Chosen.{Chosen}
-use Rattle.desk.specs.declared.answers.Pairing.{Pairing}
+use Rattle.std.specs.Prelude.{⊤, Result, Ok}
+use Rattle.desk.specs.declared.answers.Why.{Why}
 use Rattle.desk.specs.declared.answers.Side.{Side}
-use Rattle.desk.specs.declared.answers.Took.{Took}
 use Rattle.desk.proofs.DeskLaws.{chosen-long}
 use Rattle.desk.proofs.Told.{place-has, tick-at, at-stands, chosen-says, chosen-case, Case}
 use Rattle.desk.proofs.Told.{found}
@@ -34,15 +33,15 @@ In s f t ws = WaitsAt f t (side_of s ws)
 abbrev pub NotGiven : Side → ℕ → Event → Type 0
 NotGiven s f e = (u : ℕ) → Gives s f u e → ⊥
 
-pub chosen-named : {g : ℕ} (f : ℕ) (ws : List ℕ) → chosen_of f ws ≡ Chosen.Right g → f ≡ 0 → ⊥
+pub chosen-named : {g : ℕ} (f : ℕ) (ws : List ℕ) → chosen_of f ws ≡ Ok g → f ≡ 0 → ⊥
 chosen-named {g} f ws e = go (chosen-case f ws e)
   where
-    go : Case f ws (Chosen.Right g) → f ≡ 0 → ⊥
+    go : Case f ws (Ok g) → f ≡ 0 → ⊥
     go (found h n s k q) = n
 
 -- ---- a pair that was accepted: both frames waited
 
-module _ (f g : ℕ) (ws : List ℕ) (c : chosen_of f ws ≡ Chosen.Right g) where
+module _ (f g : ℕ) (ws : List ℕ) (c : chosen_of f ws ≡ Ok g) where
   left-stands : stands f (side_of Side.Left ws) ≡ true
   left-stands = let k = chosen-says f g ws c in at-stands f k.0 (side_of Side.Left ws) k.1
 
@@ -63,13 +62,13 @@ abbrev Came : Side → ℕ → ℕ → Event → List ℕ → Type 0
 Came s f t e ws = Or (Gives s f t e) (In s f t ws × NotGiven s f e)
 
 module _ (s : Side) (f t : ℕ) (k : f ≡ 0 → ⊥) where
-  gave-came : {ws ws' : List ℕ} {r : Took} (q : Side) (h u : ℕ) → Fits u
+  gave-came : {ws ws' : List ℕ} {r : Result ⊤ Why} (q : Side) (h u : ℕ) → Fits u
       → GaveCase q h u ws ws' r → In s f t ws' → Came s f t (gave q h u r) ws
   gave-came q h u fits (refused e) a =
       right (subst (In s f t) e a, λ x d. let z : ◌≡◌ {A = ℕ} 0 1 = cc in absurd (omega arith))
   gave-came {ws} {ws'} q h u fits (done l n z same rest) a = go (which s q)
     where
-      old : s ≡ q → WaitsAt f t (side_of q ws) → Came s f t (gave q h u Took.Done) ws
+      old : s ≡ q → WaitsAt f t (side_of q ws) → Came s f t (gave q h u (Ok tt)) ws
       old e b =
           right (
             subst (λ x. In x f t ws) (sym e) b,
@@ -82,14 +81,14 @@ module _ (s : Side) (f t : ℕ) (k : f ≡ 0 → ⊥) where
       new : s ≡ q
           → Or ((frame_of (record_of h u) ≡ f) × (tick_of (record_of h u) ≡ t))
           (WaitsAt f t (side_of q ws))
-          → Came s f t (gave q h u Took.Done) ws
+          → Came s f t (gave q h u (Ok tt)) ws
       new e (left p) =
           let i : h ≡ f = sym (frame_is h u fits) ∙ p.0 in
           let j : u ≡ t = sym (tick_is h u fits) ∙ p.1 in
           left cc
       new e (right b) = old e b
 
-      go : Or (s ≡ q) (s ≡ other q) → Came s f t (gave q h u Took.Done) ws
+      go : Or (s ≡ q) (s ≡ other q) → Came s f t (gave q h u (Ok tt)) ws
       go (left e) =
           new e (set-came (side_of q ws) (place_of 0 (side_of q ws)) (record_of h u) f t
           (ltb-true _ _ z) (subst (WaitsAt f t) (ap (λ x. side_of x ws') e ∙ same) a))
@@ -100,7 +99,8 @@ module _ (s : Side) (f t : ℕ) (k : f ≡ 0 → ⊥) where
             λ x d. let i : q ≡ s = cc in not-other q (sym e ∙ sym i),
           )
 
-  withdrew-came : {ws ws' : List ℕ} {r : Took} (q : Side) (h : ℕ) → WithdrewCase q h ws ws' r
+  withdrew-came : {ws ws' : List ℕ} {r : Result ⊤ Why} (q : Side) (h : ℕ)
+      → WithdrewCase q h ws ws' r
       → In s f t ws' → In s f t ws
   withdrew-came q h (refused_too e) a = subst (In s f t) e a
   withdrew-came {ws} {ws'} q h (gone same rest) a = go (which s q)
@@ -114,7 +114,7 @@ module _ (s : Side) (f t : ℕ) (k : f ≡ 0 → ⊥) where
           subst (WaitsAt f t) (ap (λ x. side_of x ws') e ∙ rest ∙ ap (λ x. side_of x ws) (sym e)) a
 
 accepted-came : (s : Side) (f t h g : ℕ) (ws : List ℕ) → (f ≡ 0 → ⊥)
-    → chosen_of h ws ≡ Chosen.Right g → In s f t (leaves h g ws) → In s f t ws
+    → chosen_of h ws ≡ Ok g → In s f t (leaves h g ws) → In s f t ws
 accepted-came Side.Left f t h g ws k c a =
     (without-came h (side_of Side.Left ws) f t k
     (subst (WaitsAt f t) (left_after h g ws c) a)).0
@@ -122,7 +122,7 @@ accepted-came Side.Right f t h g ws k c a =
     (without-came g (side_of Side.Right ws) f t k
     (subst (WaitsAt f t) (right-after h g ws c) a)).0
 
-pair-came : {h : ℕ} {ws xs ls ws' xs' ls' : List ℕ} {r : Pairing} (s : Side) (f t : ℕ)
+pair-came : {h : ℕ} {ws xs ls ws' xs' ls' : List ℕ} {r : Result ℕ Why} (s : Side) (f t : ℕ)
     → (f ≡ 0 → ⊥) → PairIs h ws xs ls ws' xs' ls' r → In s f t ws' → In s f t ws
 pair-came s f t k (PairIs.no-pair c) a = a
 pair-came s f t k (PairIs.kept c o) a = a
@@ -155,7 +155,7 @@ abbrev Stayed : Side → ℕ → ℕ → Event → List ℕ → Type 0
 Stayed s f t e ws' = Or (In s f t ws') (Or (Takes s f e) (Withdraws s f e))
 
 module _ (s : Side) (f t : ℕ) (k : f ≡ 0 → ⊥) where
-  gave-stayed : {ws ws' : List ℕ} {r : Took} (q : Side) (h u : ℕ) → GaveCase q h u ws ws' r
+  gave-stayed : {ws ws' : List ℕ} {r : Result ⊤ Why} (q : Side) (h u : ℕ) → GaveCase q h u ws ws' r
       → In s f t ws → In s f t ws'
   gave-stayed q h u (refused e) a = subst (In s f t) (sym e) a
   gave-stayed {ws} {ws'} q h u (done l n z same rest) a = go (which s q)
@@ -170,43 +170,44 @@ module _ (s : Side) (f t : ℕ) (k : f ≡ 0 → ⊥) where
           subst (WaitsAt f t)
           (sym (ap (λ x. side_of x ws') e ∙ rest ∙ ap (λ x. side_of x ws) (sym e))) a
 
-  withdrew-stayed : {ws ws' : List ℕ} {r : Took} (q : Side) (h : ℕ) → WithdrewCase q h ws ws' r
+  withdrew-stayed : {ws ws' : List ℕ} {r : Result ⊤ Why} (q : Side) (h : ℕ)
+      → WithdrewCase q h ws ws' r
       → In s f t ws → Stayed s f t (withdrew q h r) ws'
   withdrew-stayed q h (refused_too e) a = left (subst (In s f t) (sym e) a)
   withdrew-stayed {ws} {ws'} q h (gone same rest) a = go (which s q)
     where
-      named : s ≡ q → Or (f ≡ h) (f ≡ h → ⊥) → Stayed s f t (withdrew q h Took.Done) ws'
+      named : s ≡ q → Or (f ≡ h) (f ≡ h → ⊥) → Stayed s f t (withdrew q h (Ok tt)) ws'
       named e (left y) = right (right cc)
       named e (right n) =
           left (subst (λ x. In x f t ws') (sym e) (subst (WaitsAt f t) (sym same)
           (without-stays h (side_of q ws) f t n (subst (λ x. In x f t ws) e a))))
 
-      go : Or (s ≡ q) (s ≡ other q) → Stayed s f t (withdrew q h Took.Done) ws'
+      go : Or (s ≡ q) (s ≡ other q) → Stayed s f t (withdrew q h (Ok tt)) ws'
       go (left e) = named e (same? f h)
       go (right e) =
           left (subst (WaitsAt f t)
           (sym (ap (λ x. side_of x ws') e ∙ rest ∙ ap (λ x. side_of x ws) (sym e))) a)
 
-accepted-stayed : (s : Side) (f t h g : ℕ) (ws : List ℕ) → chosen_of h ws ≡ Chosen.Right g
-    → In s f t ws → Or (In s f t (leaves h g ws)) (Takes s f (paired h (Pairing.Paired g)))
+accepted-stayed : (s : Side) (f t h g : ℕ) (ws : List ℕ) → chosen_of h ws ≡ Ok g
+    → In s f t ws → Or (In s f t (leaves h g ws)) (Takes s f (paired h (Ok g)))
 accepted-stayed Side.Left f t h g ws c a = go (same? f h)
   where
     go : Or (f ≡ h) (f ≡ h → ⊥)
-        → Or (In Side.Left f t (leaves h g ws)) (Takes Side.Left f (paired h (Pairing.Paired g)))
-    go (left y) = right (g, ap (λ x. paired x (Pairing.Paired g)) (sym y))
+        → Or (In Side.Left f t (leaves h g ws)) (Takes Side.Left f (paired h (Ok g)))
+    go (left y) = right (g, ap (λ x. paired x (Ok g)) (sym y))
     go (right n) =
         left (subst (WaitsAt f t) (sym (left_after h g ws c))
         (without-stays h (side_of Side.Left ws) f t n a))
 accepted-stayed Side.Right f t h g ws c a = go (same? f g)
   where
     go : Or (f ≡ g) (f ≡ g → ⊥)
-        → Or (In Side.Right f t (leaves h g ws)) (Takes Side.Right f (paired h (Pairing.Paired g)))
-    go (left y) = right (h, ap (λ x. paired h (Pairing.Paired x)) (sym y))
+        → Or (In Side.Right f t (leaves h g ws)) (Takes Side.Right f (paired h (Ok g)))
+    go (left y) = right (h, ap (λ x. paired h (Ok x)) (sym y))
     go (right n) =
         left (subst (WaitsAt f t) (sym (right-after h g ws c))
         (without-stays g (side_of Side.Right ws) f t n a))
 
-pair-stayed : {h : ℕ} {ws xs ls ws' xs' ls' : List ℕ} {r : Pairing} (s : Side) (f t : ℕ)
+pair-stayed : {h : ℕ} {ws xs ls ws' xs' ls' : List ℕ} {r : Result ℕ Why} (s : Side) (f t : ℕ)
     → PairIs h ws xs ls ws' xs' ls' r → In s f t ws
     → Or (In s f t ws') (Takes s f (paired h r))
 pair-stayed s f t (PairIs.no-pair c) a = left a
@@ -246,7 +247,7 @@ not_there f v w k e = go (decide (stands f v))
         absurd ((without-came f w f (tick_in f v) k (subst (WaitsAt f (tick_in f v)) e a)).1 refl)
     go (right n) = n
 
-module _ (h g : ℕ) (ws : List ℕ) (c : chosen_of h ws ≡ Chosen.Right g) where
+module _ (h g : ℕ) (ws : List ℕ) (c : chosen_of h ws ≡ Ok g) where
   left-taken : Taken Side.Left h ws (leaves h g ws)
   left-taken =
       let k = chosen-named h ws c in
@@ -265,7 +266,7 @@ module _ (h g : ℕ) (ws : List ℕ) (c : chosen_of h ws ≡ Chosen.Right g) whe
         gone-now = not_there g _ (side_of Side.Right ws) k (right-after h g ws c);
       }
 
-pair-takes : {h : ℕ} {ws xs ls ws' xs' ls' : List ℕ} {r : Pairing} (s : Side) (f : ℕ)
+pair-takes : {h : ℕ} {ws xs ls ws' xs' ls' : List ℕ} {r : Result ℕ Why} (s : Side) (f : ℕ)
     → PairIs h ws xs ls ws' xs' ls' r → Takes s f (paired h r) → Taken s f ws ws'
 pair-takes Side.Left f (PairIs.no-pair c) (g, e) =
     let z : ◌≡◌ {A = ℕ} 0 1 = cc in absurd (omega arith)
@@ -282,10 +283,10 @@ pair-takes {h} {ws} Side.Right f (PairIs.accepted {g = g} c o) (x, e) =
     let i : g ≡ f = cc in
     subst (λ y. Taken Side.Right y ws (leaves h g ws)) i (right-taken h g ws c)
 
-never-takes : (s : Side) (f : ℕ) {e : Event} → ((h : ℕ) (r : Pairing) → e ≡ paired h r → ⊥)
+never-takes : (s : Side) (f : ℕ) {e : Event} → ((h : ℕ) (r : Result ℕ Why) → e ≡ paired h r → ⊥)
     → Takes s f e → ⊥
-never-takes Side.Left f n (g, e) = n f (Pairing.Paired g) e
-never-takes Side.Right f n (h, e) = n h (Pairing.Paired f) e
+never-takes Side.Left f n (g, e) = n f (Ok g) e
+never-takes Side.Right f n (h, e) = n h (Ok f) e
 
 pub taken : {ws xs ls ws' xs' ls' : List ℕ} {e : Event} (s : Side) (f : ℕ)
     → Next ws xs ls e ws' xs' ls' → Takes s f e → Taken s f ws ws'

@@ -8,9 +8,8 @@ use Rattle.desk.specs.Near.{apart, most_apart}
 use Rattle.desk.specs.Sides.{stands}
 use Rattle.desk.specs.Desk.{side_of}
 use Rattle.desk.specs.Told.{WaitsAt}
-use Rattle.desk.specs.declared.answers.Pairing.{Pairing}
+use Rattle.std.specs.Prelude.{Ok}
 use Rattle.desk.specs.declared.answers.Side.{Side}
-use Rattle.desk.specs.declared.answers.Took.{Took}
 use Rattle.desk_safety.specs.Runs.{Event, gave, paired, called, Next, Then}
 use Rattle.desk_safety.specs.Runs.{Takes, Gives, Withdraws, Any}
 
@@ -18,7 +17,7 @@ use Rattle.desk_safety.specs.Runs.{Takes, Gives, Withdraws, Any}
 -- ws when the run began
 pub data Waited (ws : List ℕ) (s : Side) (f t : ℕ) : List Event → Type 0 where
   from_start : WaitsAt f t (side_of s ws) → Waited ws s f t []
-  just : {es : List Event} → Waited ws s f t (gave s f t Took.Done ∷ es)
+  just : {es : List Event} → Waited ws s f t (gave s f t (Ok tt) ∷ es)
   since : {e : Event} {es : List Event} → ((u : ℕ) → Gives s f u e → ⊥) → Waited ws s f t es
       → Waited ws s f t (e ∷ es)
 
@@ -26,7 +25,7 @@ pub data Waited (ws : List ℕ) (s : Side) (f t : ℕ) : List Event → Type 0 w
 pub data PairedNear (ws : List ℕ) (left right : ℕ) : List Event → Type 0 where
   now : {es : List Event} (t u : ℕ) → Waited ws Side.Left left t es
       → Waited ws Side.Right right u es → apart t u ≤ most_apart
-      → PairedNear ws left right (paired left (Pairing.Paired right) ∷ es)
+      → PairedNear ws left right (paired left (Ok right) ∷ es)
   before : {e : Event} {es : List Event} → PairedNear ws left right es
       → PairedNear ws left right (e ∷ es)
 

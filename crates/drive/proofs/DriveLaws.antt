@@ -34,9 +34,6 @@ use Rattle.drive.specs.Driven.{Answered, Asked, Drives, Driven}
 
 -- ---- a call by its number
 
-pub call_at : (k : ℕ) {w : ℕ} (a b c : ℕ) → w ≡ k → call_of k a b c ≡ call_of w a b c
-call_at k a b c e = ap (λ (x : ℕ). call_of x a b c) (sym e)
-
 pub call-rest : {w : ℕ} (a b c : ℕ) → 15 ≤ w → Call.Deliver a b ≡ call_of w a b c
 unfolding call_of
 call-rest a b c h = sym (get_or-eq_default (first_calls a b c) (Call.Deliver a b) h)

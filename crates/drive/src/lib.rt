@@ -16,6 +16,8 @@ const WIDTH: usize = 5;
 // How many calls there are.
 const CALLS: u32 = 16;
 
+// A number for a kind: the script is of numbers, and the contract says which stands for what.
+#[tactic(auto, unfolding(crate::specs::Script::call_of))]
 fn call_of(which: u32, a: u32, b: u32, c: u32) -> Call
     ensures { result ≡ call_of which a b c }
 {
@@ -55,22 +57,17 @@ fn answer(site: &mut [u64], links: &mut [u64], which: u32, a: u32, b: u32, c: u3
 fn questions(script: &[u32], answers: &[u32]) -> usize
     ensures { result ≡ questions_of script.now answers.now }
 {
-    let n = script.len() / WIDTH;
-    let m = answers.len();
-    if n < m {
-        return n;
-    }
-    m
+    (script.len() / WIDTH).min(answers.len())
 }
 
 // The questions of the script, on whatever site the words hold.
+// By index: of what is written through `iter_mut` a contract knows nothing.
 fn go_on(site: &mut [u64], links: &mut [u64], script: &[u32], answers: &mut [u32])
     ensures { Drives script.now answers.old answers.new
         site.old links.old site.new links.new }
 {
     let n = questions(script, answers);
-    let mut i = 0;
-    while i < n {
+    for i in 0..n {
         let at = i * WIDTH;
         let which = script[at];
         let a = script[at + 1];
@@ -78,7 +75,6 @@ fn go_on(site: &mut [u64], links: &mut [u64], script: &[u32], answers: &mut [u32
         let c = script[at + 3];
         let d = script[at + 4];
         answers[i] = answer(site, links, which, a, b, c, d);
-        i += 1;
     }
 }
 

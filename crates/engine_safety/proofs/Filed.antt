@@ -22,7 +22,7 @@ use Rattle.site.proofs.AfterLaws.{need-met, no_needs}
 use Rattle.site.proofs.FreshAfter.{fresh-sizes, fresh-short}
 use Rattle.site.proofs.Once.{form-kept, held-formed}
 use Rattle.image.proofs.MemoryImage.{one_memory}
-use Rattle.writer.specs.declared.Written.{Written}
+use Rattle.std.specs.Prelude.{Ok}
 use Rattle.writer.specs.Writer.{WriteIs}
 use Rattle.reader.specs.Reader.{ReadIs}
 use Rattle.reader.specs.Reader as reader
@@ -118,7 +118,7 @@ module _ {n J L : ℕ} where
     }
 
     pub holds-stored : {out out' us vs us' vs' : List ℕ} (m : ℕ)
-        → WriteIs xs ls out (Written.Length m) out'
+        → WriteIs xs ls out (Ok m) out'
         → ReadIs (take m out') us vs Answer.Done us' vs' → Holds n J L h us' vs'
     holds-stored {us' = us} {vs' = vs} m w r =
         let bytes = (front-written m refl w).1 in

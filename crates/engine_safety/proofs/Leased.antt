@@ -1,4 +1,5 @@
 -- Who heard a lease, of the words that hold the site of a run.
+use Rattle.std.specs.Prelude.{Result, Ok, Err}
 use Prim.Native.Nat.{ℕ}
 use mathlib.Core.Path.{◌≡◌, refl, sym, ap, ◌∙◌, subst}
 use mathlib.Core.Bool.{Bool, true, false, not, cond, ◌&&◌}
@@ -15,7 +16,6 @@ use Rattle.rules.specs.Unheard.{lease_is_out, unanswered, unheard_by, unheard}
 use Rattle.rules.specs.declared.model.Answer.{Answer}
 use Rattle.rules.specs.declared.model.Call.{Call}
 use Rattle.rules.specs.declared.model.Refusal.{Refusal}
-use Rattle.rules.specs.declared.model.Unheard.{Unheard}
 use Rattle.laws.proofs.Logic.{In, eqb_yes, true≠false, and_yes}
 use Rattle.laws.proofs.SetLaws.{has-less, set_in}
 use Rattle.laws.proofs.FormLaws.{form-says, is-box, box-is}
@@ -37,20 +37,20 @@ use Rattle.engine_safety.proofs.Filed.{inner, Holds, holds-run}
 
 -- ---- what is named
 
-set_of : Unheard → ℕ
-set_of (Unheard.Boxes w) = w
-set_of (Unheard.Refused why) = 0
+set_of : Result ℕ Refusal → ℕ
+set_of (Ok w) = w
+set_of (Err why) = 0
 
-is_set : Unheard → Bool
-is_set (Unheard.Boxes w) = true
-is_set (Unheard.Refused why) = false
+is_set : Result ℕ Refusal → Bool
+is_set (Ok w) = true
+is_set (Err why) = false
 
 record Named (s : Site) (c w : ℕ) : Type 0 where
   box : In c s.n
   out : LeaseOut s c
   set : w ≡ unanswered (s.box c).head (setting s c)
 
-named : (s : Site) (c w : ℕ) → unheard s c ≡ Unheard.Boxes w → Named s c w
+named : (s : Site) (c w : ℕ) → unheard s c ≡ Ok w → Named s c w
 unfolding unheard ruled unheard_by pick is_set set_of
 named s c w e =
     let p = go (form s) (is_box s.n c) (lease_is_out (s.box c).head (setting s c))
@@ -58,8 +58,8 @@ named s c w e =
     record { box = is-box p.0; out = p.1; set = p.2 }
   where
     go : (f i o : Bool) (u : ℕ)
-        → cond f (cond i (pick o (Unheard.Boxes u) (Unheard.Refused Refusal.Condition))
-        (Unheard.Refused Refusal.Box)) (Unheard.Refused Refusal.Form) ≡ Unheard.Boxes w
+        → cond f (cond i (pick o (Ok u) (Err Refusal.Condition))
+        (Err Refusal.Box)) (Err Refusal.Form) ≡ Ok w
         → (i ≡ true) × (o ≡ true) × (w ≡ u)
     go true true true u e = (refl, refl, sym (ap set_of e))
     go true true false u e = absurd (true≠false (sym (ap is_set e)))
@@ -67,7 +67,7 @@ named s c w e =
     go false i o u e = absurd (true≠false (sym (ap is_set e)))
 
 naming : (s : Site) (c : ℕ) → form s ≡ true → In c s.n → LeaseOut s c
-    → unheard s c ≡ Unheard.Boxes (unanswered (s.box c).head (setting s c))
+    → unheard s c ≡ Ok (unanswered (s.box c).head (setting s c))
 unfolding unheard ruled unheard_by pick
 naming s c f h o = rw (f, box-is h, o) refl
 
@@ -174,7 +174,7 @@ both-heard {xs = xs} {ls = ls} k e =
     let i = is-heard (site_of xs ls) 1
     (ap (λ (s : Site). (step s (Call.Heard 1)).answer) at ∙ heard.not-empty.1) in
     let o = naming-all k 1 (its_box k 1 i.box) i.out in (
-      o ∙ ap Unheard.Boxes (none (site_of xs ls).present ((site_of xs ls).box 1).head.heard
+      o ∙ ap Ok (none (site_of xs ls).present ((site_of xs ls).box 1).head.heard
           i.all),
       ap (λ (s : Site). has s.present 2) at ∙ heard.not-empty.2,
     )

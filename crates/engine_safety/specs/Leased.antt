@@ -1,15 +1,15 @@
 -- Q-12 of what the engine answers: a present box that `unheard c` does not name has taken the lease
 -- of c. Of words as `Served` has them: `fresh` made them, and any calls since, stored and loaded in
 -- between.
+use Rattle.std.specs.Prelude.{Ok}
 use Rattle.std.specs.Prelude.{ℕ, ◌≡◌, true, false, List, ◌∷◌, take}
 use Rattle.rules.specs.Sets.{has}
 use Rattle.rules.specs.declared.model.Answer.{Answer}
 use Rattle.rules.specs.declared.model.Call.{Call}
-use Rattle.rules.specs.declared.model.Unheard.{Unheard}
 use Rattle.laws.specs.Frames.{CallFits}
 use Rattle.memory.specs.Memory.{site_of}
 use Rattle.site.specs.Entries.{After, step_on, holds_on, unheard_on}
-use Rattle.writer.specs.declared.Written.{Written}
+use Rattle.std.specs.Prelude.{Ok}
 use Rattle.writer.specs.Writer.{WriteIs}
 use Rattle.reader.specs.Reader.{ReadIs}
 use Rattle.safety.specs.Heard.{TakesLease}
@@ -18,7 +18,7 @@ use Rattle.engine_safety.specs.Served.{Served, stepped, asked, stored}
 
 -- asked who has not answered the lease of c, the engine names the set w: so the lease is out
 abbrev pub Names : List ℕ → List ℕ → ℕ → ℕ → Type 0
-Names xs ls c w = unheard_on xs ls c ≡ Unheard.Boxes w
+Names xs ls c w = unheard_on xs ls c ≡ Ok w
 
 abbrev pub Out : List ℕ → List ℕ → ℕ → Type 0
 Out xs ls c = (w : ℕ) × Names xs ls c w
@@ -46,7 +46,7 @@ pub data Took {n J L : ℕ} (c b : ℕ) : (h : Talk) (xs ls : List ℕ) → Serv
         → Took c b (held e k left right (holds_on xs ls e k left right) ∷ h) xs ls
         (asked e k left right p)
     loaded : {h : Talk} {xs ls out out' us vs us' vs' : List ℕ} {m : ℕ} {p : Served n J L h xs ls}
-        {w : WriteIs xs ls out (Written.Length m) out'}
+        {w : WriteIs xs ls out (Ok m) out'}
         {r : ReadIs (take m out') us vs Answer.Done us' vs'}
         → Took c b h xs ls p → Took c b h us' vs' (stored m p w r)
 

@@ -8,7 +8,7 @@ use Rattle.rules.specs.declared.model.Call.{Call}
 use Rattle.laws.specs.Frames.{CallFits}
 use Rattle.memory.specs.Memory.{site_of}
 use Rattle.site.specs.Entries.{After, FreshMade, step_on, holds_on}
-use Rattle.writer.specs.declared.Written.{Written}
+use Rattle.std.specs.Prelude.{Ok}
 use Rattle.writer.specs.Writer.{WriteIs}
 use Rattle.reader.specs.Reader.{ReadIs}
 use Rattle.safety.specs.Demand3.{In}
@@ -29,7 +29,7 @@ pub data Served (n J L : ℕ) : Talk → List ℕ → List ℕ → Type 0 where
       → Served n J L (held b k left right (holds_on xs ls b k left right) ∷ h) xs ls
   -- m bytes were written, and read into other words
   stored : {h : Talk} {xs ls out out' us vs us' vs' : List ℕ} (m : ℕ) → Served n J L h xs ls
-      → WriteIs xs ls out (Written.Length m) out' → ReadIs (take m out') us vs Answer.Done us' vs'
+      → WriteIs xs ls out (Ok m) out' → ReadIs (take m out') us vs Answer.Done us' vs'
       → Served n J L h us' vs'
 
 -- the first number that each box keeps: a word of its row

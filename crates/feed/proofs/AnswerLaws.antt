@@ -4,7 +4,6 @@ use mathlib.Core.Path.{◌≡◌, refl, ap, sym, ◌∙◌, subst}
 use mathlib.Core.Bool.{Bool, true, false, cond}
 use mathlib.Core.List.{List, []}
 use native.Mathlib.Omega.{arith}
-use lib.ListN.{take}
 use borrow.Author.Tests.{leb-true}
 use Rattle.rules.specs.Answers.{is_refusal}
 use Rattle.rules.specs.Numbers.{answer_number}
@@ -24,19 +23,21 @@ use Rattle.trace.proofs.FirstRefused.{told-done}
 use Rattle.feed.specs.State.{Course, told_site, line_site, course_next, course_text, run_of}
 use Rattle.feed.specs.State.{course_of, feeding_of, Lent, told_mark, line_mark, course_mark}
 use Rattle.feed.specs.Says.{Rowed, Answers, Finishes, Keeps, Turns, answer_most}
+use Rattle.feed.specs.State.{held_bytes}
+use Rattle.feed.specs.declared.held.Held.{Held}
 use Rattle.feed.specs.declared.state.Feed.{Feed}
 use Rattle.feed.specs.declared.state.Stage.{Stage}
 use Rattle.feed.specs.declared.state.Turn.{Turn}
 use Rattle.feed.proofs.PastLaws.{some-not-none}
 
 pub keeps-is : (f g : Feed) (p : List ℕ) → g.stage ≡ f.stage → g.k ≡ f.k
-    → take g.len g.line ≡ hold (take f.len f.line) p → Keeps f p g
+    → held_bytes g.held ≡ hold (held_bytes f.held) p → Keeps f p g
 keeps-is f g p e k h =
     record {
       next = λ xs ls. ap (λ (t : Stage).
-          record { run = course_of t g.k (site_of xs ls); held = take g.len g.line }) e ∙ (ap
+          record { run = course_of t g.k (site_of xs ls); held = held_bytes g.held }) e ∙ (ap
           (λ (x : ℕ).
-          record { run = course_of f.stage x (site_of xs ls); held = take g.len g.line }) k
+          record { run = course_of f.stage x (site_of xs ls); held = held_bytes g.held }) k
           ∙ ap
           (λ (l : List ℕ). record { run = course_of f.stage f.k (site_of xs ls); held = l }) h);
       stage = e;
@@ -44,21 +45,23 @@ keeps-is f g p e k h =
 
 -- ---- the answer is printed
 
-pub finish-done : (k next : ℕ) (a : Answer) (xs line : List ℕ) {x y : List ℕ} {at p : ℕ}
-    → is_refusal a ≡ false → next ≡ k + 1
+pub finish-done : (k next : ℕ) (a : Answer) (xs : List ℕ) (h : Held) {x y : List ℕ} {at p : ℕ}
+    → held_bytes h ≡ [] → is_refusal a ≡ false → next ≡ k + 1
     → Wrote answer_most x y at p (done_text k (site_of xs []).epoch (lasts (site_of xs [])))
     → Finishes k a xs x y at
-    (record { feed = record { stage = Stage.Going; k = next; len = 0; line = line }; at = p })
+    (record { feed = record { stage = Stage.Going; k = next; held = h }; at = p })
 unfolding told_text told_next site_of
-finish-done k next a xs line e n w =
+finish-done k next a xs h none e n w =
     record {
       next = λ ls.
-          ap (λ (i : ℕ). record { run = course_of Stage.Going i (site_of xs ls); held = [] }) n ∙ ap
+          ap (λ (l : List ℕ). record { run = course_of Stage.Going next (site_of xs ls); held = l })
+          none ∙ ap
+          (λ (i : ℕ). record { run = course_of Stage.Going i (site_of xs ls); held = [] }) n ∙ ap
           (λ (t : Told).
           record { run = record { run = told_next k t; site = site_of xs ls }; held = [] })
           (sym (told-done a (site_of xs ls) e));
       wrote = λ ls. spelled (ap (told_text k) (sym (told-done a (site_of xs ls) e))) w;
-      form = λ ls h. h e;
+      form = λ ls g. g e;
       stage = ap (λ (b : Bool). cond b Stage.Ended Stage.Going) (sym e);
     }
 
@@ -70,18 +73,21 @@ refused-text k Answer.Taken s e = absurd (both-no e refl)
 refused-text k (Answer.Discarded why) s e = absurd (both-no e refl)
 refused-text k (Answer.Refused why) s e = (refl, refl)
 
-pub finish-refused : (k c : ℕ) (a : Answer) (xs line : List ℕ) {x y : List ℕ} {at p : ℕ}
-    → is_refusal a ≡ true → c ≡ answer_number a → Wrote 50 x y at p (refused_text k c)
+pub finish-refused : (k c : ℕ) (a : Answer) (xs : List ℕ) (h : Held) {x y : List ℕ} {at p : ℕ}
+    → held_bytes h ≡ [] → is_refusal a ≡ true → c ≡ answer_number a
+    → Wrote 50 x y at p (refused_text k c)
     → Finishes k a xs x y at
-    (record { feed = record { stage = Stage.Ended; k = k; len = 0; line = line }; at = p })
-finish-refused k c a xs line e n w =
+    (record { feed = record { stage = Stage.Ended; k = k; held = h }; at = p })
+finish-refused k c a xs h none e n w =
     record {
       next = λ ls.
-          ap (λ (r : Run). record { run = record { run = r; site = site_of xs ls }; held = [] })
+          ap (λ (l : List ℕ). record { run = course_of Stage.Ended k (site_of xs ls); held = l })
+          none ∙ ap
+          (λ (r : Run). record { run = record { run = r; site = site_of xs ls }; held = [] })
           (sym (refused-text k a (site_of xs ls) e).1);
       wrote = λ ls. at_most (omega arith)
           (spelled (ap (refused_text k) n ∙ sym (refused-text k a (site_of xs ls) e).0) w);
-      form = λ ls h. refl;
+      form = λ ls g. refl;
       stage = ap (λ (b : Bool). cond b Stage.Ended Stage.Going) (sym e);
     }
 
@@ -132,11 +138,11 @@ pub answer-turn : (f : Feed) (xs ls xs' ls' : List ℕ) {x y : List ℕ} {at : �
     → line_mark (run_of f.stage f.k (site_of xs ls)) l ≡ told_mark q
     → line_next (run_of f.stage f.k (site_of xs ls)) l ≡ told_next k q
     → line_site (run_of f.stage f.k (site_of xs ls)) (site_of xs ls) l ≡ told_site (site_of xs ls) q
-    → l ≡ read_line (take f.len f.line) → Answers q xs ls xs' ls' a
+    → l ≡ read_line (held_bytes f.held) → Answers q xs ls xs' ls' a
     → Finishes k a xs' x y at t → Lent f.stage xs ls
     → Turns (answered course_next (feeding_of f xs ls))
-    (line_text (run_of f.stage f.k (site_of xs ls)) (read_line (take f.len f.line)))
-    (line_mark (run_of f.stage f.k (site_of xs ls)) (read_line (take f.len f.line)))
+    (line_text (run_of f.stage f.k (site_of xs ls)) (read_line (held_bytes f.held)))
+    (line_mark (run_of f.stage f.k (site_of xs ls)) (read_line (held_bytes f.held)))
     xs ls xs' ls' x y at t
 answer-turn f xs ls xs' ls' l a t k q et em en es r w v h =
     let run = run_of f.stage f.k (site_of xs ls) in
@@ -175,11 +181,11 @@ answer-turn f xs ls xs' ls' l a t k q et em en es r w v h =
 
 -- by the stage of the run
 pub answer-first : (f : Feed) (xs ls xs' ls' : List ℕ) {x y : List ℕ} {at : ℕ} (l : Line)
-    (a : Answer) (t : Turn) → f.stage ≡ Stage.First → l ≡ read_line (take f.len f.line)
+    (a : Answer) (t : Turn) → f.stage ≡ Stage.First → l ≡ read_line (held_bytes f.held)
     → Answers (opened l) xs ls xs' ls' a → Finishes 1 a xs' x y at t → Lent f.stage xs ls
     → Turns (answered course_next (feeding_of f xs ls))
-    (line_text (run_of f.stage f.k (site_of xs ls)) (read_line (take f.len f.line)))
-    (line_mark (run_of f.stage f.k (site_of xs ls)) (read_line (take f.len f.line)))
+    (line_text (run_of f.stage f.k (site_of xs ls)) (read_line (held_bytes f.held)))
+    (line_mark (run_of f.stage f.k (site_of xs ls)) (read_line (held_bytes f.held)))
     xs ls xs' ls' x y at t
 unfolding line_text line_mark line_next line_site
 answer-first f xs ls xs' ls' l a t e r w v h =
@@ -190,11 +196,11 @@ answer-first f xs ls xs' ls' l a t e r w v h =
     (ap (λ (s : Stage). line_site (run_of s f.k (site_of xs ls)) (site_of xs ls) l) e) r w v h
 
 pub answer-going : (f : Feed) (xs ls xs' ls' : List ℕ) {x y : List ℕ} {at : ℕ} (l : Line)
-    (a : Answer) (t : Turn) → f.stage ≡ Stage.Going → l ≡ read_line (take f.len f.line)
+    (a : Answer) (t : Turn) → f.stage ≡ Stage.Going → l ≡ read_line (held_bytes f.held)
     → Answers (judged f.k (site_of xs ls) l) xs ls xs' ls' a → Finishes f.k a xs' x y at t
     → Lent f.stage xs ls → Turns (answered course_next (feeding_of f xs ls))
-    (line_text (run_of f.stage f.k (site_of xs ls)) (read_line (take f.len f.line)))
-    (line_mark (run_of f.stage f.k (site_of xs ls)) (read_line (take f.len f.line)))
+    (line_text (run_of f.stage f.k (site_of xs ls)) (read_line (held_bytes f.held)))
+    (line_mark (run_of f.stage f.k (site_of xs ls)) (read_line (held_bytes f.held)))
     xs ls xs' ls' x y at t
 unfolding line_text line_mark line_next line_site
 answer-going f xs ls xs' ls' l a t e r w v h =
@@ -204,18 +210,20 @@ answer-going f xs ls xs' ls' l a t e r w v h =
     (ap (λ (s : Stage). line_next (run_of s f.k (site_of xs ls)) l) e)
     (ap (λ (s : Stage). line_site (run_of s f.k (site_of xs ls)) (site_of xs ls) l) e) r w v h
 
-pub answer-ended : (f : Feed) (xs ls x line : List ℕ) (k at : ℕ) → f.stage ≡ Stage.Ended
+pub answer-ended : (f : Feed) (xs ls x : List ℕ) (k at : ℕ) (m : Held) → held_bytes m ≡ []
+    → f.stage ≡ Stage.Ended
     → Lent f.stage xs ls → Turns (answered course_next (feeding_of f xs ls))
-    (line_text (run_of f.stage f.k (site_of xs ls)) (read_line (take f.len f.line)))
-    (line_mark (run_of f.stage f.k (site_of xs ls)) (read_line (take f.len f.line)))
+    (line_text (run_of f.stage f.k (site_of xs ls)) (read_line (held_bytes f.held)))
+    (line_mark (run_of f.stage f.k (site_of xs ls)) (read_line (held_bytes f.held)))
     xs ls xs ls x x at
-    (record { feed = record { stage = Stage.Ended; k = k; len = 0; line = line }; at = at })
+    (record { feed = record { stage = Stage.Ended; k = k; held = m }; at = at })
 unfolding line_text line_mark line_next line_site
-answer-ended f xs ls x line k at e h =
-    let l = read_line (take f.len f.line) in
+answer-ended f xs ls x k at m none e h =
+    let l = read_line (held_bytes f.held) in
     record {
       next =
-          ap (λ (s : Stage).
+          ap (λ (b : List ℕ). record { run = course_of Stage.Ended k (site_of xs ls); held = b })
+          none ∙ ap (λ (s : Stage).
           record { run = course_next (course_of s f.k (site_of xs ls)) l; held = [] })
           (sym e);
       wrote =
@@ -234,12 +242,12 @@ lent_as {s} {t} {xs} {ls} e h = subst (λ (u : Stage). Lent u xs ls) e h
 -- the line went on before its end
 pub line-turn : (f g : Feed) (p xs ls xs' ls' : List ℕ) {x y : List ℕ} {at : ℕ} (t : Turn)
     → Keeps f p g → Turns (answered course_next (feeding_of g xs ls))
-    (line_text (run_of g.stage g.k (site_of xs ls)) (read_line (take g.len g.line)))
-    (line_mark (run_of g.stage g.k (site_of xs ls)) (read_line (take g.len g.line)))
+    (line_text (run_of g.stage g.k (site_of xs ls)) (read_line (held_bytes g.held)))
+    (line_mark (run_of g.stage g.k (site_of xs ls)) (read_line (held_bytes g.held)))
     xs ls xs' ls' x y at t → Turns (answered course_next (holding (feeding_of f xs ls) p))
-    (line_text (run_of f.stage f.k (site_of xs ls)) (read_line (hold (take f.len f.line)
+    (line_text (run_of f.stage f.k (site_of xs ls)) (read_line (hold (held_bytes f.held)
     p)))
-    (line_mark (run_of f.stage f.k (site_of xs ls)) (read_line (hold (take f.len f.line)
+    (line_mark (run_of f.stage f.k (site_of xs ls)) (read_line (hold (held_bytes f.held)
     p))) xs ls xs' ls' x y at t
 line-turn f g p xs ls xs' ls' {x} {y} {at} t w v =
     subst (λ (s : Feeding Course).

@@ -1,11 +1,12 @@
 -- Laws of the entries: what a refusal leaves, and what words and room that suit the state are.
 use Prim.Native.Nat.{ℕ, ◌<◌, ◌≤◌}
-use mathlib.Core.Path.{◌≡◌, refl, ap, sym, ◌∙◌}
+use mathlib.Core.Path.{◌≡◌, refl, ap, sym, ◌∙◌, subst}
 use mathlib.Core.Bool.{Bool, true, false, ◌&&◌}
 use mathlib.Core.List.{List}
 use lib.Dec.{leb}
 use lib.ListN.{length}
 use borrow.Author.Tests.{le-leb, lt-leb, leb-true}
+use Rattle.std.proofs.Common.{Ok, Err, is_ok}
 use Rattle.rules.specs.Answers.{is_refusal}
 use Rattle.rules.specs.declared.model.Answer.{Answer}
 use Rattle.rules.specs.declared.model.Refusal.{Refusal}
@@ -28,30 +29,23 @@ either false f g = g refl
 -- ---- a piece
 
 refused_piece : (f : Feed) (piece xs ls x : List ℕ) (why : Refusal)
-    → Answer.Refused why ≡ piece_answer f.stage xs ls x → PieceFed f piece xs ls xs ls x x
-    (record { answer = Answer.Refused why; feed = f; took = 0; at = 0 })
+    → Answer.Refused why ≡ piece_answer f.stage xs ls x
+    → PieceFed f piece xs ls xs ls x x (Err why)
 refused_piece f piece xs ls x why e = record {
   answer = e;
-  fed = λ h. absurd (both-no refl h);
-  kept = λ h. record {
-    feed = refl;
-    took = refl;
-    end = refl;
-    site = refl;
-    links = refl;
-    bytes = refl;
-  };
+  fed = λ g h. absurd (both-no (ap is_ok h) refl);
+  kept = λ w h. record { site = refl; links = refl; bytes = refl };
 }
 
 module _ (f : Feed) (piece xs ls x : List ℕ) where
   pub not-formed : formed f.stage xs ls ≡ false → PieceFed f piece xs ls xs ls x x
-      (record { answer = Answer.Refused Refusal.Form; feed = f; took = 0; at = 0 })
+      (Err Refusal.Form)
   unfolding piece_answer
   not-formed e = refused_piece f piece xs ls x Refusal.Form (sym (need-not _ _ _ _ _ e))
 
   pub no_room : formed f.stage xs ls ≡ true → has_room (length xs) (length ls) (length x) ≡ false
       → PieceFed f piece xs ls xs ls x x
-      (record { answer = Answer.Refused Refusal.Buffer; feed = f; took = 0; at = 0 })
+      (Err Refusal.Buffer)
   unfolding piece_answer
   no_room e h =
       refused_piece f piece xs ls x Refusal.Buffer
@@ -69,18 +63,19 @@ module _ (f : Feed) (piece xs ls x : List ℕ) where
 
   pub well_fed : (xs' ls' y : List ℕ) (g : Fed) → formed f.stage xs ls ≡ true
       → has_room (length xs) (length ls) (length x) ≡ true → Feeds f piece xs ls xs' ls' x y g
-      → PieceFed f piece xs ls xs' ls' x y g
+      → PieceFed f piece xs ls xs' ls' x y (Ok g)
   unfolding piece_answer
   well_fed xs' ls' y g e h w = record {
-    answer = w.answer ∙ sym (need-met _ _ _ _ _ e ∙ (need-met _ _ _ _ _ h ∙ no_needs _ _));
-    fed = λ a. w;
-    kept = λ a. absurd (both-no a (ap is_refusal w.answer));
+    answer = sym (need-met _ _ _ _ _ e ∙ (need-met _ _ _ _ _ h ∙ no_needs _ _));
+    fed = λ k a. let same : g ≡ k = cc in
+        subst (λ (k : Fed). Feeds f piece xs ls xs' ls' x y k) same w;
+    kept = λ why a. absurd (both-no refl (ap is_ok a));
   }
 
   -- what `feed_formed` is required of and says is what `feed_piece` says, where one answer has room
   pub formed_piece : (xs' ls' y : List ℕ) (g : Fed) → Lent f.stage xs ls
       → answer_most ≤ length x → Feeds f piece xs ls xs' ls' x y g
-      → PieceFed f piece xs ls xs' ls' x y g
+      → PieceFed f piece xs ls xs' ls' x y (Ok g)
   unfolding has_room
   formed_piece xs' ls' y g lent room =
       well_fed xs' ls' y g lent.form
@@ -98,19 +93,22 @@ end-room x a = either (leb answer_most (length x)) (leb-true answer_most (length
     (λ e. absurd (both-no (ap is_refusal (end-no x e)) a))
 
 pub end_short : (f : Feed) (x : List ℕ) → length x < answer_most
-    → EndSaid f x x (record { answer = Answer.Refused Refusal.Buffer; at = 0 })
+    → EndSaid f x x (Err Refusal.Buffer)
 end_short f x h = record {
   answer = sym (end-no x (lt-leb answer_most (length x) h));
-  said = λ a. absurd (both-no refl a);
-  kept = λ a. (refl, refl);
+  said = λ at a. absurd (both-no (ap is_ok a) refl);
+  kept = λ why a. refl;
 }
 
 pub end-said : (f : Feed) (x y : List ℕ) (at : ℕ) → answer_most ≤ length x → ((xs ls : List ℕ)
     → Wrote answer_most x y 0 at (end_text course_text (feeding_of f xs ls)))
-    → EndSaid f x y (record { answer = Answer.Done; at = at })
+    → EndSaid f x y (Ok at)
 unfolding end_answer
 end-said f x y at h w = record {
   answer = sym (need-met _ _ _ _ _ (le-leb answer_most (length x) h) ∙ no_needs _ _);
-  said = λ a. w;
-  kept = λ a. absurd (both-no a refl);
+  said = λ k a xs ls.
+      let same : at ≡ k = cc in
+      subst (λ (k : ℕ). Wrote answer_most x y 0 k (end_text course_text (feeding_of f xs ls))) same
+      (w xs ls);
+  kept = λ why a. absurd (both-no refl (ap is_ok a));
 }

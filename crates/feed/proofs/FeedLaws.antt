@@ -14,7 +14,6 @@ use borrow.Author.Tests.{leb-false}
 use Rattle.words.specs.Rows.{part}
 use Rattle.rules.specs.Every.{each}
 use Rattle.rules.specs.Pick.{pick_true, pick-false}
-use Rattle.rules.specs.declared.model.Answer.{Answer}
 use Rattle.laws.proofs.Logic.{and_yes, pick_elim}
 use Rattle.memory.specs.Memory.{site_of}
 use Rattle.print.specs.Text.{Wrote, refused_text}
@@ -29,6 +28,7 @@ use Rattle.trace.proofs.Pieces.{line-text, feed-held}
 use Rattle.feed.specs.State.{Course, course_next, course_text, line_mark, course_mark, run_of}
 use Rattle.feed.specs.State.{feeding_of, NoneDone, Untouched, Past, Lent}
 use Rattle.feed.specs.Says.{LineEnd, Keeps, Turns, Feeds, taken, answer_most}
+use Rattle.feed.specs.State.{held_bytes}
 use Rattle.feed.specs.declared.state.Feed.{Feed}
 use Rattle.feed.specs.declared.state.Stage.{Stage}
 use Rattle.feed.specs.declared.state.Turn.{Turn}
@@ -170,9 +170,9 @@ pub kept_more : (s : Feeding Course) (piece xs₀ ls₀ xs ls xs' ls' : List ℕ
     → e < n → answer_most ≤ length x - at → Kept s piece xs₀ ls₀ xs ls x y n i e g at
     → Turns (answered course_next (holding (feeding_of g xs ls) (part piece i (e - i))))
     (line_text (run_of g.stage g.k (site_of xs ls))
-    (read_line (hold (take g.len g.line) (part piece i (e - i)))))
+    (read_line (hold (held_bytes g.held) (part piece i (e - i)))))
     (line_mark (run_of g.stage g.k (site_of xs ls))
-    (read_line (hold (take g.len g.line) (part piece i (e - i))))) xs ls xs' ls' y z at t
+    (read_line (hold (held_bytes g.held) (part piece i (e - i))))) xs ls xs' ls' y z at t
     → LineEnd piece (e + 1) n e' → Kept s piece xs₀ ls₀ xs' ls' x z n (e + 1) e' t.feed t.at
 kept_more s piece xs₀ ls₀ xs ls xs' ls' {x} {y} {z} n i e e' g {at} t short all l free k w more =
     let p = part piece i (e - i) in
@@ -277,11 +277,11 @@ took-is s piece xs₀ ls₀ xs ls {x} {y} n i e g {at} all stop k =
         ∙ all-taken p (length x - at) q k.end.plain) long k.end.from
 
 pub kept-all : (f : Feed) (piece xs₀ ls₀ xs ls : List ℕ) {x y : List ℕ} (n i e : ℕ) (g h : Feed)
-    {at : ℕ} → length (take f.len f.line) ≤ 65 → n ≡ length piece
+    {at : ℕ} → length (held_bytes f.held) ≤ 65 → n ≡ length piece
     → (ltb e n && leb answer_most (length y - at)) ≡ false
     → Kept (feeding_of f xs₀ ls₀) piece xs₀ ls₀ xs ls x y n i e g at
     → Keeps g (part piece i (e - i)) h
-    → Feeds f piece xs₀ ls₀ xs ls x y (record { answer = Answer.Done; feed = h; took = e; at = at })
+    → Feeds f piece xs₀ ls₀ xs ls x y (record { feed = h; took = e; at = at })
 kept-all f piece xs₀ ls₀ xs ls {x} {y} n i e g h {at} short all stop k w =
     let s = feeding_of f xs₀ ls₀ in
     let p = part piece i (e - i) in
@@ -297,7 +297,6 @@ kept-all f piece xs₀ ls₀ xs ls {x} {y} n i e g h {at} short all stop k w =
     let v : Wrote (length x) x y 0 at (feed_text course_next course_text s (take e piece)) =
     spelled (sym (same course_text)) k.wrote in
     record {
-      answer = refl;
       took = sym (took-is s piece xs₀ ls₀ xs ls n i e g all stop k);
       next =
           w.next xs ls ∙ (ap (λ (u : Feeding Course). holding u p) k.next
@@ -316,20 +315,20 @@ kept-all f piece xs₀ ls₀ xs ls {x} {y} n i e g h {at} short all stop k w =
 
 -- ---- the end of the input
 
-pub end_none : (f : Feed) (xs ls x : List ℕ) → f.len ≡ 0
+pub end_none : (f : Feed) (xs ls x : List ℕ) → f.held.len ≡ 0
     → Wrote answer_most x x 0 0 (end_text course_text (feeding_of f xs ls))
 unfolding end_text
 end_none f xs ls x e =
     spelled (sym (pick_true _ _ _
-    (eq-eqb (length (take f.len f.line)) 0 (rw length-take (omega arith))))) nothing
+    (eq-eqb (length (held_bytes f.held)) 0 (rw length-take (omega arith))))) nothing
 
-end_line : (f : Feed) (xs ls : List ℕ) → length f.line ≡ 65 → (f.len ≡ 0 → ⊥)
+end_line : (f : Feed) (xs ls : List ℕ) → length f.held.line ≡ 65 → (f.held.len ≡ 0 → ⊥)
     → end_text course_text (feeding_of f xs ls)
     ≡ line_text (run_of f.stage f.k (site_of xs ls)) Line.Unreadable
 unfolding end_text
 end_line f xs ls e h =
     pick-false _ _ _
-    (ne_eqb (length (take f.len f.line)) 0 (rw length-take (λ q. h (omega arith))))
+    (ne_eqb (length (held_bytes f.held)) 0 (rw length-take (λ q. h (omega arith))))
 
 -- what an unended line prints, by the stage
 ended_text : Stage → ℕ → List ℕ
@@ -346,26 +345,26 @@ ended_is Stage.Going k xs ls =
 ended_is Stage.Ended k xs ls = refl
 
 end-some : (f : Feed) (xs ls : List ℕ) {x y : List ℕ} {p : ℕ} (t : Stage) → f.stage ≡ t
-    → length f.line ≡ 65 → (f.len ≡ 0 → ⊥) → Wrote answer_most x y 0 p (ended_text t f.k)
+    → length f.held.line ≡ 65 → (f.held.len ≡ 0 → ⊥) → Wrote answer_most x y 0 p (ended_text t f.k)
     → Wrote answer_most x y 0 p (end_text course_text (feeding_of f xs ls))
 end-some f xs ls t d e h w =
     spelled (ap (λ (u : Stage). ended_text u f.k) (sym d)
     ∙ (ended_is f.stage f.k xs ls ∙ sym (end_line f xs ls e h))) w
 
 pub end-first : (f : Feed) (xs ls : List ℕ) {x y : List ℕ} {p : ℕ} → f.stage ≡ Stage.First
-    → length f.line ≡ 65 → (f.len ≡ 0 → ⊥) → Wrote 50 x y 0 p (refused_text 1 11)
+    → length f.held.line ≡ 65 → (f.held.len ≡ 0 → ⊥) → Wrote 50 x y 0 p (refused_text 1 11)
     → Wrote answer_most x y 0 p (end_text course_text (feeding_of f xs ls))
 unfolding ended_text
 end-first f xs ls d e h w = end-some f xs ls Stage.First d e h (at_most (omega arith) w)
 
 pub end-going : (f : Feed) (xs ls : List ℕ) {x y : List ℕ} {p : ℕ} → f.stage ≡ Stage.Going
-    → length f.line ≡ 65 → (f.len ≡ 0 → ⊥) → Wrote 50 x y 0 p (refused_text f.k 11)
+    → length f.held.line ≡ 65 → (f.held.len ≡ 0 → ⊥) → Wrote 50 x y 0 p (refused_text f.k 11)
     → Wrote answer_most x y 0 p (end_text course_text (feeding_of f xs ls))
 unfolding ended_text
 end-going f xs ls d e h w = end-some f xs ls Stage.Going d e h (at_most (omega arith) w)
 
 pub end-ended : (f : Feed) (xs ls x : List ℕ) → f.stage ≡ Stage.Ended
-    → length f.line ≡ 65 → (f.len ≡ 0 → ⊥)
+    → length f.held.line ≡ 65 → (f.held.len ≡ 0 → ⊥)
     → Wrote answer_most x x 0 0 (end_text course_text (feeding_of f xs ls))
 unfolding ended_text
 end-ended f xs ls x d e h = end-some f xs ls Stage.Ended d e h nothing

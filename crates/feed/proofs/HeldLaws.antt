@@ -4,21 +4,23 @@ use mathlib.Core.Path.{◌≡◌, refl, ap, sym, ◌∙◌}
 use mathlib.Core.Bool.{Bool, true, false, not}
 use mathlib.Core.List.{List, [], ◌∷◌, ◌++◌}
 use native.Mathlib.Omega.{arith}
-use native.Mathlib.Numerals.{add-one}
 use lib.Dec.{ltb, eqb}
-use lib.ListN.{length, take, drop, get_or, set, length-take, length-drop}
+use lib.ListN.{length, take, drop, get_or, length-take, length-drop}
 use lib.Seq.{take_all, take-suc, take-take, take-append-add, length-take-le, get_or-drop}
-use lib.Seq.{paste, paste-suc, take-paste}
-use borrow.Author.Tests.{ltb-true, ltb-false, ne_eqb}
+use lib.Seq.{paste, take-paste}
+use borrow.Author.Tests.{ltb-true, ltb-false, eqb-true}
+use borrow.Rule.Slice.PartMut.{put_mid}
+use Rattle.std.proofs.lemmas.List.{get_or-take}
+use Rattle.std.proofs.lemmas.Slice.{put_mid-paste}
 use Rattle.words.specs.Rows.{part}
 use Rattle.rules.specs.Every.{each}
-use Rattle.laws.proofs.Logic.{and_yes, and_both}
+use Rattle.laws.proofs.Logic.{and_both}
+use Rattle.scan.specs.Bytes.{slice, index_after, index_of}
+use Rattle.scan.proofs.ScanLaws.{same-part}
 use Rattle.trace.specs.Feeding.{hold, plain}
+use Rattle.feed.specs.Says.{LineEnd}
 
 -- ---- the end of a line
-
-part_none : (xs : List ℕ) (i : ℕ) → part xs i (i - i) ≡ []
-part_none xs i = let e : i - i ≡ 0 = omega arith in ap (λ (k : ℕ). part xs i k) e
 
 pub part-more : (xs : List ℕ) (i e : ℕ) → i ≤ e → e < length xs
     → part xs i (e + 1 - i) ≡ part xs i (e - i) ++ (get_or xs e 0 ∷ [])
@@ -30,21 +32,52 @@ part-more xs i e h k =
     ∙ ap (λ (x : ℕ). part xs i (e - i) ++ (x ∷ []))
     (get_or-drop i xs (e - i) 0 ∙ ap (λ (j : ℕ). get_or xs j 0) at))
 
-plain_snoc : (p : List ℕ) (b : ℕ) → plain p ≡ true → (b ≡ 10 → ⊥) → plain (p ++ (b ∷ [])) ≡ true
-unfolding plain each
-plain_snoc [] b e h = rw (ne_eqb b 10 h) refl
-plain_snoc (a ∷ p) b e h =
-    let w = and_yes (not (eqb a 10)) (plain p) e in
-    and_both w.0 (plain_snoc p b w.1 h)
+-- what stands before the first newline, and the newline
+before-first : (s : List ℕ) → plain (take (index_of 10 s) s) ≡ true
+unfolding plain each index_of index_after
+before-first [] = refl
+before-first (b ∷ s) = go (eqb b 10) refl (before-first s)
+  where
+    go : (t : Bool) → eqb b 10 ≡ t → plain (take (index_of 10 s) s) ≡ true
+        → plain (take (index_after t (index_of 10 s)) (b ∷ s)) ≡ true
+    go true e r = refl
+    go false e r = and_both (ap not e) r
 
-pub plain-none : (xs : List ℕ) (i : ℕ) → plain (part xs i (i - i)) ≡ true
-unfolding plain each
-plain-none xs i = ap plain (part_none xs i)
+first-newline : (s : List ℕ) → index_of 10 s < length s → get_or s (index_of 10 s) 0 ≡ 10
+unfolding index_of index_after
+first-newline [] h = absurd (omega arith)
+first-newline (b ∷ s) h = go (eqb b 10) refl h (first-newline s)
+  where
+    go : (t : Bool) → eqb b 10 ≡ t → index_after t (index_of 10 s) < length (b ∷ s)
+        → (index_of 10 s < length s → get_or s (index_of 10 s) 0 ≡ 10)
+        → get_or (b ∷ s) (index_after t (index_of 10 s)) 0 ≡ 10
+    go true e k r = eqb-true b 10 e
+    go false e k r = r (omega arith)
 
-pub plain_more : (xs : List ℕ) (i e : ℕ) → i ≤ e → e < length xs
-    → plain (part xs i (e - i)) ≡ true → (get_or xs e 0 ≡ 10 → ⊥)
-    → plain (part xs i (e + 1 - i)) ≡ true
-plain_more xs i e h k p d = ap plain (part-more xs i e h k) ∙ plain_snoc _ _ p d
+pub line-end : (xs : List ℕ) (i n : ℕ) {e : ℕ} → i ≤ n → n ≤ length xs
+    → e ≡ i + index_of 10 (slice i n xs) → e ≤ n → LineEnd xs i n e
+line-end xs i n {e} order room found below =
+    let s = slice i n xs in
+    let cut = same-part i n xs order in
+    let k : e - i ≡ index_of 10 s = omega arith in
+    let inner : e - i ≤ n - i = omega arith in
+    let same : part xs i (e - i) ≡ take (index_of 10 s) s =
+    sym (take-take (e - i) (n - i) (drop i xs) inner)
+    ∙ (ap (take (e - i)) (sym cut) ∙ ap (λ m. take m s) k) in
+    let long : length s ≡ n - i =
+    ap length cut ∙ length-take-le (n - i) (drop i xs) (omega (arith, length-drop i xs)) in
+    record {
+      from = omega arith;
+      to = below;
+      plain = ap plain same ∙ before-first s;
+      newline = λ h.
+          let at : i + (e - i) ≡ e = omega arith in
+          ap (λ m. get_or xs m 0) (sym at)
+          ∙ (sym (get_or-drop i xs (e - i) 0)
+          ∙ (sym (get_or-take (n - i) (drop i xs) (e - i) 0 (omega arith))
+          ∙ (ap (λ l. get_or l (e - i) 0) (sym cut)
+          ∙ (ap (λ m. get_or s m 0) k ∙ first-newline s (omega arith)))));
+    }
 
 -- ---- what is kept
 
@@ -91,25 +124,20 @@ held-is line xs next len n i e m full en em h k p =
     ∙ ap (λ (l : List ℕ). take 65 (l ++ take (e - i) d))
     (cut-take line len 65 n (omega arith) en))))))
 
--- one byte of the copy
-pub copy_more : (line xs next : List ℕ) (n i j : ℕ) → n + j < length line → i + j < length xs
-    → next ≡ paste line n (drop i xs) j
-    → set next (n + j) (get_or xs (i + j) 0) ≡ paste line n (drop i xs) (j + 1)
-copy_more line xs next n i j h k p =
-    let room : j < length (drop i xs) = rw length-drop (omega arith) in
-    ap (λ (l : List ℕ). set l (n + j) (get_or xs (i + j) 0)) p
-    ∙ (ap (λ (x : ℕ). set (paste line n (drop i xs) j) (n + j) x) (sym (get_or-drop i xs j 0))
-    ∙ (paste-suc line n (drop i xs) j 0 h room
-    ∙ ap (λ (l : ℕ). paste line n (drop i xs) l) (sym (add-one j))))
-
-pub held-end : (line xs next : List ℕ) (len n i e m j : ℕ) → length line ≡ 65 → n ≡ min len 65
-    → m ≡ min (e - i) (65 - n) → i ≤ e → e ≤ length xs → m ≤ j → j ≤ m
-    → next ≡ paste line n (drop i xs) j
-    → take (n + m) next ≡ hold (take len line) (part xs i (e - i))
-held-end line xs next len n i e m j full en em h k lo hi p =
-    let q : j ≡ m = omega arith in
-    held-is line xs next len n i e m full en em h k
-    (p ∙ ap (λ (x : ℕ). paste line n (drop i xs) x) q)
+-- the copy at once: part is what the code has cut out of the piece
+pub held-copied : (line xs part₁ : List ℕ) (len n i e m : ℕ) → length line ≡ 65 → n ≡ min len 65
+    → m ≡ min (e - i) (65 - n) → i ≤ e → e ≤ length xs → part₁ ≡ take (i + m - i) (drop i xs)
+    → take (n + m) (put_mid n (n + m - n) line part₁) ≡ hold (take len line) (part xs i (e - i))
+held-copied line xs part₁ len n i e m full en em h k q =
+    let d = drop i xs in
+    let width : i + m - i ≡ m = omega arith in
+    let gap : m ≡ n + m - n = omega arith in
+    let room : m ≤ length d = rw length-drop (omega arith) in
+    let long : m ≡ length (take m d) = sym (length-take-le m d room) in
+    let same = q ∙ ap (λ j. take j d) width in
+    held-is line xs _ len n i e m full en em h k
+    (put_mid-paste n (n + m - n) line part₁ (take m d) m same gap long
+    ∙ ap (λ l. take n line ++ l ++ drop (n + m) line) (take_all m (take m d) (omega arith)))
 
 pub cut-length : (xs : List ℕ) (n k m : ℕ) → length xs ≡ k → m ≡ min n k → m ≡ length (take m xs)
 cut-length xs n k m e h = sym (length-take-le m xs (omega arith))

@@ -1,6 +1,5 @@
 -- What the entries promise, whatever state, words and buffer they are handed.
-use Rattle.std.specs.Prelude.{ℕ, ◌≡◌, Bool, true, false, ◌&&◌, List, [], ◌∷◌, leb, length}
-use Rattle.rules.specs.Answers.{is_refusal}
+use Rattle.std.specs.Prelude.{ℕ, ◌≡◌, Bool, ◌&&◌, List, [], ◌∷◌, leb, length, Result, Ok, Err}
 use Rattle.rules.specs.Needs.{need, ruled}
 use Rattle.rules.specs.declared.model.Answer.{Answer}
 use Rattle.rules.specs.declared.model.Refusal.{Refusal}
@@ -9,7 +8,6 @@ use Rattle.print.specs.Text.{Wrote}
 use Rattle.trace.specs.Feeding.{end_text}
 use Rattle.feed.specs.State.{course_text, feeding_of, formed}
 use Rattle.feed.specs.Says.{Feeds, answer_most}
-use Rattle.feed.specs.declared.state.End.{End}
 use Rattle.feed.specs.declared.state.Fed.{Fed}
 use Rattle.feed.specs.declared.state.Feed.{Feed}
 use Rattle.feed.specs.declared.state.Stage.{Stage}
@@ -28,21 +26,23 @@ piece_answer t xs ls out =
     ∷ [])
     Answer.Done
 
--- nothing was fed: the state, the words and the buffer are as they were
-pub record Unfed (f : Feed) (xs ls xs' ls' before after : List ℕ) (g : Fed) : Type 0 where
-  pub feed : g.feed ≡ f
-  pub took : g.took ≡ 0
-  pub end : g.at ≡ 0
+-- done, or why it is refused
+abbrev pub answered_by : {T : Type 0} → Result T Refusal → Answer
+answered_by (Ok t) = Answer.Done
+answered_by (Err why) = Answer.Refused why
+
+-- nothing was fed: the words and the buffer are as they were, and so the run is where it was
+pub record Unfed (xs ls xs' ls' before after : List ℕ) : Type 0 where
   pub site : xs' ≡ xs
   pub links : ls' ≡ ls
   pub bytes : after ≡ before
 
 -- a piece was fed, or refused
-pub record PieceFed (f : Feed) (piece xs ls xs' ls' before after : List ℕ) (g : Fed) : Type 0
-  where
-    pub answer : g.answer ≡ piece_answer f.stage xs ls before
-    pub fed : is_refusal g.answer ≡ false → Feeds f piece xs ls xs' ls' before after g
-    pub kept : is_refusal g.answer ≡ true → Unfed f xs ls xs' ls' before after g
+pub record PieceFed (f : Feed) (piece xs ls xs' ls' before after : List ℕ) (r : Result Fed Refusal)
+    : Type 0 where
+  pub answer : answered_by r ≡ piece_answer f.stage xs ls before
+  pub fed : (g : Fed) → r ≡ Ok g → Feeds f piece xs ls xs' ls' before after g
+  pub kept : (why : Refusal) → r ≡ Err why → Unfed xs ls xs' ls' before after
 
 -- 12 where the buffer has no room for the longest answer
 unfoldable pub end_answer : List ℕ → Answer
@@ -50,8 +50,8 @@ end_answer out =
     ruled Answer.Refused (need Refusal.Buffer (leb answer_most (length out)) ∷ []) Answer.Done
 
 -- the end of the input was answered, or refused; the words do not matter
-pub record EndSaid (f : Feed) (before after : List ℕ) (e : End) : Type 0 where
-  pub answer : e.answer ≡ end_answer before
-  pub said : is_refusal e.answer ≡ false → (xs ls : List ℕ)
-      → Wrote answer_most before after 0 e.at (end_text course_text (feeding_of f xs ls))
-  pub kept : is_refusal e.answer ≡ true → (after ≡ before) × (e.at ≡ 0)
+pub record EndSaid (f : Feed) (before after : List ℕ) (r : Result ℕ Refusal) : Type 0 where
+  pub answer : answered_by r ≡ end_answer before
+  pub said : (at : ℕ) → r ≡ Ok at → (xs ls : List ℕ)
+      → Wrote answer_most before after 0 at (end_text course_text (feeding_of f xs ls))
+  pub kept : (why : Refusal) → r ≡ Err why → after ≡ before

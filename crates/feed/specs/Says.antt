@@ -87,7 +87,6 @@ pub record Turns (s : Feeding Course) (text mark xs ls xs' ls' before after : Li
 
 -- as much of a piece as the buffer has room for was fed
 pub record Feeds (f : Feed) (piece xs ls xs' ls' before after : List ℕ) (g : Fed) : Type 0 where
-  pub answer : g.answer ≡ Answer.Done
   pub took : g.took ≡ taken (length before) (feeding_of f xs ls) piece
   pub next : feeding_of g.feed xs' ls'
       ≡ feed_next course_next (feeding_of f xs ls) (take g.took piece)

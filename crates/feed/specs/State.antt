@@ -7,6 +7,7 @@ use Rattle.lines.specs.declared.Line.{Line}
 use Rattle.trace.specs.Feeding.{Feeding, feed_text}
 use Rattle.trace.specs.Replay.{Run, first, going, ended, Told, done, refused, opened, judged}
 use Rattle.trace.specs.Replay.{line_next, line_text}
+use Rattle.feed.specs.declared.held.Held.{Held}
 use Rattle.feed.specs.declared.state.Feed.{Feed}
 use Rattle.feed.specs.declared.state.Stage.{Stage}
 
@@ -73,10 +74,14 @@ run_of Stage.Ended k s = ended
 abbrev pub course_of : Stage → ℕ → Site → Course
 course_of t k s = record { run = run_of t k s; site = s }
 
+-- the bytes of the line that has begun, or its first 65
+abbrev pub held_bytes : Held → List ℕ
+held_bytes h = take h.len h.line
+
 abbrev pub feeding_of : Feed → List ℕ → List ℕ → Feeding Course
 feeding_of f xs ls = record {
   run = course_of f.stage f.k (site_of xs ls);
-  held = take f.len f.line;
+  held = held_bytes f.held;
 }
 
 -- a state before the first byte, whatever the words are

@@ -1,15 +1,14 @@
 // The answer to one line: what the engine says of it, printed, and the run after it.
-ghost use Rattle.std.specs.Prelude.{◌≡◌, true, ◌+◌, ◌-◌, ◌≤◌, length, take};
+ghost use Rattle.std.specs.Prelude.{◌≡◌, true, ◌+◌, ◌-◌, ◌≤◌, length};
 ghost use Rattle.words.specs.Rows.{part};
 ghost use Rattle.memory.specs.Memory.{site_words, links_words, site_of, memory_form};
 ghost use Rattle.lines.specs.Read.{read_line};
 ghost use Rattle.lines.specs.declared.Line.{Line as Lined};
 ghost use Rattle.trace.specs.Feeding.{answered, hold as holds, holding};
 ghost use Rattle.trace.specs.Replay.{line_text, opened, judged};
-ghost use Rattle.feed.specs.State.{course_next, line_mark, run_of, feeding_of, Lent};
+ghost use Rattle.feed.specs.State.{course_next, held_bytes, line_mark, run_of, feeding_of, Lent};
 ghost use Rattle.feed.specs.Says.{Answers, Turns, answer_most};
 
-use crate::held::read_held;
 use crate::settle::{finish, keep};
 use crate::state::{Feed, MOST_J, MOST_L, Stage, Turn};
 use lines::Line;
@@ -63,31 +62,30 @@ fn answer(f: Feed, site: &mut [u64], links: &mut [u64], out: &mut [u8], at: usiz
     requires { (at + answer_most ≤ length out.old) × Lent f.stage site.old links.old }
     ensures { Turns (answered course_next (feeding_of f site.old links.old))
         (line_text (run_of f.stage f.k (site_of site.old links.old))
-        (read_line (take f.len f.line)))
+        (read_line (held_bytes f.held)))
         (line_mark (run_of f.stage f.k (site_of site.old links.old))
-        (read_line (take f.len f.line)))
+        (read_line (held_bytes f.held)))
         site.old links.old site.new links.new
         out.old out.new at result }
 {
     let stage = f.stage;
-    let line = f.line;
+    let held = f.held;
     let k = f.k;
-    let l = read_held(line, f.len);
+    let l = held.read();
     match stage {
         Stage::First => {
             let a = answer_first(site, links, l);
-            finish(1, a, line, site, out, at)
+            finish(1, a, held, site, out, at)
         }
         Stage::Going => {
             let a = answer_later(site, links, k, l);
-            finish(k, a, line, site, out, at)
+            finish(k, a, held, site, out, at)
         }
         Stage::Ended => {
             let g = Feed {
                 stage: Stage::Ended,
                 k,
-                len: 0,
-                line,
+                held: held.emptied(),
             };
             Turn { feed: g, at }
         }
@@ -111,9 +109,9 @@ pub(crate) fn answer_line(
         (answered course_next (holding (feeding_of f site.old links.old)
         (part piece.now i (e - i))))
         (line_text (run_of f.stage f.k (site_of site.old links.old))
-        (read_line (holds (take f.len f.line) (part piece.now i (e - i)))))
+        (read_line (holds (held_bytes f.held) (part piece.now i (e - i)))))
         (line_mark (run_of f.stage f.k (site_of site.old links.old))
-        (read_line (holds (take f.len f.line) (part piece.now i (e - i)))))
+        (read_line (holds (held_bytes f.held) (part piece.now i (e - i)))))
         site.old links.old site.new links.new
         out.old out.new at result }
 {

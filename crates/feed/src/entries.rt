@@ -3,10 +3,11 @@ ghost use Rattle.std.specs.Prelude.{◌≡◌};
 ghost use Rattle.feed.specs.State.{Begins, formed, is_ended};
 ghost use Rattle.feed.specs.Entries.{has_room, PieceFed, EndSaid};
 
+use crate::held::Held;
 use crate::piece::feed_formed;
-use crate::state::{End, Fed, Feed, LINKS_WORDS, LONGEST_ANSWER, SITE_WORDS, Stage};
+use crate::state::{Fed, Feed, LINKS_WORDS, LONGEST_ANSWER, SITE_WORDS, Stage};
 use crate::tell::put_end;
-use rules::model::{Answer, Refusal};
+use rules::model::Refusal;
 
 // Before the first byte.
 pub fn start() -> Feed
@@ -15,8 +16,7 @@ pub fn start() -> Feed
     Feed {
         stage: Stage::First,
         k: 1,
-        len: 0,
-        line: [0; 65],
+        held: Held::none(),
     }
 }
 
@@ -49,44 +49,35 @@ fn has_room(site: usize, links: usize, out: usize) -> bool
     (SITE_WORDS <= site) & (LINKS_WORDS <= links) & (LONGEST_ANSWER <= out)
 }
 
-// Feeds as much of the piece as out has room for; the caller feeds the rest next.
-pub fn feed_piece(f: Feed, piece: &[u8], site: &mut [u64], links: &mut [u64], out: &mut [u8]) -> Fed
+// Feeds as much of the piece as out has room for; the caller feeds the rest next. Where nothing is
+// fed the run stays at f.
+pub fn feed_piece(
+    f: Feed,
+    piece: &[u8],
+    site: &mut [u64],
+    links: &mut [u64],
+    out: &mut [u8],
+) -> Result<Fed, Refusal>
     ensures { PieceFed f piece.now site.old links.old
         site.new links.new out.old out.new result }
 {
     let stage = f.stage;
     if !is_formed(stage, site, links) {
-        return Fed {
-            answer: Answer::Refused(Refusal::Form),
-            feed: f,
-            took: 0,
-            at: 0,
-        };
+        return Err(Refusal::Form);
     }
     if !has_room(site.len(), links.len(), out.len()) {
-        return Fed {
-            answer: Answer::Refused(Refusal::Buffer),
-            feed: f,
-            took: 0,
-            at: 0,
-        };
+        return Err(Refusal::Buffer);
     }
-    feed_formed(f, piece, site, links, out)
+    Ok(feed_formed(f, piece, site, links, out))
 }
 
-// The end of the input: the answer to a line that has begun and that no newline ended.
-pub fn feed_end(f: Feed, out: &mut [u8]) -> End
+// The end of the input: the answer to a line that has begun and that no newline ended, and the
+// place past it.
+pub fn feed_end(f: Feed, out: &mut [u8]) -> Result<usize, Refusal>
     ensures { EndSaid f out.old out.new result }
 {
     if out.len() < LONGEST_ANSWER {
-        return End {
-            answer: Answer::Refused(Refusal::Buffer),
-            at: 0,
-        };
+        return Err(Refusal::Buffer);
     }
-    let at = put_end(f, out);
-    End {
-        answer: Answer::Done,
-        at,
-    }
+    Ok(put_end(f, out))
 }

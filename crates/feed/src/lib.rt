@@ -3,7 +3,7 @@
 
 mod answer;
 mod entries;
-mod held;
+pub mod held;
 mod piece;
 mod settle;
 pub mod state;

@@ -6,10 +6,10 @@ use crate::answer::answer_line;
 use crate::held::line_end;
 use crate::settle::keep;
 use crate::state::{Fed, Feed, LONGEST_ANSWER};
-use rules::model::Answer;
 
 // Feeds as much of the piece as out has room for: up to its end, or to a newline whose answer might
 // not fit. The words suit the state, and do so afterwards: for loops that have seen to it once.
+// A while: it ends where out has no room, and its step is a line.
 pub fn feed_formed(
     f: Feed,
     piece: &[u8],
@@ -35,7 +35,6 @@ pub fn feed_formed(
     }
     let h = keep(g, piece, i, e);
     Fed {
-        answer: Answer::Done,
         feed: h,
         took: e,
         at,

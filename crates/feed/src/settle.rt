@@ -6,7 +6,7 @@ ghost use Rattle.rules.specs.Numbers.{answer_number};
 ghost use Rattle.trace.specs.Replay.{most_lines};
 ghost use Rattle.feed.specs.Says.{Rowed, Finishes, Keeps, answer_most};
 
-use crate::held::hold;
+use crate::held::Held;
 use crate::state::{Feed, Stage, Turn};
 use crate::tell::put_done;
 use rules::answers::is_refusal;
@@ -27,14 +27,7 @@ fn next_number(k: u64) -> u64
 }
 
 // Prints the answer to line k, and goes on or ends.
-pub(crate) fn finish(
-    k: u64,
-    a: Answer,
-    line: [u8; 65],
-    site: &[u64],
-    out: &mut [u8],
-    at: usize,
-) -> Turn
+pub(crate) fn finish(k: u64, a: Answer, held: Held, site: &[u64], out: &mut [u8], at: usize) -> Turn
     requires { (at + answer_most ≤ length out.old)
         × (is_refusal a ≡ false → Rowed site.now)
         × (is_refusal a ≡ false → k ≤ most_lines) }
@@ -45,8 +38,7 @@ pub(crate) fn finish(
         let g = Feed {
             stage: Stage::Ended,
             k,
-            len: 0,
-            line,
+            held: held.emptied(),
         };
         return Turn { feed: g, at: p };
     }
@@ -54,8 +46,7 @@ pub(crate) fn finish(
     let g = Feed {
         stage: Stage::Going,
         k: next_number(k),
-        len: 0,
-        line,
+        held: held.emptied(),
     };
     Turn { feed: g, at: p }
 }
@@ -66,13 +57,10 @@ pub(crate) fn keep(f: Feed, piece: &[u8], i: usize, e: usize) -> Feed
     ensures { Keeps f (part piece.now i (e - i)) result }
 {
     let stage = f.stage;
-    let line = f.line;
-    let h = hold(line, f.len, piece, i, e);
-    let next = h.line;
+    let held = f.held;
     Feed {
         stage,
         k: f.k,
-        len: h.len,
-        line: next,
+        held: held.go_on(piece, i, e),
     }
 }

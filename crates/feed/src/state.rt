@@ -1,5 +1,5 @@
 // The state of a feeding between two pieces, and what the feeding gives back.
-use rules::model::Answer;
+use crate::held::Held;
 
 // A trace's site has at most five boxes, "here J at most 32, L at most 8".
 const BOXES: usize = 5;
@@ -28,20 +28,12 @@ pub enum Stage {
     Ended,
 }
 
-// k is the next line's number where the run goes on. The first len bytes of line are those of the
-// line that has begun, or its first 65.
+// k is the next line's number where the run goes on; held: the line that has begun.
 #[derive(Clone, Copy)]
 pub struct Feed {
     pub stage: Stage,
     pub k: u64,
-    pub len: usize,
-    pub line: [u8; 65],
-}
-
-#[derive(Clone, Copy)]
-pub struct Held {
-    pub line: [u8; 65],
-    pub len: usize,
+    pub held: Held,
 }
 
 // The state after a line, and the place past its answer.
@@ -52,18 +44,10 @@ pub struct Turn {
 }
 
 // The state after a piece, how many bytes of it were taken, and the place past the answers to its
-// lines. answer is Done, or why nothing was fed.
+// lines.
 #[derive(Clone, Copy)]
 pub struct Fed {
-    pub answer: Answer,
     pub feed: Feed,
     pub took: usize,
-    pub at: usize,
-}
-
-// The place past what the end of the input says. answer is Done, or why nothing was said.
-#[derive(Clone, Copy)]
-pub struct End {
-    pub answer: Answer,
     pub at: usize,
 }

@@ -23,11 +23,9 @@ fn put_lasts(out: &mut [u8], at: usize, site: &[u64], n: usize, w: usize) -> usi
         (spaced (lasts_at site.now w n)) }
 {
     let mut p = at;
-    let mut i = 0;
-    while i < n {
+    for i in 0..n {
         let r = words::row_at(i, w, n);
         p = print::put_next(out, p, site[r + LAST_OF_ROW]);
-        i += 1;
     }
     p
 }
@@ -49,6 +47,7 @@ pub(crate) fn put_done(out: &mut [u8], at: usize, k: u64, site: &[u64]) -> usize
 }
 
 // The answer to a line that has begun and that no newline ended.
+// A match: the stage is part of the state that is handed back.
 pub(crate) fn put_end(f: Feed, out: &mut [u8]) -> usize
     requires { answer_most ≤ length out.old }
     ensures { (xs ls : List ℕ) → Wrote answer_most out.old out.new 0 result
@@ -56,7 +55,8 @@ pub(crate) fn put_end(f: Feed, out: &mut [u8]) -> usize
 {
     let stage = f.stage;
     let k = f.k;
-    let n = f.len;
+    let held = f.held;
+    let n = held.len;
     if n == 0 {
         return 0;
     }

@@ -18,27 +18,27 @@ use Rattle.memory.proofs.LentLaws.{form-site}
 use Rattle.site.proofs.AfterLaws.{need-met, need-not, no_needs}
 use Rattle.site.proofs.KnownLaws.{AtBox}
 use Rattle.find.specs.Find.{found_as, found_in, find, find_on}
-use Rattle.find.specs.declared.Found.{Found}
+use Rattle.std.specs.Prelude.{Option, Some, None, Ok, Err}
 
 -- ---- the number
 
-pub none_found : (k : ℕ) → k ≡ 0 → Found.None ≡ found_as k
+pub none_found : (k : ℕ) → k ≡ 0 → None ≡ found_as k
 unfolding found_as
 none_found k e = sym (pick_true _ _ _ (eq-eqb k 0 e))
 
-pub number-found : (k : ℕ) → (k ≡ 0 → ⊥) → Found.Number k ≡ found_as k
+pub number-found : (k : ℕ) → (k ≡ 0 → ⊥) → Some k ≡ found_as k
 unfolding found_as
 number-found k e = sym (pick-false _ _ _ (ne_eqb k 0 e))
 
 -- ---- a site
 
 module _ (s : Site) (f : form s ≡ true) (c left : ℕ) where
-  pub no-box : is_box s.n c ≡ false → find s c left ≡ Found.Refused Refusal.Box
+  pub no-box : is_box s.n c ≡ false → find s c left ≡ Err Refusal.Box
   unfolding find
   no-box h = need-met _ _ _ _ _ f ∙ need-not _ _ _ _ _ h
 
   module _ (b : is_box s.n c ≡ true) where
-    pub no-frame : left ≡ 0 → find s c left ≡ Found.Refused Refusal.Frame
+    pub no-frame : left ≡ 0 → find s c left ≡ Err Refusal.Frame
     unfolding find
     no-frame h =
         need-met _ _ _ _ _ f ∙ need-met _ _ _ _ _ b
@@ -54,7 +54,7 @@ module _ (s : Site) (f : form s ≡ true) (c left : ℕ) where
 
 pub words-no-box : (xs ls : List ℕ) → memory_form xs ls ≡ true → (c left : ℕ)
     → is_box (site_of xs ls).n c ≡ false
-    → Found.Refused Refusal.Box ≡ find (site_of xs ls) c left
+    → Err Refusal.Box ≡ find (site_of xs ls) c left
 words-no-box xs ls f c left h = sym (no-box (site_of xs ls) (form-site xs ls f) c left h)
 
 -- the row r of box c, of words by form
@@ -64,7 +64,7 @@ module _ {xs ls : List ℕ} {c : ℕ} {s : Setting} (k : AtBox xs ls c s) (left 
   is-box = k.box
 
   pub words-no-frame : left ≡ 0
-      → Found.Refused Refusal.Frame ≡ find (site_of xs ls) c left
+      → Err Refusal.Frame ≡ find (site_of xs ls) c left
   words-no-frame h =
       sym (no-frame (site_of xs ls) (form-site xs ls k.form) c left is-box h)
 
@@ -73,11 +73,11 @@ module _ {xs ls : List ℕ} {c : ℕ} {s : Setting} (k : AtBox xs ls c s) (left 
     unfolding site_of
     here = rw (cut, k.setting, k.box) refl
 
-    pub found_here : {x : ℕ} {w : Found} → (left ≡ 0 → ⊥)
+    pub found_here : {x : ℕ} {w : Option ℕ} → (left ≡ 0 → ⊥)
         → x ≡ first_with left (get_or r first_at 0) (agreed_of r) → w ≡ found_as x
-        → w ≡ find (site_of xs ls) c left
+        → Ok w ≡ find (site_of xs ls) c left
     found_here h p q =
-        q ∙ ap found_as p ∙ ap (λ (x : Box). found_in x left) (sym here)
+        ap Ok (q ∙ ap found_as p) ∙ ap (λ (x : Box). found_in x left) (sym here)
         ∙ sym (at-frame (site_of xs ls) (form-site xs ls k.form) c left is-box h)
 
 -- ---- the look at form
@@ -87,6 +87,6 @@ module _ (xs ls : List ℕ) (c left : ℕ) where
   unfolding find_on
   formed-on f = sym (pick_true _ _ _ f)
 
-  pub unformed-on : memory_form xs ls ≡ false → Found.Refused Refusal.Form ≡ find_on xs ls c left
+  pub unformed-on : memory_form xs ls ≡ false → Err Refusal.Form ≡ find_on xs ls c left
   unfolding find_on
   unformed-on f = sym (pick-false _ _ _ f)

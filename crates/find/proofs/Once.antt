@@ -24,7 +24,7 @@ use Rattle.memory.specs.Memory.{site_of, memory_form}
 use Rattle.agreed.specs.Agreed.{agreed_count, agreed_records}
 use Rattle.find.specs.Find.{found_in, find, find_on}
 use Rattle.find.specs.Smallest.{Has, Smallest, number, none}
-use Rattle.find.specs.declared.Found.{Found}
+use Rattle.std.specs.Prelude.{Option, Some, Result, Ok, Err}
 use Rattle.find.proofs.FindLaws.{none_found, number-found, at-frame}
 
 -- ---- a box that has every agreed record, from number 1 on or later
@@ -77,9 +77,10 @@ module _ (x : Box) (left : ℕ) (some : 1 ≤ x.head.kept.first)
   pub smallest : Smallest x left (found_in x left)
   smallest =
       none-cases answer
-      (λ z. subst (Smallest x left) (none_found answer z)
+      (λ z. subst (λ (o : Option ℕ). Smallest x left (Ok o)) (none_found answer z)
       (none (λ i h. answers.none z (i - first) (placed i h) (framed i h))))
-      (λ s. subst (Smallest x left) (number-found answer (λ z. omega arith)) (number (has s) least))
+      (λ s. subst (λ (o : Option ℕ). Smallest x left (Ok o))
+      (number-found answer (λ z. omega arith)) (number (has s) least))
 
 -- ---- the answer
 
@@ -92,13 +93,14 @@ found-smallest s c left f b h =
     (smallest (s.box c) left x.first.some (omega (arith, x.held.all)))
 
 -- .. there is one such answer, ..
-pub smallest-once : {x : Box} {left : ℕ} {v w : Found} → Smallest x left v → Smallest x left w
+pub smallest-once : {x : Box} {left : ℕ} {v w : Result (Option ℕ) Refusal} → Smallest x left v
+    → Smallest x left w
     → v ≡ w
 smallest-once (number {k} h l) (number {k = i} g m) =
     let below = l i g in
     let above = m k h in
     let e : k ≡ i = omega arith in
-    ap Found.Number e
+    ap (λ (j : ℕ). Ok (Some j)) e
 smallest-once (number {k} h l) (none n) = absurd (n k h)
 smallest-once (none n) (number {k} h l) = absurd (n k h)
 smallest-once (none n) (none m) = refl
@@ -109,9 +111,10 @@ pub room-unread : (xs ls ys ms : List ℕ) (c left : ℕ) → memory_form xs ls 
     → site_of xs ls ≡ site_of ys ms → find_on xs ls c left ≡ find_on ys ms c left
 unfolding find_on
 room-unread xs ls ys ms c left r e =
-    λ t. pick (r t) (find (e t) c left) (Found.Refused Refusal.Form)
+    λ t. pick (r t) (find (e t) c left) (Err Refusal.Form)
 
 -- two results of one call are the same
-pub once : (xs ls : List ℕ) (c left : ℕ) {v w : Found} → v ≡ find_on xs ls c left
+pub once : (xs ls : List ℕ) (c left : ℕ) {v w : Result (Option ℕ) Refusal}
+    → v ≡ find_on xs ls c left
     → w ≡ find_on xs ls c left → v ≡ w
 once xs ls c left p q = p ∙ sym q

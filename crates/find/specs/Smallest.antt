@@ -2,7 +2,8 @@
 use Rattle.std.specs.Prelude.{ℕ, ◌≤◌, ◌≡◌}
 use Rattle.rules.specs.Box.{Box, record_at}
 use Rattle.rules.specs.Sizes.{left_of}
-use Rattle.find.specs.declared.Found.{Found}
+use Rattle.rules.specs.declared.model.Refusal.{Refusal}
+use Rattle.std.specs.Prelude.{Option, Some, None, Result, Ok}
 
 -- number k is agreed at the box, is kept, and has that left frame: "last+1 is not agreed; below
 -- first is not kept"
@@ -11,7 +12,7 @@ pub record Has (x : Box) (left k : ℕ) : Type 0 where
   pub agreed : k ≤ x.head.kept.last
   pub frame : left_of (record_at x.head.kept.first x.records k) ≡ left
 
-pub data Smallest (x : Box) (left : ℕ) : Found → Type 0 where
+pub data Smallest (x : Box) (left : ℕ) : Result (Option ℕ) Refusal → Type 0 where
   number : {k : ℕ} → Has x left k → ((i : ℕ) → Has x left i → k ≤ i)
-      → Smallest x left (Found.Number k)
-  none : ((i : ℕ) → Has x left i → ⊥) → Smallest x left Found.None
+      → Smallest x left (Ok (Some k))
+  none : ((i : ℕ) → Has x left i → ⊥) → Smallest x left (Ok None)

@@ -13,7 +13,8 @@ use Rattle.rules.specs.Sets.{set_form}
 use Rattle.rules.proofs.BoundLaws.{second-of}
 use Rattle.image.specs.Longest.{general_long}
 use Rattle.found.specs.declared.Spot.{Spot}
-use Rattle.found.specs.declared.Found.{Found}
+use Rattle.std.specs.Prelude.{Ok}
+use Rattle.found.specs.Found.{Found}
 use Rattle.found.specs.Stands.{word_at}
 use Rattle.found.specs.Found.{unless, is_kept, general_found, loads_of, mails_of}
 
@@ -39,7 +40,7 @@ module _ (n : ℕ) (body : List ℕ) where
       let c = unless-kept (within 1 most_mails (word_at 4 body 8)) _ _ b.1 in
       let d = unless-kept (within 1 most_epoch (word_at 4 body 12)) _ _ c.1 in
       let f = unless-kept (set_form n (word_at 4 body 16)) _ _ d.1 in
-      let g = unless-kept (eqb general_long (length body)) Spot.Rest Found.Kept f.1 in
+      let g = unless-kept (eqb general_long (length body)) Spot.Rest (Ok tt) f.1 in
       record {
         boxes = eqb-true (word_at 4 body 0) n a.0;
         loads = b.0;

@@ -25,6 +25,15 @@ module _ (k : ℕ) (src : List ℕ) (at : ℕ) where
   unfolding word_at
   word_out h = sym (pick-false (leb (at + k) (length src)) _ _ (lt-leb (at + k) (length src) h))
 
+-- Four bytes hold no more.
+pub few-bytes : (k : ℕ) {x : ℕ} → x < 256 ^ k → k ≤ 4 → x ≤ missing
+few-bytes zero b h = omega arith
+few-bytes (suc zero) b h = omega arith
+few-bytes (suc (suc zero)) b h = omega arith
+few-bytes (suc (suc (suc zero))) b h = omega arith
+few-bytes (suc (suc (suc (suc zero)))) b h = omega arith
+few-bytes (suc (suc (suc (suc (suc k))))) b h = absurd (omega arith)
+
 module _ (k : ℕ) (src : List ℕ) where
   pub length-words : (c at : ℕ) → length (words_at k c src at) ≡ c
   unfolding words_at

@@ -8,15 +8,25 @@ use mathlib.Core.List.{List}
 use borrow.Author.Tests.{le-leb, lt-leb, eq-eqb, ne_eqb}
 use Rattle.rules.specs.declared.model.Kind.{Kind}
 use Rattle.found.specs.declared.Spot.{Spot}
-use Rattle.found.specs.declared.Found.{Found}
-use Rattle.found.specs.declared.Way.{Way}
+use Rattle.std.specs.Prelude.{Result, Ok, Err, IsErr, IsErrAnd}
+use Rattle.found.specs.Found.{Found}
+use Rattle.found.specs.Found.{Way}
 use Rattle.found.specs.Stands.{missing, word_at, words_at}
 use Rattle.found.specs.Found.{go_on, walk_on, leading, number_in, records_way, enclosed_way}
 use Rattle.found.specs.Found.{letter_way, link_way, pair_way, sender_way}
 use Rattle.found.specs.Found.{end_found, way_found, mail_found}
 use Rattle.found.specs.Near.{Within}
 
-pub within-next : {m q : ℕ} {r : Way} → r ≡ Way.Next q → Within m r → q ≤ m
+-- What a `?` gives back for a field at which the walk has ended.
+pub handed-on : {A : Type 0} (r : Result A Spot) {s : Spot} → IsErr r × IsErrAnd r (λ e. e ≡ s)
+    → r ≡ Err s
+handed-on (Ok x) h = absurd h.1
+handed-on (Err e) h = ap Err h.1
+
+pub within-ended : (m : ℕ) {r : Way} {s : Spot} → r ≡ Err s → Within m r
+within-ended m e = subst (Within m) (sym e) tt
+
+pub within-next : {m q : ℕ} {r : Way} → r ≡ Ok q → Within m r → q ≤ m
 within-next {m} e w = subst (Within m) e w
 
 module _ (step : ℕ → ℕ → Way) (stride m at : ℕ) where
@@ -45,7 +55,7 @@ module _ (step : ℕ → ℕ → Way) (stride m at : ℕ) where
         ∙ ap (λ (s : Way). go_on s (walk_on step (m - (i + 1)) (suc (suc i))))
         (ap (λ (k : ℕ). step k p) (sym one) ∙ sym e)
 
-    pub walk_more : {q : ℕ} → r ≡ Way.Next q → q ≤ p + stride → WalkTo (i + 1) q
+    pub walk_more : {q : ℕ} → r ≡ Ok q → q ≤ p + stride → WalkTo (i + 1) q
     walk_more {q} t n =
         let near = w.near in
         let one : suc i ≡ i + 1 = omega arith in
@@ -57,11 +67,11 @@ module _ (step : ℕ → ℕ → Way) (stride m at : ℕ) where
               ∙ ap (λ (k : ℕ). walk_on step (m - (i + 1)) (suc k) q) one;
         }
 
-    pub walk-stop : {s : Spot} → r ≡ Way.Stop s → Way.Stop s ≡ walk_on step m 1 at
+    pub walk-stop : {s : Spot} → r ≡ Err s → Err s ≡ walk_on step m 1 at
     walk-stop t =
         sym (here ∙ ap (λ (v : Way). go_on v (walk_on step (m - (i + 1)) (suc (suc i)))) t)
 
-  pub walk-all : {i p : ℕ} → WalkTo i p → m ≤ i → Way.Next p ≡ walk_on step m 1 at
+  pub walk-all : {i p : ℕ} → WalkTo i p → m ≤ i → Ok p ≡ walk_on step m 1 at
   unfolding walk_on
   walk-all {i} {p} w h =
       let none : m - i ≡ zero = omega arith in
@@ -70,21 +80,21 @@ module _ (step : ℕ → ℕ → Way) (stride m at : ℕ) where
 -- The records of a mail: all proper, or not.
 module _ (a b i : ℕ) where
   pub records-next : {count m n : ℕ} (at first : ℕ) → count ≤ missing → count ≤ m → n ≡ count
-      → (Way.Next (at + 8 * n) ≡ records_way a b i at first count m)
+      → (Ok (at + 8 * n) ≡ records_way a b i at first count m)
       × (at + 8 * n ≤ at + 8 * missing)
   unfolding records_way
   records-next {count} {m} {n} at first few h e =
-      (ap (λ (k : ℕ). Way.Next (at + 8 * k)) e ∙ rw (le-leb count m h), omega arith)
+      (ap (λ (k : ℕ). Ok (at + 8 * k)) e ∙ rw (le-leb count m h), omega arith)
 
   pub records-stop : {count m : ℕ} (at first : ℕ) → m < count
-      → (Way.Stop (Spot.MailRecord a b i (first + m)) ≡ records_way a b i at first count m)
+      → (Err (Spot.MailRecord a b i (first + m)) ≡ records_way a b i at first count m)
       × Unit {0}
   unfolding records_way
   records-stop {count} {m} at first h = (rw (lt-leb count m h), tt)
 
 pub within_more : {m l : ℕ} (r : Way) → m ≤ l → Within m r → Within l r
-within_more (Way.Next q) h w = omega arith
-within_more (Way.Stop s) h w = tt
+within_more (Ok q) h w = omega arith
+within_more (Err s) h w = tt
 
 pub number-near : (k : Kind) {first last number : ℕ} → number ≡ number_in k first last
     → first ≤ missing → last ≤ missing → number ≤ missing + 1
@@ -119,12 +129,12 @@ module _ (J L a b : ℕ) (src : List ℕ) (at : ℕ) {count : ℕ} (is : count �
       e ∙ ap (λ (c : ℕ). walk_on (letter_way J a b src) c 1 (at + 4)) is
       ∙ sym (rw (le-leb (word_at 4 src at) L (omega arith)))
 
-  pub link-over : L < count → Way.Stop (Spot.Link a b) ≡ link_way J L a b src at
+  pub link-over : L < count → Err (Spot.Link a b) ≡ link_way J L a b src at
   unfolding link_way
   link-over h = sym (rw (lt-leb (word_at 4 src at) L (omega arith)))
 
 module _ (J L : ℕ) (src : List ℕ) (at : ℕ) {a b : ℕ} where
-  pub pair_same : a ≡ b → Way.Next at ≡ pair_way J L a src b at
+  pub pair_same : a ≡ b → Ok at ≡ pair_way J L a src b at
   unfolding pair_way
   pair_same e = sym (rw (eq-eqb a b e))
 
@@ -137,11 +147,11 @@ module _ (J L : ℕ) (src : List ℕ) (at : ℕ) {a b : ℕ} where
 
 module _ (n J L : ℕ) (body : List ℕ) {w : Way}
     (is : w ≡ walk_on (sender_way n J L body) n 1 0) where
-  pub mail-told : {q : ℕ} {r : Found} → w ≡ Way.Next q → r ≡ end_found body q
+  pub mail-told : {q : ℕ} {r : Found} → w ≡ Ok q → r ≡ end_found body q
       → r ≡ mail_found n J L body
   unfolding mail_found
   mail-told t e = e ∙ ap (way_found body) (sym t ∙ is)
 
-  pub mail-aside : {s : Spot} → w ≡ Way.Stop s → Found.Aside s ≡ mail_found n J L body
+  pub mail-aside : {s : Spot} → w ≡ Err s → Err s ≡ mail_found n J L body
   unfolding mail_found
   mail-aside t = ap (way_found body) (sym t ∙ is)

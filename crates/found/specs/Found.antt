@@ -7,7 +7,8 @@ use Rattle.rules.specs.Pick.{pick}
 use Rattle.rules.specs.Sizes.{most_loads, most_mails, most_epoch, unknown, within, proper}
 use Rattle.rules.specs.Sets.{set_form}
 use Rattle.rules.specs.declared.model.Kind.{Kind}
-use Rattle.values.specs.declared.Fault.{Fault}
+use Rattle.std.specs.Prelude.{Option, Some, None, Result, Ok, Err}
+use Rattle.values.specs.declared.Field.{Field}
 use Rattle.letter.specs.Place.{kind_of, head_words as letter_words}
 use Rattle.letter.specs.Faults.{head_fault as letter_fault}
 use Rattle.row.specs.Row.{first_at, head_words as box_words}
@@ -15,23 +16,30 @@ use Rattle.row.specs.Faults.{head_fault as box_fault}
 use Rattle.image.specs.Image.{box_groups, letter_groups}
 use Rattle.image.specs.Longest.{general_long, box_head_long, letter_head_long}
 use Rattle.found.specs.declared.Spot.{Spot}
-use Rattle.found.specs.declared.Found.{Found}
-use Rattle.found.specs.declared.Way.{Way}
 use Rattle.found.specs.Stands.{word_at, words_at, groups_in}
+
+-- what a body is: kept, or set aside at a field
+abbrev pub Found : Type 0
+Found = Result (Unit {0}) Spot
+
+-- how far a walk over the mail has come: the place behind what was found by form, or the field at
+-- which it has ended
+abbrev pub Way : Type 0
+Way = Result ℕ Spot
 
 -- ---- what all bodies share
 
 -- a field that is by form leaves what is found behind it
 abbrev pub unless : Bool → Spot → Found → Found
-unless formed s behind = cond formed behind (Found.Aside s)
+unless formed s behind = cond formed behind (Err s)
 
 -- "its length is just used up", "too long: `rest`"
 abbrev pub end_found : List ℕ → ℕ → Found
-end_found body at = unless (eqb at (length body)) Spot.Rest Found.Kept
+end_found body at = unless (eqb at (length body)) Spot.Rest (Ok tt)
 
 abbrev pub is_kept : Found → Bool
-is_kept Found.Kept = true
-is_kept (Found.Aside s) = false
+is_kept (Ok u) = true
+is_kept (Err s) = false
 
 -- "each record 0 or proper, and proper where held": how many are, before the first that is not
 unfoldable pub leading : List ℕ → ℕ
@@ -77,9 +85,9 @@ held_found body at =
     records_found body at (first_in body) (word_at 4 body (at - 4))
     (leading (words_at 8 (word_at 4 body (at - 4)) body at))
 
-abbrev pub head_found : Fault → Found → Found
-head_found Fault.None behind = behind
-head_found (Fault.At f) behind = Found.Aside (Spot.At f)
+abbrev pub head_found : Option Field → Found → Found
+head_found None behind = behind
+head_found (Some f) behind = Err (Spot.At f)
 
 -- box b of n
 unfoldable pub box_found : ℕ → ℕ → ℕ → List ℕ → Found
@@ -90,12 +98,12 @@ box_found n J b body =
 
 -- what is found behind q, unless the walk has ended
 abbrev pub go_on : Way → (ℕ → Way) → Way
-go_on (Way.Next q) behind = behind q
-go_on (Way.Stop s) behind = Way.Stop s
+go_on (Ok q) behind = behind q
+go_on (Err s) behind = Err s
 
 -- m things, counted from i on, the first of them at p
 unfoldable pub walk_on : (ℕ → ℕ → Way) → ℕ → ℕ → ℕ → Way
-walk_on step zero i p = Way.Next p
+walk_on step zero i p = Ok p
 walk_on step (suc m) i p = go_on (step i p) (walk_on step m (suc i))
 
 -- the load number of a mail's first record: "`record15` of a .. Last or Commit that keeps from 15,
@@ -120,7 +128,7 @@ letter_words_in src at = groups_in (letter_groups (kind_in src at)) src at
 -- of so many records from `at` on, the first m are proper
 unfoldable pub records_way : ℕ → ℕ → ℕ → ℕ → ℕ → ℕ → ℕ → Way
 records_way a b i at first count m =
-    cond (leb count m) (Way.Next (at + 8 * count)) (Way.Stop (Spot.MailRecord a b i (first + m)))
+    cond (leb count m) (Ok (at + 8 * count)) (Err (Spot.MailRecord a b i (first + m)))
 
 -- the records of mail i, which stand from p on
 unfoldable pub enclosed_way : ℕ → ℕ → ℕ → Kind → List ℕ → ℕ → ℕ → Way
@@ -128,9 +136,9 @@ enclosed_way a b i kind src at p =
     records_way a b i p (number_in kind (word_at 4 src (at + 12)) (word_at 4 src (at + 8)))
     (word_at 4 src (p - 4)) (leading (words_at 8 (word_at 4 src (p - 4)) src p))
 
-abbrev pub head_way : ℕ → ℕ → ℕ → Fault → Way → Way
-head_way a b i Fault.None behind = behind
-head_way a b i (Fault.At f) behind = Way.Stop (Spot.Mail a b i f)
+abbrev pub head_way : ℕ → ℕ → ℕ → Option Field → Way → Way
+head_way a b i None behind = behind
+head_way a b i (Some f) behind = Err (Spot.Mail a b i f)
 
 -- mail i of the link from a to b
 unfoldable pub letter_way : ℕ → ℕ → ℕ → List ℕ → ℕ → ℕ → Way
@@ -142,18 +150,18 @@ letter_way J a b src i at =
 unfoldable pub link_way : ℕ → ℕ → ℕ → ℕ → List ℕ → ℕ → Way
 link_way J L a b src at =
     cond (leb (word_at 4 src at) L)
-    (walk_on (letter_way J a b src) (word_at 4 src at) 1 (at + 4)) (Way.Stop (Spot.Link a b))
+    (walk_on (letter_way J a b src) (word_at 4 src at) 1 (at + 4)) (Err (Spot.Link a b))
 
 -- "links by sender then receiver": one for each ordered pair of different boxes
 unfoldable pub pair_way : ℕ → ℕ → ℕ → List ℕ → ℕ → ℕ → Way
-pair_way J L a src b at = cond (eqb a b) (Way.Next at) (link_way J L a b src at)
+pair_way J L a src b at = cond (eqb a b) (Ok at) (link_way J L a b src at)
 
 unfoldable pub sender_way : ℕ → ℕ → ℕ → List ℕ → ℕ → ℕ → Way
 sender_way n J L src a at = walk_on (pair_way J L a src) n 1 at
 
 abbrev pub way_found : List ℕ → Way → Found
-way_found body (Way.Next q) = end_found body q
-way_found body (Way.Stop s) = Found.Aside s
+way_found body (Ok q) = end_found body q
+way_found body (Err s) = Err s
 
 unfoldable pub mail_found : ℕ → ℕ → ℕ → List ℕ → Found
 mail_found n J L body = way_found body (walk_on (sender_way n J L body) n 1 0)

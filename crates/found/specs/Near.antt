@@ -1,6 +1,7 @@
 -- How far a walk over a body of any length can come: no sum of places leaves a word.
 use Rattle.std.specs.Prelude.{ℕ, ◌≤◌}
-use Rattle.found.specs.declared.Way.{Way}
+use Rattle.std.specs.Prelude.{Ok, Err}
+use Rattle.found.specs.Found.{Way}
 
 -- a mail is shorter than this, as long as its count has 32 bits
 abbrev pub mail_stride : ℕ
@@ -18,5 +19,5 @@ abbrev pub farthest : ℕ
 farthest = 1152921504606846976
 
 abbrev pub Within : ℕ → Way → Type 0
-Within most (Way.Next q) = q ≤ most
-Within most (Way.Stop s) = Unit {0}
+Within most (Ok q) = q ≤ most
+Within most (Err s) = Unit {0}

@@ -5,7 +5,7 @@ use Rattle.std.specs.Prelude.{ℕ, zero, suc, ◌+◌, ◌*◌, List, [], ◌∷
 use Rattle.words.specs.Rows.{part, splice}
 use Rattle.le.specs.Le.{of_le}
 use Rattle.rules.specs.Pick.{pick}
-use Rattle.cells.specs.Groups.{Group}
+use Rattle.cells.specs.declared.groups.Group.{Group}
 
 abbrev pub missing : ℕ
 missing = 4294967296

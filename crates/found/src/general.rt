@@ -2,7 +2,6 @@
 ghost use Rattle.std.specs.Prelude.{◌≡◌, ◌≤◌};
 ghost use Rattle.rules.specs.Sizes.{most_boxes, most_loads, most_mails};
 ghost use Rattle.found.specs.Found.{
-  is_kept,
   end_found,
   general_found,
   loads_of,
@@ -10,37 +9,28 @@ ghost use Rattle.found.specs.Found.{
   unless as unless_of,
 };
 
+use crate::Spot;
 use crate::stands::number_at;
-use crate::{Found, Spot};
 
 pub const MOST_LOADS: u32 = 4096;
 
 pub const MOST_MAILS: u64 = 16;
 
 // A field that is by form leaves what is found behind it.
-pub fn unless(formed: bool, s: Spot, behind: Found) -> Found
+pub fn unless(formed: bool, s: Spot, behind: Result<(), Spot>) -> Result<(), Spot>
     ensures { result ≡ unless_of formed s behind }
 {
-    if formed { behind } else { Found::Aside(s) }
+    if formed { behind } else { Err(s) }
 }
 
 // The body ends at `at`, or has bytes left over.
-pub fn ended(body: &[u8], at: usize) -> Found
+pub fn ended(body: &[u8], at: usize) -> Result<(), Spot>
     ensures { result ≡ end_found body.now at }
 {
-    unless(at == body.len(), Spot::Rest, Found::Kept)
+    unless(at == body.len(), Spot::Rest, Ok(()))
 }
 
-pub fn is_kept(f: Found) -> bool
-    ensures { result ≡ is_kept f }
-{
-    match f {
-        Found::Kept => true,
-        Found::Aside(_) => false,
-    }
-}
-
-pub fn general_found(body: &[u8], n: u32) -> Found
+pub fn general_found(body: &[u8], n: u32) -> Result<(), Spot>
     requires { n ≤ most_boxes }
     ensures { result ≡ general_found n body.now }
 {
@@ -65,7 +55,7 @@ pub fn loads_of(body: &[u8], n: u32) -> u32
 {
     let f = general_found(body, n);
     let loads = number_at(body, 4);
-    if is_kept(f) {
+    if f.is_ok() {
         return values::number(loads);
     }
     MOST_LOADS
@@ -78,7 +68,7 @@ pub fn mails_of(body: &[u8], n: u32) -> u64
     ensures upper_bound { result ≤ most_mails }
 {
     let f = general_found(body, n);
-    if is_kept(f) {
+    if f.is_ok() {
         return number_at(body, 8);
     }
     MOST_MAILS

@@ -2,7 +2,7 @@
 #![tactic(auto)]
 
 pub use boxes::box_found;
-pub use general::{general_found, is_kept, loads_of, mails_of};
+pub use general::{general_found, loads_of, mails_of};
 pub use mail::mail_found;
 pub use stands::{number_at, word_at};
 use values::Field;
@@ -29,19 +29,4 @@ pub enum Spot {
     Mail(u64, u64, u64, Field),
     MailRecord(u64, u64, u64, u64),
     Rest,
-}
-
-// What a body is.
-#[derive(Clone, Copy)]
-pub enum Found {
-    Kept,
-    Aside(Spot),
-}
-
-// How far a walk over the mail has come: the place behind what was found by form, or the field at
-// which it has ended.
-#[derive(Clone, Copy)]
-pub enum Way {
-    Next(usize),
-    Stop(Spot),
 }

@@ -13,14 +13,12 @@ pub fn leading(src: &[u8], at: usize, count: u64) -> u64
     ensures upper_bound { result ≤ count }
 {
     let mut p = at;
-    let mut i: u64 = 0;
-    while i < count {
+    for i in 0..count {
         let x = word_at(src, p, 8);
         if !values::is_proper(x) {
             return i;
         }
         p += 8;
-        i += 1;
     }
-    i
+    count
 }

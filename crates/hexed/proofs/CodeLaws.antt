@@ -1,17 +1,19 @@
 -- What each function of `hex` shows, of variables: one turn of each loop, and the answers.
 use Prim.Native.Nat.{ℕ, suc, ◌+◌, ◌*◌, ◌/◌, ◌%◌, ◌≤◌, ◌<◌}
 use mathlib.Core.Path.{◌≡◌, refl, ap, sym, ◌∙◌, subst}
-use mathlib.Core.Bool.{Bool, true, false}
+use mathlib.Core.Bool.{Bool, true, false, ◌&&◌}
 use mathlib.Core.List.{List, [], ◌∷◌, ◌++◌, append_assoc}
 use native.Mathlib.Omega.{arith}
 use native.Mathlib.Numerals.{add-one}
 use lib.Dec.{eqb}
 use lib.ListN.{length, get_or, take, drop, set}
+use lib.Pointwise.{pointwise}
 use lib.Seq.{take-suc, take-suc-set, take_all, length-take-le}
 use borrow.Author.Tests.{eqb-true, eqb-false}
+use Rattle.std.proofs.Common.{Ok, Err}
 use Rattle.print.specs.Text.{Wrote}
 use Rattle.print.proofs.WriteLaws.{then, nothing, spelled, at_most}
-use Rattle.hexed.specs.declared.Hexed.{Hexed}
+use Rattle.hexed.specs.declared.HexError.{HexError}
 use Rattle.hexed.specs.Hex.{digit, digits_of, hex_of, small, smalls, Bytes, HexIs, read, long}
 use Rattle.hexed.specs.Hex.{bad, value_of, Tells, Digits, Paired, NoBytes}
 use Rattle.hexed.proofs.HexLaws.{digit_value, small-below, small_at, small-keeps}
@@ -111,19 +113,29 @@ tells-yes {P} t e h = subst (λ (u : Bool). Tells u P) e h
 pub tells-no : {P : Type 0} (t : Bool) → t ≡ false → Tells t P → P → ⊥
 tells-no {P} t e h = subst (λ (u : Bool). Tells u P) e h
 
-pub is-dash : (text : List ℕ) → length text ≡ 1
-    → Tells (eqb (get_or text 0 0) 45) (NoBytes (smalls text))
-is-dash [] e = absurd (omega arith)
-is-dash (a ∷ b ∷ l) e = absurd (omega arith)
-is-dash (a ∷ []) e = go (eqb a 45) refl
+dash : (text : List ℕ) → Tells (pointwise eqb text (45 ∷ [])) (NoBytes (smalls text))
+dash [] = λ n. absurd (omega (arith, ap length n.dash))
+dash (a ∷ b ∷ l) = longer (eqb a 45)
   where
-    go : (t : Bool) → eqb a 45 ≡ t → Tells t (NoBytes (small a ∷ []))
+    longer : (t : Bool) → Tells (t && false) (NoBytes (smalls (a ∷ b ∷ l)))
+    longer true = λ n. absurd (omega (arith, ap length n.dash))
+    longer false = λ n. absurd (omega (arith, ap length n.dash))
+dash (a ∷ []) = go (eqb a 45) refl
+  where
+    go : (t : Bool) → eqb a 45 ≡ t → Tells (t && true) (NoBytes (small a ∷ []))
     go true f =
         let k = eqb-true a 45 f in
         record { dash = ap (λ (x : ℕ). x ∷ []) (small-below a (omega arith) ∙ k) }
     go false f =
         λ n. eqb-false a 45 f
         (small-keeps a 45 (omega arith) (ap (λ (l : List ℕ). get_or l 0 0) n.dash))
+
+-- the text compared with the dash
+pub is-dash : (text : List ℕ) {t : Bool} {s : List ℕ} → t ≡ pointwise eqb text s → s ≡ 45 ∷ []
+    → Tells t (NoBytes (smalls text))
+is-dash text e f =
+    subst (λ (u : Bool). Tells u (NoBytes (smalls text)))
+    (sym (e ∙ ap (pointwise eqb text) f)) (dash text)
 
 pub pairs-some : (text : List ℕ) → Paired (smalls text) → length text ≡ 0 → ⊥
 pairs-some text p e = omega (arith, p.some, smalls-length text)
@@ -137,7 +149,7 @@ paired_when text true h e d =
     let n = smalls-length text in record { some = omega arith; even = omega arith; digits = d }
 paired_when text false h e d = λ p. d p.digits
 
-pub read_none : (text o : List ℕ) → NoBytes (smalls text) → HexIs text o (Hexed.Length 0) o
+pub read_none : (text o : List ℕ) → NoBytes (smalls text) → HexIs text o (Ok 0) o
 read_none text o h = read [] no_bytes (omega arith) (sym h.dash)
 
 pub pairs_fill : (text o : List ℕ) (k : ℕ) → Paired (smalls text) → k ≡ length text / 2
@@ -151,7 +163,7 @@ some-paired b bs h =
     record { some = omega arith; even = omega arith; digits = bytes-digits (b ∷ bs) h }
 
 pub read-bad : (text o : List ℕ) → (NoBytes (smalls text) → ⊥) → (Paired (smalls text) → ⊥)
-    → HexIs text o Hexed.Bad o
+    → HexIs text o (Err HexError.Bad) o
 read-bad text o h k = bad go
   where
     go : (bs : List ℕ) → Bytes bs → hex_of bs ≡ smalls text → ⊥
@@ -160,24 +172,24 @@ read-bad text o h k = bad go
 
 -- pairs of digits for more bytes than there is room for
 long-bytes : (text o bs : List ℕ) → Paired (smalls text) → length o < length text / 2
-    → digits_of bs ≡ smalls text → HexIs text o Hexed.Long o
+    → digits_of bs ≡ smalls text → HexIs text o (Err HexError.Long) o
 long-bytes text o [] p l e = absurd (omega (arith, p.some, ap length e, digits-length []))
 long-bytes text o (b ∷ bs) p l e =
     long (b ∷ bs) (digits-bytes (b ∷ bs) (subst Digits (sym e) p.digits))
     (omega (arith, ap length e, digits-length (b ∷ bs), smalls-length text)) e
 
 pub read-long : (text o : List ℕ) (n : ℕ) → Paired (smalls text) → n ≡ length text / 2
-    → length o < n → HexIs text o Hexed.Long o
+    → length o < n → HexIs text o (Err HexError.Long) o
 read-long text o n p m l =
     long-bytes text o _ p (omega arith) (digits-back (smalls text) p.digits p.even)
 
 pub read_all : (text o bs : List ℕ) (n k : ℕ) → Paired (smalls text) → n ≡ length text / 2
     → k ≡ n → n ≤ length o → digits_of bs ≡ smalls text
-    → HexIs text o (Hexed.Length n) (bs ++ drop k o)
+    → HexIs text o (Ok n) (bs ++ drop k o)
 read_all text o [] n k p m f l e = absurd (omega (arith, p.some, ap length e, digits-length []))
 read_all text o (b ∷ bs) n k p m f l e =
     let g : n ≡ length (b ∷ bs) =
     omega (arith, ap length e, digits-length (b ∷ bs), smalls-length text, p.even) in
-    subst (λ (x : ℕ). HexIs text o (Hexed.Length n) ((b ∷ bs) ++ drop x o)) (sym f)
-    (subst (λ (x : ℕ). HexIs text o (Hexed.Length x) ((b ∷ bs) ++ drop x o)) (sym g)
+    subst (λ (x : ℕ). HexIs text o (Ok n) ((b ∷ bs) ++ drop x o)) (sym f)
+    (subst (λ (x : ℕ). HexIs text o (Ok x) ((b ∷ bs) ++ drop x o)) (sym g)
     (read (b ∷ bs) (digits-bytes (b ∷ bs) (subst Digits (sym e) p.digits)) (omega arith) e))

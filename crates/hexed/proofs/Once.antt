@@ -8,7 +8,8 @@ use native.Mathlib.Omega.{arith}
 use lib.Dec.{ltb}
 use lib.ListN.{length, get_or, drop}
 use borrow.Author.Tests.{ltb-true, ltb-false}
-use Rattle.hexed.specs.declared.Hexed.{Hexed}
+use Rattle.std.proofs.Common.{Result, Ok}
+use Rattle.hexed.specs.declared.HexError.{HexError}
 use Rattle.hexed.specs.Hex.{digit, digits_of, hex_of, small, smalls, Bytes, HexIs, value_of}
 use Rattle.hexed.specs.Hex.{read, long, bad}
 use Rattle.hexed.proofs.HexLaws.{low_digit, high_digit, value-digit, value-below, small-below}
@@ -91,11 +92,11 @@ pub hex-small : (bs : List ℕ) → Bytes bs → hex_of bs ≡ smalls (hex_of bs
 hex-small [] h = ap (λ (x : ℕ). x ∷ []) (sym (small-below 45 (omega arith)))
 hex-small (b ∷ bs) h = sym (digits-small (b ∷ bs) h)
 
-pub hex-once : {text o p q : List ℕ} {a b : Hexed} → HexIs text o a p → HexIs text o b q
+pub hex-once : {text o p q : List ℕ} {a b : Result ℕ HexError} → HexIs text o a p → HexIs text o b q
     → (a ≡ b) × (p ≡ q)
 hex-once {o = o} (read x h l e) (read y k m f) =
     let s = hex-same x y h k (e ∙ sym f) in
-    (ap (λ (z : List ℕ). Hexed.Length (length z)) s, ap (λ (z : List ℕ). z ++ drop (length z) o) s)
+    (ap (λ (z : List ℕ). Ok (length z)) s, ap (λ (z : List ℕ). z ++ drop (length z) o) s)
 hex-once (read x h l e) (long y k m f) =
     absurd (omega (arith, ap length (hex-same x y h k (e ∙ sym f))))
 hex-once (read x h l e) (bad n) = absurd (n x h e)

@@ -1,8 +1,8 @@
 -- Bytes as text: two digits for each, the higher one first, and `-` for no bytes; written in small
 -- letters, read in either case.
 use Rattle.std.specs.Prelude.{ℕ, ◌+◌, ◌-◌, ◌/◌, ◌%◌, ◌≤◌, ◌<◌, ◌≡◌, Bool, true, false, cond, List}
-use Rattle.std.specs.Prelude.{[], ◌∷◌, ◌++◌, map, ltb, length, get_or, drop}
-use Rattle.hexed.specs.declared.Hexed.{Hexed}
+use Rattle.std.specs.Prelude.{Result, Ok, Err, [], ◌∷◌, ◌++◌, map, ltb, length, get_or, drop}
+use Rattle.hexed.specs.declared.HexError.{HexError}
 
 -- 0 to 9, then a to f
 unfoldable pub digit : ℕ → ℕ
@@ -29,12 +29,12 @@ pub record Bytes (bs : List ℕ) : Type 0 where
 
 -- what `read_hex` answers for a text, and what the buffer o becomes: the bytes whose hex the text
 -- is, and the rest of the buffer as it was; or o has no room for them; or the text is no hex at all
-pub data HexIs (text o : List ℕ) : Hexed → List ℕ → Type 0 where
+pub data HexIs (text o : List ℕ) : Result ℕ HexError → List ℕ → Type 0 where
   read : (bs : List ℕ) → Bytes bs → length bs ≤ length o → hex_of bs ≡ smalls text
-      → HexIs text o (Hexed.Length (length bs)) (bs ++ drop (length bs) o)
+      → HexIs text o (Ok (length bs)) (bs ++ drop (length bs) o)
   long : (bs : List ℕ) → Bytes bs → length o < length bs → hex_of bs ≡ smalls text
-      → HexIs text o Hexed.Long o
-  bad : ((bs : List ℕ) → Bytes bs → hex_of bs ≡ smalls text → ⊥) → HexIs text o Hexed.Bad o
+      → HexIs text o (Err HexError.Long) o
+  bad : ((bs : List ℕ) → Bytes bs → hex_of bs ≡ smalls text → ⊥) → HexIs text o (Err HexError.Bad) o
 
 -- ---- the parts of reading
 

@@ -17,11 +17,10 @@ ghost use Rattle.hexed.specs.Hex.{
   HexIs,
 };
 
-// How many bytes a text stands for; or that they are more than the buffer has room for; or that the
-// text is the hex of none.
+// Why a text is not read: its bytes are more than the buffer has room for, or it is the hex of
+// none.
 #[derive(Clone, Copy)]
-pub enum Hexed {
-    Length(usize),
+pub enum HexError {
     Long,
     Bad,
 }
@@ -49,10 +48,8 @@ fn put_digits(out: &mut [u8], at: usize, src: &[u8]) -> usize
         out.old out.new at result (digits_of src.now) }
 {
     let mut p = at;
-    let mut i = 0;
-    while i < src.len() {
-        p = put_pair(out, p, src[i]);
-        i += 1;
+    for b in src {
+        p = put_pair(out, p, *b);
     }
     p
 }
@@ -85,6 +82,7 @@ fn small(b: u8) -> u8
 }
 
 // What a digit stands for, or 16 where a byte is no digit.
+// 16 and no Option: get_digits reckons with what all_digits has looked at.
 fn small_value(b: u8) -> u8
     ensures { (result ≡ value_of b) × (result ≤ 16) }
 {
@@ -113,12 +111,10 @@ fn value(b: u8) -> u8
 fn all_digits(text: &[u8]) -> bool
     ensures { Tells result (Digits (smalls text.now)) }
 {
-    let mut i = 0;
-    while i < text.len() {
-        if 15 < value(text[i]) {
+    for b in text {
+        if 15 < value(*b) {
             return false;
         }
-        i += 1;
     }
     true
 }
@@ -140,10 +136,7 @@ fn is_paired(text: &[u8]) -> bool
 fn is_no_bytes(text: &[u8]) -> bool
     ensures { Tells result (NoBytes (smalls text.now)) }
 {
-    if text.len() != 1 {
-        return false;
-    }
-    text[0] == 45
+    text == b"-".as_slice()
 }
 
 fn get_digits(text: &[u8], out: &mut [u8])
@@ -151,29 +144,28 @@ fn get_digits(text: &[u8], out: &mut [u8])
     requires text_len { length text.now ≡ 2 * length out.old }
     ensures { digits_of out.new ≡ smalls text.now }
 {
-    let mut i = 0;
-    while i < out.len() {
+    for i in 0..out.len() {
         let high = value(text[2 * i]);
         let low = value(text[2 * i + 1]);
         out[i] = high * 16 + low;
-        i += 1;
     }
 }
 
-// The bytes whose hex the text is go to the front of out; else it stays as it is.
-pub fn read_hex(text: &[u8], out: &mut [u8]) -> Hexed
+// The bytes whose hex the text is go to the front of out, and how many they are is told; else it
+// stays as it is.
+pub fn read_hex(text: &[u8], out: &mut [u8]) -> Result<usize, HexError>
     ensures { HexIs text.now out.old result out.new }
 {
     if is_no_bytes(text) {
-        return Hexed::Length(0);
+        return Ok(0);
     }
     if !is_paired(text) {
-        return Hexed::Bad;
+        return Err(HexError::Bad);
     }
     let n = text.len() / 2;
     if out.len() < n {
-        return Hexed::Long;
+        return Err(HexError::Long);
     }
     get_digits(text, &mut out[0..n]);
-    Hexed::Length(n)
+    Ok(n)
 }

@@ -8,9 +8,10 @@ use native.Mathlib.Omega.{arith}
 use mathlib.Core.List.{List, [], ◌∷◌, ◌++◌, append_assoc}
 use lib.ListN.{length, take, drop, get_or, replicate}
 use Rattle.le.specs.Le.{le}
-use Rattle.cells.specs.declared.Walk.{Walk}
+use Rattle.std.specs.Prelude.{Option, Some, None}
 use Rattle.cells.specs.Cells.{chain, cells, Each, All, Stands, Found, NoneAt, WalkIs, Many, Has}
-use Rattle.cells.specs.Groups.{Group, group, groups_of, groups_bytes, groups_length, Cut}
+use Rattle.cells.specs.declared.groups.Group.{Group}
+use Rattle.cells.specs.Groups.{group, groups_bytes, groups_length, Cut}
 use Rattle.cells.specs.Groups.{GroupFits, GroupedWords, GroupsRead, RecordsThere, HeadedRead}
 use Rattle.cells.specs.Stored.{StoredIs}
 use Rattle.cells.proofs.ChainLaws.{length-cells}
@@ -69,18 +70,18 @@ pub record Judged {A : Type 0} {enc : A → List ℕ} {Range : A → Type 0} (H 
       → length rs ≡ get_or w H.count-at 0 → w ≡ H.words (made w rs)
   pub records : (w rs : List ℕ) → rs ≡ H.records (made w rs)
 
--- What `get_groups` asks, by the code's numbers ns for the groups.
+-- What `get_groups` asks, by the code's list ns of the groups.
 pub groups-asked : {A : Type 0} {enc : A → List ℕ} {Range : A → Type 0} (H : Headed enc Range)
-    (src : List ℕ) (at : ℕ) (ns : List ℕ) → groups_of ns ≡ H.groups
+    (src : List ℕ) (at : ℕ) (ns : List Group) → ns ≡ H.groups
     → at + groups_length H.groups ≤ length src
-    → Cut 0 H.width (groups_of ns) × (at + groups_length (groups_of ns) ≤ length src)
+    → Cut 0 H.width ns × (at + groups_length ns ≤ length src)
 groups-asked H src at ns e room = rw e (H.cut, room)
 
 -- w is the head that `get_groups` has read into words that were all `rest`.
 module _ {A : Type 0} {enc : A → List ℕ} {Range : A → Type 0} (H : Headed enc Range)
-    {Good : A → Type 0} (T : Judged H Good) {src : List ℕ} {at p : ℕ} {w : List ℕ} (ns : List ℕ)
-    (e : groups_of ns ≡ H.groups)
-    (read : GroupsRead (groups_of ns) src at (replicate H.width H.rest) w p) where
+    {Good : A → Type 0} (T : Judged H Good) {src : List ℕ} {at p : ℕ} {w : List ℕ} (ns : List Group)
+    (e : ns ≡ H.groups)
+    (read : GroupsRead ns src at (replicate H.width H.rest) w p) where
   here : GroupedWords H.groups H.width H.rest w
       × Stands (groups_bytes H.groups w) src at p
   here = groups-grouped H.groups H.width H.rest ns e refl read
@@ -101,9 +102,9 @@ module _ {A : Type 0} {enc : A → List ℕ} {Range : A → Type 0} (H : Headed 
       let same : T.test w ≡ true = ap T.test (headed_told x q h v).0 ∙ T.passes x h in
       absurd (false≢true (sym f ∙ same))
 
-  pub headed_then : T.test w ≡ true → {count : ℕ} → count ≡ get_or w H.count-at 0 → (r : Walk)
+  pub headed_then : T.test w ≡ true → {count : ℕ} → count ≡ get_or w H.count-at 0 → (r : Option ℕ)
       → WalkIs (cells 8) (Many (λ i. GoodRecord) count) src p r → WalkIs enc Good src at r
-  headed_then t c (Walk.Next q) f =
+  headed_then t c (Some q) f =
       let rs = f.thing in
       let x = T.made w rs in
       let n : length rs ≡ get_or w H.count-at 0 = f.good.count ∙ c in
@@ -116,7 +117,7 @@ module _ {A : Type 0} {enc : A → List ℕ} {Range : A → Type 0} (H : Headed 
             (stands_seq (stands_as (ap (groups_bytes H.groups) e) s)
             (stands_as (ap (cells 8) (T.records w rs)) f.stands));
       }
-  headed_then t c Walk.Bad none = λ x q h v.
+  headed_then t c None none = λ x q h v.
       let e = headed_told x q h v in
       none (H.records x) q
       (record {
@@ -153,11 +154,11 @@ module _ {A : Type 0} {enc : A → List ℕ} {Good : A → Type 0} (H : Headed e
       × ((at + groups_length gs ≤ length src)
       × RecordsThere gs H.width H.count-at H.rest src at m))
 
-  pub headed_asks : (ns : List ℕ) (m : ℕ) → groups_of ns ≡ H.groups
+  pub headed_asks : (ns : List Group) (m : ℕ) → ns ≡ H.groups
       → (H.count-at < H.width) × (H.width ≤ m) × (m < 2 ^ 64)
       → ((x : A) → Good x → groups_length H.groups ≤ length (enc x))
       → ((x : A) → Good x → H.width + length (H.records x) ≤ m) → Has enc Good src at
-      → Asked m (groups_of ns)
+      → Asked m ns
   headed_asks ns m e sizes least few h =
       let f = h.found in
       let next = f.stands.next in
@@ -171,8 +172,8 @@ module _ {A : Type 0} {enc : A → List ℕ} {Good : A → Type 0} (H : Headed e
 pub headed_stored : {A : Type 0} {enc : A → List ℕ} {Good : A → Type 0} (H : Headed enc Good)
     (Holds : List ℕ → A → Type 0)
     → ((x : A) → Good x → (tail : List ℕ) → Holds (H.words x ++ (H.records x ++ tail)) x)
-    → (ns : List ℕ) → groups_of ns ≡ H.groups → {src : List ℕ} {at : ℕ} {w z : List ℕ} {r : ℕ}
-    → HeadedRead (groups_of ns) H.width H.count-at H.rest src at w z r
+    → (ns : List Group) → ns ≡ H.groups → {src : List ℕ} {at : ℕ} {w z : List ℕ} {r : ℕ}
+    → HeadedRead ns H.width H.count-at H.rest src at w z r
     → StoredIs enc Good src at (Holds z) r
 headed_stored H Holds held ns u {src} {at} {w} {z} {r} g' q f =
     let g = subst (λ (gs : List Group).
@@ -226,10 +227,11 @@ module _ {A : Type 0} {enc : A → List ℕ} {Good P : A → Type 0} {src : List
     stands = f.stands;
   }
 
-  pub known-walk : (r : Walk) → WalkIs enc (λ x. Good x × P x) src at r → WalkIs enc Good src at r
-  known-walk (Walk.Next q) f =
+  pub known-walk : (r : Option ℕ) → WalkIs enc (λ x. Good x × P x) src at r
+      → WalkIs enc Good src at r
+  known-walk (Some q) f =
       record { thing = f.thing; good = f.good.0; stands = f.stands }
-  known-walk Walk.Bad none = λ x q g v. none x q (g, known x q g v) v
+  known-walk None none = λ x q g v. none x q (g, known x q g v) v
 
   pub known-has : Has enc Good src at → Has enc (λ x. Good x × P x) src at
   known-has h = record { place = h.place; found = known-found h.found }

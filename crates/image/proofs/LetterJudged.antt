@@ -22,9 +22,10 @@ use Rattle.letter.specs.Place.{head_words}
 use Rattle.letter.specs.Faults.{head_fault}
 use Rattle.letter.proofs.KindLaws.{kind-back, kind-number-back, kind-in}
 use Rattle.letter.proofs.FormLaws.{head-says, head-whole}
-use Rattle.cells.specs.declared.Walk.{Walk}
+use Rattle.std.specs.Prelude.{Option, None}
 use Rattle.cells.specs.Cells.{cells, All, NoneAt, WalkIs, Many}
-use Rattle.cells.specs.Groups.{groups_of, GroupsRead}
+use Rattle.cells.specs.declared.groups.Group.{Group}
+use Rattle.cells.specs.Groups.{GroupsRead}
 use Rattle.cells.proofs.StandLaws.{too_short, stands-le}
 use Rattle.cells.proofs.CodeLaws.{told}
 use Rattle.cells.proofs.GroupLaws.{groups-grouped}
@@ -107,8 +108,8 @@ module _ (J : ℕ) (loads : J ≤ most_loads) where
         too_short (letter_head_long (kind_of x)) h s
         (omega (arith, length-letter y, ap first_words k)) v
 
-    module _ {p : ℕ} {w : List ℕ} (ns : List ℕ) (e : groups_of ns ≡ letter_groups (kind_of x))
-        (read : GroupsRead (groups_of ns) src at (replicate head_words 0) w p) where
+    module _ {p : ℕ} {w : List ℕ} (ns : List Group) (e : ns ≡ letter_groups (kind_of x))
+        (read : GroupsRead ns src at (replicate head_words 0) w p) where
       -- The head begins with it too.
       front : get_or w kind_at 0 ≡ x
       front =
@@ -119,11 +120,11 @@ module _ (J : ℕ) (loads : J ≤ most_loads) where
       pub letter-none : is_whole (head_fault J w) ≡ false
           → NoneAt letter_bytes (GoodLetter J) src at
       letter-none f =
-          known-walk (kind-known J loads room number) Walk.Bad
+          known-walk (kind-known J loads room number) None
           (headed_none (letter_headed J loads x) (letter-judged x) ns e read (rw f))
 
       pub letter-then : is_whole (head_fault J w) ≡ true → {count : ℕ} → count ≡ get_or w count_at 0
-          → (r : Walk) → WalkIs (cells 8) (Many (λ i. GoodRecord) count) src p r
+          → (r : Option ℕ) → WalkIs (cells 8) (Many (λ i. GoodRecord) count) src p r
           → WalkIs letter_bytes (GoodLetter J) src at r
       letter-then t c r f =
           known-walk (kind-known J loads room number) r

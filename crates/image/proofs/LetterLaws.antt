@@ -21,7 +21,8 @@ use Rattle.letter.specs.Place.{count_at}
 use Rattle.letter.specs.Place.{head_words, most_kind}
 use Rattle.letter.proofs.KindLaws.{kind-back, kind-in}
 use Rattle.cells.specs.Cells.{chain, cells, Each, All, Stands, Read}
-use Rattle.cells.specs.Groups.{Group, group, groups_bytes, Outside, GroupedWords}
+use Rattle.cells.specs.declared.groups.Group.{Group}
+use Rattle.cells.specs.Groups.{group, groups_bytes, Outside, GroupedWords}
 use Rattle.cells.proofs.ChainLaws.{each-one}
 use Rattle.cells.proofs.StandLaws.{stands-le}
 use Rattle.cells.proofs.CodeLaws.{Code, Parts, le-code, cells-code, chain-code, told, told-code}

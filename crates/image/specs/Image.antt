@@ -8,7 +8,8 @@ use Rattle.rules.specs.declared.model.Kind.{Kind}
 use Rattle.letter.specs.Place.{kind_at, first_at, unagreed_at, words_of_mail}
 use Rattle.row.specs.Row.{flag_at, best_at, peers_at, count_at, words_of}
 use Rattle.cells.specs.Cells.{chain, cells}
-use Rattle.cells.specs.Groups.{Group, group, groups_bytes}
+use Rattle.cells.specs.declared.groups.Group.{Group}
+use Rattle.cells.specs.Groups.{group, groups_bytes}
 
 -- ---- boxes and links in their order
 

@@ -5,10 +5,10 @@
 
 ghost use Rattle.std.specs.Prelude.{◌≡◌, ◌+◌, ◌≤◌, length};
 ghost use Rattle.rules.specs.Sizes.{most_boxes};
-ghost use Rattle.cells.specs.Groups.{groups_of};
 ghost use Rattle.image.specs.Image.{box_groups, first_words, letter_groups};
 ghost use Rattle.image.specs.Longest.{table_bytes, box_head_long, letter_head_long};
 
+use cells::Group;
 use rules::model::Kind;
 
 // Of the general body.
@@ -21,6 +21,7 @@ const BOX_NUMBERS: usize = row::BEST - row::FLAG;
 const BOX_HEAD: usize = 4 * BOX_NUMBERS + 28;
 
 // Of a box of n without its records.
+// Not one function with `table_bytes`: each is its own line of the paper.
 pub fn box_head_bytes(n: usize) -> usize
     requires { n ≤ most_boxes }
     ensures { result ≡ box_head_long n }
@@ -36,26 +37,35 @@ pub fn table_bytes(bodies: usize) -> usize
     4 + 8 * bodies
 }
 
-pub fn box_groups(n: usize) -> [usize; 12]
-    ensures { (groups_of result ≡ box_groups n) × (length result ≡ 12) }
+pub fn box_groups(n: usize) -> [Group; 4]
+    ensures { (result ≡ box_groups n) × (length result ≡ 4) }
 {
     [
-        4,
-        row::FLAG,
-        BOX_NUMBERS,
-        8,
-        row::BEST,
-        3,
-        4,
-        row::PEERS,
-        n,
-        4,
-        row::COUNT,
-        1,
+        Group {
+            width: 4,
+            from: row::FLAG,
+            count: BOX_NUMBERS,
+        },
+        Group {
+            width: 8,
+            from: row::BEST,
+            count: 3,
+        },
+        Group {
+            width: 4,
+            from: row::PEERS,
+            count: n,
+        },
+        Group {
+            width: 4,
+            from: row::COUNT,
+            count: 1,
+        },
     ]
 }
 
 // How many words of first a mail of this kind has.
+// A match and no number of the kind: the paper has this table.
 fn first_words(k: Kind) -> usize
     ensures value { result ≡ first_words k }
     ensures upper_bound { result ≤ 1 }
@@ -79,19 +89,25 @@ pub fn letter_head_bytes(k: Kind) -> usize
     20 + 4 * first
 }
 
-pub fn letter_groups(k: Kind) -> [usize; 9]
-    ensures { (groups_of result ≡ letter_groups k) × (length result ≡ 9) }
+pub fn letter_groups(k: Kind) -> [Group; 3]
+    ensures { (result ≡ letter_groups k) × (length result ≡ 3) }
 {
     let first = first_words(k);
     [
-        4,
-        letter::KIND,
-        3,
-        4,
-        letter::FIRST,
-        first,
-        4,
-        letter::UNAGREED,
-        2,
+        Group {
+            width: 4,
+            from: letter::KIND,
+            count: 3,
+        },
+        Group {
+            width: 4,
+            from: letter::FIRST,
+            count: first,
+        },
+        Group {
+            width: 4,
+            from: letter::UNAGREED,
+            count: 2,
+        },
     ]
 }

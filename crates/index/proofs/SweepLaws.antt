@@ -11,6 +11,8 @@ use lib.ListN.{length, get_or, set, drop, replicate, length-drop}
 use lib.Seq.{ext_get_or, drop-cons, get_or-take, get_or-set_other}
 use borrow.Author.Tests.{eqb-true, eq-eqb}
 use Rattle.words.specs.Rows.{part}
+use Rattle.std.specs.List.{list_all, range_with_len}
+use Rattle.words.proofs.TestLaws.{each-range, range-each}
 use Rattle.words.proofs.PartLaws.{length_part, get_or_part}
 use Rattle.rules.proofs.BoundLaws.{first-of, second-of}
 use Rattle.index.specs.Index.{slots, tails_at, nexts_at, slot_of, in_slot, head_of, tail_of}
@@ -185,7 +187,7 @@ module _ {k : ℕ} {rs ix hs : List ℕ} (w : Swept 0 k rs ix hs) (b : 1 ≤ k)
 
 module _ (hs ix : List ℕ) where
   module _ (s : ℕ) where
-    abbrev slot-agrees : Bool
+    abbrev pub slot-agrees : Bool
     slot-agrees = agrees (get_or ix s 0) (get_or hs s 0) (get_or ix (tails_at + s) 0) 0
 
     pub ends_more : slot-agrees ≡ true → Ends hs ix s
@@ -193,21 +195,22 @@ module _ (hs ix : List ℕ) where
         let says = agrees-says (get_or ix s 0) (get_or hs s 0) (get_or ix (tails_at + s) 0) 0 e in
         record { head = says.0; tail = says.1 }
 
-    pub ended-wrong : s < slots → slot-agrees ≡ false → Ended hs ix false
-    ended-wrong h e =
-        record {
-          right = λ t. absurd (false≢true t);
-          wrong = λ f ends.
-              let x = ends s h in
-              let holds =
-              agrees-holds (get_or ix s 0) (get_or hs s 0) (get_or ix (tails_at + s) 0) 0 x.head
-              x.tail in
-              false≢true (sym e ∙ holds);
-        }
+    pub more_ends : Ends hs ix s → slot-agrees ≡ true
+    more_ends x =
+        agrees-holds (get_or ix s 0) (get_or hs s 0) (get_or ix (tails_at + s) 0) 0 x.head x.tail
 
-  pub ended-right : ((s : ℕ) → s < slots → Ends hs ix s) → Ended hs ix true
-  ended-right ends =
-      record { right = λ t. ends; wrong = λ f x. false≢true (sym f) }
+  -- All slots are looked at.
+  pub ended_all : (r : Bool) → r ≡ list_all slot-agrees (range_with_len 0 slots)
+      → Ended hs ix r
+  ended_all r e =
+      record {
+        right = λ t s h.
+            ends_more s (range-each slot-agrees 0 slots (sym e ∙ t) s (omega arith) (omega arith));
+        wrong = λ f ends.
+            let all =
+            each-range slot-agrees 0 slots (λ s l h. more_ends s (ends s (omega arith))) in
+            false≢true (sym f ∙ e ∙ all);
+      }
 
 -- all records are looked at
 pub looked_right : (k i : ℕ) (rs : List ℕ) {ix hs : List ℕ} → i ≡ 0

@@ -21,9 +21,7 @@ fn are_linked(records: &[u64], ix: &[u64], first: u64, heads: &mut [u64; 64]) ->
     requires heads_value { heads.old ≡ replicate slots 0 }
     ensures { Looked first records.now ix.now heads.new result }
 {
-    let mut i = records.len();
-    while 0 < i {
-        i -= 1;
+    for i in (0..records.len()).rev() {
         let slot = crate::slot_of(records[i]);
         let number = first + i as u64;
         if !agree(ix[NEXTS + i], heads[slot], ix[TAILS + slot], number) {
@@ -39,14 +37,7 @@ fn are_ended(heads: &[u64; 64], ix: &[u64]) -> bool
     requires { nexts_at ≤ length ix.now }
     ensures { Ended heads.now ix.now result }
 {
-    let mut s = 0;
-    while s < SLOTS {
-        if !agree(ix[s], heads[s], ix[TAILS + s], 0) {
-            return false;
-        }
-        s += 1;
-    }
-    true
+    (0..SLOTS).all(|s| agree(ix[s], heads[s], ix[TAILS + s], 0))
 }
 
 // The words are the index of the records, the first of which has number `first`. Words behind it

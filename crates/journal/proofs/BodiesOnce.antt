@@ -2,18 +2,19 @@
 use Prim.Native.Nat.{ℕ}
 use mathlib.Core.Path.{◌≡◌, sym, ap, ◌∙◌}
 use mathlib.Core.List.{List}
-use Rattle.bodies.specs.declared.Named.{Named}
+use Rattle.bodies.specs.Contents.{Named}
 use Rattle.bodies.proofs.Once.{body-once}
-use Rattle.journal.specs.Bodies.{named_number, named_begin, named_length}
+use Rattle.journal.specs.Answered.{number_of}
+use Rattle.journal.specs.Bodies.{part_then}
 use Rattle.journal.specs.Bodies.{Answered, BodyAnswered, NamedAnswered}
 
 -- Two results of one answer.
 same : {v w : Named} {begin a b len t u r q : ℕ} → v ≡ w → Answered v begin a len t r
     → Answered w begin b len u q → (r ≡ q) × (a ≡ b) × (t ≡ u)
 same {begin = begin} {len = len} e g h = (
-  g.number ∙ ap named_number e ∙ sym h.number,
-  g.place ∙ ap (λ (w : Named). named_begin w begin) e ∙ sym h.place,
-  g.long ∙ ap (λ (w : Named). named_length w len) e ∙ sym h.long,
+  g.number ∙ ap number_of e ∙ sym h.number,
+  g.place ∙ ap (λ (w : Named). (part_then w begin len).begin) e ∙ sym h.place,
+  g.long ∙ ap (λ (w : Named). (part_then w begin len).long) e ∙ sym h.long,
 )
 
 pub body-answered-once : {bytes : List ℕ} {k begin a b len t u r q : ℕ}

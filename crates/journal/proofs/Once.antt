@@ -7,26 +7,25 @@ use Rattle.rules.specs.Numbers.{answer_number}
 use Rattle.rules.specs.Answers.{is_refusal}
 use Rattle.rules.specs.Own.{OwnOutcome}
 use Rattle.rules.specs.declared.model.Call.{Call}
+use Rattle.rules.specs.declared.model.Refusal.{Refusal}
 use Rattle.rules.specs.declared.model.Setting.{Setting}
-use Rattle.rules.specs.declared.model.Unheard.{Unheard}
 use Rattle.site.specs.Entries.{step_on, fresh_on}
 use Rattle.site.proofs.Once.{Same, once}
 use Rattle.row.specs.Row.{box_of}
 use Rattle.own.specs.Entry.{row_of}
 use Rattle.own.proofs.Firm.{Alike, alike, same-box, same_row}
-use Rattle.writer.specs.declared.Written.{Written}
+use Rattle.writer.specs.Writer.{Written}
 use Rattle.writer.proofs.Once.{write_once, length-once}
 use Rattle.reader.proofs.Once.{read-once}
 use Rattle.reader.proofs.Once as reader
 use Rattle.journal.specs.Numbered.{Stepped, Freshened, Alone, ToldAlone}
-use Rattle.journal.specs.Images.{written_number, written_length}
 use Rattle.journal.specs.Images.{LengthAnswered, WriteAnswered, ReadAnswered}
-use Rattle.agreed.specs.declared.Agreed.{Agreed}
-use Rattle.journal.specs.Longer.{agreed_number, agreed_first, agreed_place, agreed_many}
-use Rattle.journal.specs.Longer.{AgreedAnswered}
-use Rattle.journal.specs.Unheard.{unheard_number, unheard_set, UnheardAnswered}
-use Rattle.find.specs.declared.Found.{Found}
-use Rattle.journal.specs.Find.{found_answer, found_number, FindAnswered}
+use Rattle.agreed.specs.declared.Listed.{Listed}
+use Rattle.journal.specs.Answered.{number_of, or_before}
+use Rattle.journal.specs.Longer.{listed, AgreedAnswered}
+use Rattle.journal.specs.Unheard.{UnheardAnswered}
+use Rattle.std.specs.Prelude.{Option, Result}
+use Rattle.journal.specs.Find.{found_number, FindAnswered}
 use Rattle.until.specs.Until.{run_on}
 use Rattle.until.proofs.Once as until
 use Rattle.journal.specs.Run.{run_number, run_used, RunAnswered}
@@ -60,29 +59,31 @@ told-once {n} {J} {o} p q = (
   same_row n J o p.told q.told,
 )
 
-pub unheard-once : {u : Unheard} {w t v r q : ℕ} → UnheardAnswered u w t r
+pub unheard-once : {u : Result ℕ Refusal} {w t v r q : ℕ} → UnheardAnswered u w t r
     → UnheardAnswered u w v q → (r ≡ q) × (t ≡ v)
 unheard-once {w = w} p q =
     let e = p.is ∙ sym q.is in (
-      p.number ∙ ap unheard_number e ∙ sym q.number,
-      p.set ∙ ap (λ u. unheard_set u w) e ∙ sym q.set,
+      p.number ∙ ap number_of e ∙ sym q.number,
+      p.set ∙ ap (λ u. or_before u w) e ∙ sym q.set,
     )
 
-pub agreed-once : {a : Agreed} {f p m g k n h l o r q : ℕ} → AgreedAnswered a f p m g k n r
+pub agreed-once : {a : Result Listed Refusal} {f p m g k n h l o r q : ℕ}
+    → AgreedAnswered a f p m g k n r
     → AgreedAnswered a f p m h l o q → (r ≡ q) × (g ≡ h) × (k ≡ l) × (n ≡ o)
 agreed-once {f = f} {p = p} {m = m} u v =
     let e = u.is ∙ sym v.is in (
-      u.number ∙ ap agreed_number e ∙ sym v.number,
-      u.first ∙ ap (λ a. agreed_first a f) e ∙ sym v.first,
-      u.place ∙ ap (λ a. agreed_place a p) e ∙ sym v.place,
-      u.many ∙ ap (λ a. agreed_many a m) e ∙ sym v.many,
+      u.number ∙ ap number_of e ∙ sym v.number,
+      u.first ∙ ap (λ a. (or_before a (listed f p m)).first) e ∙ sym v.first,
+      u.place ∙ ap (λ a. (or_before a (listed f p m)).place) e ∙ sym v.place,
+      u.many ∙ ap (λ a. (or_before a (listed f p m)).count) e ∙ sym v.many,
     )
 
-pub find-once : {w : Found} {k t v r q : ℕ} → FindAnswered w k t r → FindAnswered w k v q
+pub find-once : {w : Result (Option ℕ) Refusal} {k t v r q : ℕ} → FindAnswered w k t r
+    → FindAnswered w k v q
     → (r ≡ q) × (t ≡ v)
 find-once {k = k} p q =
     let e = p.is ∙ sym q.is in (
-      p.number ∙ ap found_answer e ∙ sym q.number,
+      p.number ∙ ap number_of e ∙ sym q.number,
       p.load ∙ ap (λ w. found_number w k) e ∙ sym q.load,
     )
 
@@ -98,12 +99,12 @@ run-once {u = u} p h =
     )
 
 -- the number and the length of one answer
-same-written : {a b : Written} (len : ℕ) {t u r q : ℕ} → a ≡ b → r ≡ written_number a
-    → q ≡ written_number b → t ≡ written_length a len → u ≡ written_length b len
+same-written : {a b : Written} (len : ℕ) {t u r q : ℕ} → a ≡ b → r ≡ number_of a
+    → q ≡ number_of b → t ≡ or_before a len → u ≡ or_before b len
     → (r ≡ q) × (t ≡ u)
 same-written len e f g h k = (
-  f ∙ ap written_number e ∙ sym g,
-  h ∙ ap (λ w. written_length w len) e ∙ sym k,
+  f ∙ ap number_of e ∙ sym g,
+  h ∙ ap (λ w. or_before w len) e ∙ sym k,
 )
 
 pub image-length-once : {xs ls : List ℕ} {len t u r q : ℕ} → LengthAnswered xs ls len t r

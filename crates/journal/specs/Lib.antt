@@ -1,4 +1,5 @@
 -- What the exported functions promise.
+pub mod Answered
 pub mod Numbered
 pub mod Images
 pub mod Unheard

@@ -1,31 +1,18 @@
 -- `agreed_at` of `agreed` with its answer as one number, 0 or the refusal's, and three more: the
 -- first number, the word at which its record stands, how many there are.
-use Rattle.std.specs.Prelude.{ℕ, ◌≡◌}
-use Rattle.rules.specs.Numbers.{refusal_number}
-use Rattle.agreed.specs.declared.Agreed.{Agreed}
+use Rattle.std.specs.Prelude.{ℕ, ◌≡◌, Result}
+use Rattle.rules.specs.declared.model.Refusal.{Refusal}
+use Rattle.agreed.specs.declared.Listed.{Listed}
+use Rattle.journal.specs.Answered.{number_of, or_before}
 
-abbrev pub agreed_number : Agreed → ℕ
-agreed_number (Agreed.Kept first at count) = 0
-agreed_number (Agreed.Refused why) = refusal_number why
-
--- the numbers that were lent, where the call is refused
-abbrev pub agreed_first : Agreed → ℕ → ℕ
-agreed_first (Agreed.Kept first at count) before = first
-agreed_first (Agreed.Refused why) before = before
-
-abbrev pub agreed_place : Agreed → ℕ → ℕ
-agreed_place (Agreed.Kept first at count) before = at
-agreed_place (Agreed.Refused why) before = before
-
-abbrev pub agreed_many : Agreed → ℕ → ℕ
-agreed_many (Agreed.Kept first at count) before = count
-agreed_many (Agreed.Refused why) before = before
+abbrev pub listed : ℕ → ℕ → ℕ → Listed
+listed first place count = record { first = first; place = place; count = count }
 
 -- the entry says a; the numbers have become primed ones, and r was answered
-pub record AgreedAnswered (a : Agreed) (f p m f' p' m' r : ℕ) : Type 0 where
-  pub answer : Agreed
+pub record AgreedAnswered (a : Result Listed Refusal) (f p m f' p' m' r : ℕ) : Type 0 where
+  pub answer : Result Listed Refusal
   pub is : answer ≡ a
-  pub number : r ≡ agreed_number answer
-  pub first : f' ≡ agreed_first answer f
-  pub place : p' ≡ agreed_place answer p
-  pub many : m' ≡ agreed_many answer m
+  pub number : r ≡ number_of answer
+  pub first : f' ≡ (or_before answer (listed f p m)).first
+  pub place : p' ≡ (or_before answer (listed f p m)).place
+  pub many : m' ≡ (or_before answer (listed f p m)).count

@@ -1,21 +1,13 @@
 -- The question `unheard` of `site` and `own` with its answer as one number, 0 or the refusal's, and
 -- a set of boxes.
-use Rattle.std.specs.Prelude.{ℕ, ◌≡◌}
-use Rattle.rules.specs.Numbers.{refusal_number}
-use Rattle.rules.specs.declared.model.Unheard.{Unheard}
+use Rattle.std.specs.Prelude.{ℕ, ◌≡◌, Result}
+use Rattle.rules.specs.declared.model.Refusal.{Refusal}
+use Rattle.journal.specs.Answered.{number_of, or_before}
 
-abbrev pub unheard_number : Unheard → ℕ
-unheard_number (Unheard.Boxes set) = 0
-unheard_number (Unheard.Refused why) = refusal_number why
-
--- the set that was lent, where the call is refused
-abbrev pub unheard_set : Unheard → ℕ → ℕ
-unheard_set (Unheard.Boxes set) before = set
-unheard_set (Unheard.Refused why) before = before
-
--- the entry says u; the set w has become w', and r was answered
-pub record UnheardAnswered (u : Unheard) (w w' r : ℕ) : Type 0 where
-  pub answer : Unheard
+-- the entry says u; the set w has become w', and r was answered; where the call is refused the set
+-- is the one that was lent
+pub record UnheardAnswered (u : Result ℕ Refusal) (w w' r : ℕ) : Type 0 where
+  pub answer : Result ℕ Refusal
   pub is : answer ≡ u
-  pub number : r ≡ unheard_number answer
-  pub set : w' ≡ unheard_set answer w
+  pub number : r ≡ number_of answer
+  pub set : w' ≡ or_before answer w

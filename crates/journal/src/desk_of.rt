@@ -1,47 +1,38 @@
 // The pairing desk (Q-13): its calls with their answers as numbers.
 ghost use Rattle.desk.specs.Desk.{given, withdrawn};
 ghost use Rattle.desk.specs.declared.answers.Side.{Side};
-ghost use Rattle.journal.specs.Desk.{DeskAnswered, PairAnswered, right_then};
-ghost use Rattle.std.specs.Prelude.{◌≡◌};
+ghost use Rattle.journal.specs.Desk.{DeskAnswered, PairAnswered};
 
+use crate::answered::or_before;
 use desk::answers;
-use desk::answers::{Pairing, Side};
+use desk::answers::Side;
 
 pub fn journal_desk_left(desk: &mut [u64], frame: u32, tick: u32) -> u32
     ensures { DeskAnswered (given Side.Left frame tick desk.old) desk.new result }
 {
     let t = desk::give(desk, Side::Left, frame, tick);
-    answers::took_number(t)
+    answers::number_of(t)
 }
 
 pub fn journal_desk_right(desk: &mut [u64], frame: u32, tick: u32) -> u32
     ensures { DeskAnswered (given Side.Right frame tick desk.old) desk.new result }
 {
     let t = desk::give(desk, Side::Right, frame, tick);
-    answers::took_number(t)
+    answers::number_of(t)
 }
 
 pub fn journal_desk_withdraw_left(desk: &mut [u64], frame: u32) -> u32
     ensures { DeskAnswered (withdrawn Side.Left frame desk.old) desk.new result }
 {
     let t = desk::withdraw(desk, Side::Left, frame);
-    answers::took_number(t)
+    answers::number_of(t)
 }
 
 pub fn journal_desk_withdraw_right(desk: &mut [u64], frame: u32) -> u32
     ensures { DeskAnswered (withdrawn Side.Right frame desk.old) desk.new result }
 {
     let t = desk::withdraw(desk, Side::Right, frame);
-    answers::took_number(t)
-}
-
-fn right_then(p: Pairing, before: u32) -> u32
-    ensures { result ≡ right_then p before }
-{
-    match p {
-        Pairing::Paired(g) => g,
-        Pairing::Refused(_) => before,
-    }
+    answers::number_of(t)
 }
 
 pub fn journal_desk_pair(
@@ -56,6 +47,6 @@ pub fn journal_desk_pair(
         right.old right.new result }
 {
     let p = desk::pair(desk, site, links, left);
-    *right = right_then(p, *right);
-    answers::pairing_number(p)
+    *right = or_before(p, *right);
+    answers::number_of(p)
 }

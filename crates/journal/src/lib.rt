@@ -3,6 +3,7 @@
 // `agreed`, `find`, `bodies` or `desk` that it calls. include/journal.h is their manual.
 #![tactic(auto)]
 
+mod answered;
 mod at_rest;
 mod bodies_of;
 mod calls;

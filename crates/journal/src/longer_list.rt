@@ -2,57 +2,15 @@
 ghost use Rattle.std.specs.Prelude.{◌≡◌};
 ghost use Rattle.longer.specs.Longer.{longer_of, longer_number};
 ghost use Rattle.agreed.specs.Agreed.{agreed_on};
-ghost use Rattle.journal.specs.Longer.{
-  agreed_number,
-  agreed_first,
-  agreed_place,
-  agreed_many,
-  AgreedAnswered,
-};
+ghost use Rattle.journal.specs.Longer.{AgreedAnswered};
 
-use agreed::Agreed;
-use rules::numbers::refusal_number;
+use crate::answered::{number_of, or_before};
+use agreed::Listed;
 
 pub fn journal_longer(first: &[u64], second: &[u64]) -> u32
     ensures { result ≡ longer_number (longer_of first.now second.now) }
 {
     longer::longer_number(longer::longer_is(first, second))
-}
-
-fn agreed_number(a: Agreed) -> u32
-    ensures { result ≡ agreed_number a }
-{
-    match a {
-        Agreed::Kept(_, _, _) => 0,
-        Agreed::Refused(why) => refusal_number(why),
-    }
-}
-
-fn agreed_first(a: Agreed, before: u64) -> u64
-    ensures { result ≡ agreed_first a before }
-{
-    match a {
-        Agreed::Kept(first, _, _) => first,
-        Agreed::Refused(_) => before,
-    }
-}
-
-fn agreed_place(a: Agreed, before: usize) -> usize
-    ensures { result ≡ agreed_place a before }
-{
-    match a {
-        Agreed::Kept(_, at, _) => at,
-        Agreed::Refused(_) => before,
-    }
-}
-
-fn agreed_many(a: Agreed, before: usize) -> usize
-    ensures { result ≡ agreed_many a before }
-{
-    match a {
-        Agreed::Kept(_, _, count) => count,
-        Agreed::Refused(_) => before,
-    }
 }
 
 pub fn journal_agreed(
@@ -68,8 +26,16 @@ pub fn journal_agreed(
         first.new at.new count.new result }
 {
     let a = agreed::agreed_at(site, links, c);
-    *first = agreed_first(a, *first);
-    *at = agreed_place(a, *at);
-    *count = agreed_many(a, *count);
-    agreed_number(a)
+    let listed = or_before(
+        a,
+        Listed {
+            first: *first,
+            place: *at,
+            count: *count,
+        },
+    );
+    *first = listed.first;
+    *at = listed.place;
+    *count = listed.count;
+    number_of(a)
 }

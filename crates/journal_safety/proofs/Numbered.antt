@@ -8,10 +8,11 @@ use Rattle.rules.specs.Numbers.{answer_number}
 use Rattle.rules.specs.declared.model.Answer.{Answer}
 use Rattle.laws.proofs.Logic.{true≠false}
 use Rattle.site.specs.Entries.{FreshMade, step_on, holds_on}
-use Rattle.writer.specs.declared.Written.{Written}
+use Rattle.std.specs.Prelude.{Ok, Err}
+use Rattle.writer.specs.Writer.{Written}
 use Rattle.writer.specs.Writer.{WriteIs}
 use Rattle.reader.specs.Reader.{ReadIs}
-use Rattle.journal.specs.Images.{written_number, written_length}
+use Rattle.journal.specs.Answered.{number_of, or_before}
 use Rattle.said.specs.Said.{Said, Talk, called, held, calls, retold}
 use Rattle.said.specs.Demand3.{Demand3}
 use Rattle.said.proofs.Retold.{same-calls}
@@ -33,12 +34,12 @@ record Same (n J L : ℕ) (h : List (Said ℕ)) (xs ls : List ℕ) : Type 0 wher
   holds : Holds n J L talk xs ls
 
 -- a length was written
-written : {xs ls out out' : List ℕ} {len' : ℕ} (w : Written) (len : ℕ) → 0 ≡ written_number w
-    → len' ≡ written_length w len → WriteIs xs ls out w out'
-    → WriteIs xs ls out (Written.Length len') out'
-written {xs} {ls} {out} {out'} (Written.Length m) len e f h =
-    subst (λ (k : ℕ). WriteIs xs ls out (Written.Length k) out') (sym f) h
-written (Written.Refused why) len e f h =
+written : {xs ls out out' : List ℕ} {len' : ℕ} (w : Written) (len : ℕ) → 0 ≡ number_of w
+    → len' ≡ or_before w len → WriteIs xs ls out w out'
+    → WriteIs xs ls out (Ok len') out'
+written {xs} {ls} {out} {out'} (Ok m) len e f h =
+    subst (λ (k : ℕ). WriteIs xs ls out (Ok k) out') (sym f) h
+written (Err why) len e f h =
     absurd (true≠false (ap is_refusal (is-done (Answer.Refused why) (sym e))))
 
 same : {n J L : ℕ} {h : List (Said ℕ)} {xs ls : List ℕ} → Called n J L h xs ls

@@ -14,7 +14,7 @@ use Rattle.rules.specs.declared.model.Refusal.{Refusal}
 use Rattle.laws.specs.Frames.{CallFits}
 use Rattle.laws.proofs.Logic.{Or, left, right, decide}
 use Rattle.wait.specs.Run.{Outcome, ended, next_turn, go_on, take, run_from, run_of}
-use Rattle.wait.specs.declared.model.Next.{Next}
+use Rattle.std.specs.Prelude.{Option, Some, None}
 use Rattle.wait.specs.declared.model.Run.{Run}
 use Rattle.wait.proofs.RunForm.{next_fits}
 use Rattle.wait.proofs.RunLaws.{run-of}
@@ -57,14 +57,15 @@ module _ {n J L : ℕ} where
       (spoken.stepped d fits p))
   went steps used s h d (Answer.Refused why) fits e p more = p
 
-  next : (steps used : ℕ) (s : Site) (h : Talk) (d : Next) → next_turn s ≡ d → Spoken n J L h s
+  next : (steps used : ℕ) (s : Site) (h : Talk) (d : Option Call) → next_turn s ≡ d
+      → Spoken n J L h s
       → ((t : Site) (g : Talk) → Spoken n J L g t
       → Spoken n J L (said_from own steps t g) (run_from steps (suc used) t).next)
       → Spoken n J L (said_next own (said_from own steps) s h d)
       (take (run_from steps (suc used)) used s d).next
   unfolding said_next take
-  next steps used s h Next.Nothing e p more = p
-  next steps used s h (Next.Turn d) e p more =
+  next steps used s h None e p more = p
+  next steps used s h (Some d) e p more =
       went steps used s h d (step s d).answer (rw e at (next_fits s)) refl p more
 
   from : (steps used : ℕ) (s : Site) (h : Talk) → Spoken n J L h s
@@ -113,14 +114,14 @@ module _ {A : Type 0} (f : Answer → A) where
   went-told steps s h d (Answer.Discarded why) more = more _ _
   went-told steps s h d (Answer.Refused why) more = refl
 
-  next-told : (steps : ℕ) (s : Site) (h : Talk) (d : Next)
+  next-told : (steps : ℕ) (s : Site) (h : Talk) (d : Option Call)
       → ((t : Site) (g : Talk)
       → retold f (said_from own steps t g) ≡ said_from f steps t (retold f g))
       → retold f (said_next own (said_from own steps) s h d)
       ≡ said_next f (said_from f steps) s (retold f h) d
   unfolding said_next
-  next-told steps s h Next.Nothing more = refl
-  next-told steps s h (Next.Turn d) more = went-told steps s h d (step s d).answer more
+  next-told steps s h None more = refl
+  next-told steps s h (Some d) more = went-told steps s h d (step s d).answer more
 
   from_told : (steps : ℕ) (s : Site) (h : Talk)
       → retold f (said_from own steps s h) ≡ said_from f steps s (retold f h)

@@ -7,7 +7,7 @@ use Rattle.rules.specs.Step.{step}
 use Rattle.rules.specs.declared.model.Answer.{Answer}
 use Rattle.rules.specs.declared.model.Call.{Call}
 use Rattle.wait.specs.Run.{next_turn}
-use Rattle.wait.specs.declared.model.Next.{Next}
+use Rattle.std.specs.Prelude.{Option, Some, None}
 use Rattle.said.specs.Said.{Said, called}
 
 -- the call d of a run on s, after h was said; `more` is what the run says from the next site on
@@ -20,9 +20,9 @@ said_of f more s h d (Answer.Discarded why) =
 said_of f more s h d (Answer.Refused why) = h
 
 unfoldable pub said_next : {A : Type 0} → (Answer → A) → (Site → List (Said A) → List (Said A))
-    → Site → List (Said A) → Next → List (Said A)
-said_next f more s h Next.Nothing = h
-said_next f more s h (Next.Turn d) = said_of f more s h d (step s d).answer
+    → Site → List (Said A) → Option Call → List (Said A)
+said_next f more s h None = h
+said_next f more s h (Some d) = said_of f more s h d (step s d).answer
 
 -- with so many steps left
 unfoldable pub said_from : {A : Type 0} → (Answer → A) → ℕ → Site → List (Said A) → List (Said A)

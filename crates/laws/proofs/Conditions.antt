@@ -6,19 +6,20 @@ use native.Mathlib.Omega.{arith}
 use lib.Count.{ones}
 use lib.Dec.{eqb, leb, ltb}
 use borrow.Author.Tests.{leb-true, ltb-true, not-true, not-false}
+use Rattle.std.specs.Prelude.{Option, is_some}
 use Rattle.rules.specs.Pick.{pick}
 use Rattle.rules.specs.Sizes.{even, most_number, most_pn}
 use Rattle.rules.specs.Sets.{includes, has}
 use Rattle.rules.specs.Numbers.{state_number, phase_number, in_state, in_phase}
 use Rattle.rules.specs.NewPn.{new_pn}
-use Rattle.rules.specs.Parts.{is_held, higher, room_next}
+use Rattle.rules.specs.Parts.{higher, room_next}
 use Rattle.rules.specs.Turns.{first_cause, unless}
 use Rattle.rules.specs.Last.{last_verdict}
 use Rattle.rules.specs.Mails.{begin_verdict, accept_verdict, lease_ack_verdict}
 use Rattle.rules.specs.Steps.{can_recover, can_collect, can_ready, has_previous, can_offer}
 use Rattle.rules.specs.Steps.{can_propose}
 use Rattle.rules.specs.Steps.{can_agree, can_finish, can_heard, can_trim}
-use Rattle.laws.proofs.Types.{BoxState, Held, Mail, Phase, Refusal, Setting, State, Verdict}
+use Rattle.laws.proofs.Types.{BoxState, Mail, Phase, Refusal, Setting, State, Verdict}
 use Rattle.laws.proofs.Logic.{Or, left, right, both-no, eqb_yes, eqb_no, and_yes, and4}
 use Rattle.laws.proofs.Logic.{and5, and6, or_cases}
 
@@ -162,10 +163,10 @@ Not k i = i ≡ k → ⊥
 abbrev pub Any : ℕ → Type 0
 Any i = Unit {0}
 
-pub record CanAgree (b : BoxState) (s : Setting) (mine : Held) : Type 0 where
+pub record CanAgree (b : BoxState) (s : Setting) (mine : Option ℕ) : Type 0 where
   pub leading : Leading (Is 4) (Not 0) b s
   pub accepted : includes b.accepts s.present ≡ true
-  pub held : is_held mine ≡ true
+  pub held : is_some mine ≡ true
 
 -- any present box, in an even epoch
 pub record CanTrim (b : BoxState) (s : Setting) (k : ℕ) : Type 0 where
@@ -219,7 +220,7 @@ module _ {b : BoxState} {s : Setting} where
       some : not (eqb b.waiting 0) ≡ true → b.waiting ≡ 0 → ⊥
       some f = eqb_no b.waiting 0 (not-true _ f)
 
-  pub can-agree : {mine : Held} → can_agree b s mine ≡ true → CanAgree b s mine
+  pub can-agree : {mine : Option ℕ} → can_agree b s mine ≡ true → CanAgree b s mine
   unfolding can_agree
   can-agree e = let p = and6 _ _ _ _ _ _ e in record {
     leading = led p.0 p.1 (in-phase _ _ p.2) (busy (or_cases _ _ p.3));

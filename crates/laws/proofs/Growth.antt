@@ -6,6 +6,7 @@ use mathlib.Core.List.{List, [], ◌∷◌}
 use native.Mathlib.Omega.{arith}
 use lib.Dec.{eqb, ltb}
 use lib.ListN.{get_or}
+use Rattle.std.specs.Prelude.{Option}
 use Rattle.rules.specs.Parts.{higher, dropped, took_kept}
 use Rattle.rules.specs.Last.{told, raised, counted, uncounted, replied, on_last}
 use Rattle.rules.specs.Mails.{on_collect, on_begin, on_accept, on_commit, on_lease, on_lease_ack}
@@ -17,7 +18,7 @@ use Rattle.rules.specs.Box.{Box, Letter, Event, own, mail, mine, next_of, writte
 use Rattle.rules.specs.Box.{brought}
 use Rattle.rules.specs.Site.{Site, setting, is_box, upd}
 use Rattle.rules.specs.Step.{elect, presented, step, run}
-use Rattle.laws.proofs.Types.{Act, BoxState, Call, Held, Kind, Setting, Turn}
+use Rattle.laws.proofs.Types.{Act, BoxState, Call, Kind, Setting, Turn}
 use Rattle.laws.proofs.Logic.{cond_elim, pick_elim}
 use Rattle.laws.proofs.FrameLaws.{upd-all}
 use Rattle.laws.proofs.View.{Store, store, at, Shaped, shaped, higher-max, promised, agreed}
@@ -119,7 +120,7 @@ module _ (s : Setting) (x : Box) (shape : Shaped (store x)) where
     abbrev Grows? : List ℕ → BoxState → Type 0
     Grows? rs b = Grows (store x) (store (record { head = b; records = rs }))
 
-    grow_replied : (b : BoxState) (rs : List ℕ) (next : Held)
+    grow_replied : (b : BoxState) (rs : List ℕ) (next : Option ℕ)
         → Grows? rs b → Grows? rs (replied b s.me a y.head next)
     unfolding replied raised counted uncounted
     grow_replied b rs next h =

@@ -8,16 +8,17 @@ use native.Mathlib.Omega.{arith}
 use lib.Dec.{eqb, leb, ltb}
 use lib.ListN.{length, get_or, set, take, drop, length-drop, length-set}
 use lib.Seq.{get_or-set_same, get_or-set_other}
+use Rattle.std.specs.Prelude.{Option, is_some}
 use Rattle.rules.specs.Sizes.{most_boxes, most_number, most_pn, unknown}
 use Rattle.rules.specs.Sets.{set_form}
 use Rattle.rules.specs.Fields.{promised, lasting, keeping, storing}
-use Rattle.rules.specs.Parts.{all_unknown, is_held, under_of, span, higher, took_kept, took_book}
+use Rattle.rules.specs.Parts.{all_unknown, under_of, span, higher, took_kept, took_book}
 use Rattle.rules.specs.Parts.{none}
 use Rattle.rules.specs.Parts.{cleared}
 use Rattle.rules.specs.Last.{noted, improves, bettered}
 use Rattle.rules.specs.Steps.{best_held}
 use Rattle.rules.specs.Box.{Box, held_at, written, BookFits}
-use Rattle.laws.proofs.Types.{Best, Book, BoxState, Held, Kept, Mail}
+use Rattle.laws.proofs.Types.{Best, Book, BoxState, Kept, Mail}
 use Rattle.laws.proofs.Logic.{Or, left, right, In, All, nil, cons, All-append, All-take}
 use Rattle.laws.proofs.Logic.{All-drop, All-at, same?, below?, true≠false, pick_elim}
 use Rattle.laws.proofs.FormLaws.{Proper, FormedFirst, HeldCount, Peer, FormedBox}
@@ -28,10 +29,9 @@ use Rattle.laws.proofs.View.{took-cases, took_more, took-none, took-shaped}
 
 -- ---- the record after the first l
 
-pub is-held : (rs : List ℕ) (l : ℕ) → is_held (held_at rs l) ≡ true → l < length rs
-unfolding is_held
+pub is-held : (rs : List ℕ) (l : ℕ) → is_some (held_at rs l) ≡ true → l < length rs
 is-held rs l =
-    held_elim (λ (h : Held). is_held h ≡ true → l < length rs) rs l
+    held_elim (λ (h : Option ℕ). is_some h ≡ true → l < length rs) rs l
     (λ h e. h)
     (λ h e. absurd (true≠false (sym e)))
 
@@ -242,7 +242,7 @@ pub best-held-form : {J : ℕ} {k : Kept} {rs : List ℕ} → KeptForm J k rs
     → BestForm (best_held k (held_at rs (span k.first k.last)))
 unfolding best_held
 best-held-form {J} {k} {rs} f =
-    held_elim (λ (h : Held). BestForm (best_held k h)) rs (span k.first k.last)
+    held_elim (λ (h : Option ℕ). BestForm (best_held k h)) rs (span k.first k.last)
     (λ h. record {
       pn = under-form f;
       number = next-number f h;
@@ -257,7 +257,7 @@ pub bettered-form : {J : ℕ} (l : ℕ) (b : Best) (m : Mail) (ms : List ℕ) �
     → BestForm (bettered l b m (held_at ms (span m.first m.last)))
 unfolding bettered
 bettered-form l b m ms f top low held p u =
-    held_elim (λ (h : Held). BestForm (bettered l b m h)) ms (span m.first m.last)
+    held_elim (λ (h : Option ℕ). BestForm (bettered l b m h)) ms (span m.first m.last)
     (λ h. pick_elim BestForm (improves l b m)
     (λ e. record {
       pn = u;

@@ -7,6 +7,7 @@ use native.Mathlib.Omega.{arith}
 use lib.Dec.{ltb}
 use lib.ListN.{length, get_or, take, length-take}
 use borrow.Author.Tests.{ltb-true, leb-true, le-leb, lt-ltb}
+use Rattle.std.specs.Prelude.{Option}
 use Rattle.rules.specs.Sizes.{most_boxes, most_number, most_pn, record_of, left_of, right_of}
 use Rattle.rules.specs.Sizes.{proper}
 use Rattle.rules.specs.Sets.{set_form, bit}
@@ -23,7 +24,7 @@ use Rattle.rules.specs.Steps.{acted}
 use Rattle.rules.specs.Box.{Box, Letter, Event, own, mail, mine, next_of, written, enclosed}
 use Rattle.rules.specs.Box.{BookFits, letter_of, turn_of, turned, brought}
 use Rattle.laws.specs.Frames.{ActFits}
-use Rattle.laws.proofs.Types.{Act, Answer, BoxState, Held, Kept, Kind, Out, Refusal, Setting}
+use Rattle.laws.proofs.Types.{Act, Answer, BoxState, Kept, Kind, Out, Refusal, Setting}
 use Rattle.laws.proofs.Types.{Turn, Verdict}
 use Rattle.laws.proofs.Logic.{Or, left, right, In, nil, cons, All-at, All-take, and_yes}
 use Rattle.laws.proofs.Logic.{and_both, pick_elim}
@@ -370,7 +371,7 @@ module _ (s : Setting) (x : Box) (f : FormedBox s.n s.j s.me x) (few : s.n ≤ m
 
         unagreed : unagreed_of x.head.kept (mine x) ≤ most_pn
         unagreed =
-            held_elim (λ (h : Held). unagreed_of x.head.kept h ≤ most_pn) x.records
+            held_elim (λ (h : Option ℕ). unagreed_of x.head.kept h ≤ most_pn) x.records
             (span x.head.kept.first x.head.kept.last)
             (λ h. under-form k)
             (λ h. omega arith)
@@ -378,7 +379,7 @@ module _ (s : Setting) (x : Box) (f : FormedBox s.n s.j s.me x) (few : s.n ≤ m
         under : Or (unagreed_of x.head.kept (mine x) ≡ 0)
             (x.head.kept.first + length x.records ≡ x.head.kept.last + 2)
         under =
-            held_elim (λ (h : Held). Or (unagreed_of x.head.kept h ≡ 0)
+            held_elim (λ (h : Option ℕ). Or (unagreed_of x.head.kept h ≡ 0)
             (x.head.kept.first + length x.records ≡ x.head.kept.last + 2))
             x.records (span x.head.kept.first x.head.kept.last)
             (λ h. right (omega (arith, h, k.first.top, k.held.next)))

@@ -6,7 +6,6 @@ pub use Rattle.rules.specs.declared.model.Book.{Book}
 pub use Rattle.rules.specs.declared.model.BoxState.{BoxState}
 pub use Rattle.rules.specs.declared.model.Call.{Call}
 pub use Rattle.rules.specs.declared.model.Cause.{Cause}
-pub use Rattle.rules.specs.declared.model.Held.{Held}
 pub use Rattle.rules.specs.declared.model.Kept.{Kept}
 pub use Rattle.rules.specs.declared.model.Kind.{Kind}
 pub use Rattle.rules.specs.declared.model.Mail.{Mail}

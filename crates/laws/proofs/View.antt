@@ -10,11 +10,12 @@ use lib.ListN.{length, get_or, take, drop, length-append, length-take, length-dr
 use lib.ListN.{get_or-append}
 use lib.Seq.{get_or-take, get_or-drop, get_or-append-add}
 use borrow.Author.Tests.{ltb-true, ltb-false}
+use Rattle.std.specs.Prelude.{Option, Some, None}
 use Rattle.rules.specs.Numbers.{state_number, phase_number}
 use Rattle.rules.specs.Fields.{with_kept}
 use Rattle.rules.specs.Parts.{span, higher, dropped, took_book}
 use Rattle.rules.specs.Box.{Box, Letter, held_at, record_at, written}
-use Rattle.laws.proofs.Types.{Book, Held, Kept, Kind}
+use Rattle.laws.proofs.Types.{Book, Kept, Kind}
 use Rattle.laws.proofs.Logic.{Or, left, right, below?, pick_elim}
 use Rattle.laws.proofs.FormLaws.{FormedFirst, HeldCount, FormedBox, FormedLast}
 use Rattle.laws.proofs.FormLaws.{FormedCommit}
@@ -134,8 +135,8 @@ read y = read_as y.head.kind y
 
 -- ---- a record held after the first l
 
-pub held_elim {κ} : (P : Held → Type κ) (rs : List ℕ) (l : ℕ)
-    → (l < length rs → P (Held.Record (get_or rs l 0))) → (length rs ≤ l → P Held.Nothing)
+pub held_elim {κ} : (P : Option ℕ → Type κ) (rs : List ℕ) (l : ℕ)
+    → (l < length rs → P (Some (get_or rs l 0))) → (length rs ≤ l → P None)
     → P (held_at rs l)
 unfolding held_at
 held_elim P rs l f g =

@@ -1,15 +1,21 @@
 -- The laws of numbers as bytes, once over the width.
-use mathlib.Core.Path.{◌≡◌, refl, ap, sym}
+use mathlib.Core.Path.{◌≡◌, refl, ap, sym, ◌∙◌}
 use Prim.Native.Nat.{ℕ, zero, suc, ◌+◌, ◌-◌, ◌*◌, ◌/◌, ◌%◌, ◌^◌, ◌≤◌, ◌<◌}
-use native.Mathlib.Nat.{mul_assoc, pow-suc, pow-le-pow_right, lt_of_lt_of_le, add-sub_cancel_left}
+use native.Mathlib.Nat.{mul_assoc, pow-suc, add-sub_cancel_left}
 use native.Mathlib.Omega.{arith}
 use mathlib.Core.List.{List, [], ◌∷◌, ◌++◌}
-use lib.ListN.{length, take, drop, get_or, set, length-set, length-drop, drop_of_length-le}
-use lib.ListN.{take-append-drop}
-use lib.Seq.{drop-cons, get_or-drop, length-take-le, take_all}
+use lib.ListN.{length, take, drop, get_or, set}
+use lib.ListN.{replicate, length-replicate, length-append}
+use Rattle.std.proofs.Padding.{drop-replicate}
+use native.Mathlib.Nat.{zero-mul, zero-add, div-one}
+use native.Mathlib.Nat.{div-div-eq-div-mul}
+use Rattle.std.specs.Int.{bytes_low_first, byte_at, byte_worth, sum_through, from_le_bytes, w32}
+use Rattle.std.specs.Int.{w64}
+use lib.Seq.{take-suc}
+use lib.Seq.{length-take-le, take_all}
 use Rattle.words.specs.Rows.{part, splice}
 use Rattle.words.proofs.PartLaws.{part-splice, length_cut}
-use Rattle.words.proofs.WriteLaws.{write_more, write_end}
+use Rattle.words.proofs.WriteLaws.{write_more}
 use Rattle.le.specs.Le.{le, of_le, Number}
 
 -- The elements of l are bytes.
@@ -63,22 +69,6 @@ put-more n x now i v h k e =
     let left : n - i ≡ suc (n - (i + 1)) = omega arith in
     write_more (le n x) now i (v % 256) (le (n - (i + 1)) (v / 256)) k (rw left at e)
 
--- A turn of `get`: one more byte, in front of those that x is.
-pub get_more : (l : List ℕ) (i x : ℕ) → 0 < i → i ≤ length l → x ≡ of_le (drop i l)
-    → x * 256 + get_or l (i - 1) 0 ≡ of_le (drop (i - 1) l)
-unfolding of_le
-get_more l i x p h e =
-    let s : i ≡ suc (i - 1) = omega arith in
-    rw (drop-cons l (i - 1) 0 (omega arith), rw s at e)
-
--- Of at most eight bytes, with one still to be read, there is room for it.
-pub get_room : (l : List ℕ) (i x : ℕ) → Bytes l → 0 < i → i ≤ length l → length l ≤ 8
-    → x ≡ of_le (drop i l) → x < 256 ^ 7
-get_room l i x b p h m e =
-    let few : length (drop i l) ≤ 7 = omega (arith, length-drop i l) in
-    let rest = of_lt (drop i l) (λ j. rw get_or-drop (b (i + j))) in
-    rw e (lt_of_lt_of_le rest (pow-le-pow_right {n = 256} (omega arith) few))
-
 -- What `get` has read of l is the number that l is.
 pub number : (l : List ℕ) → Bytes l → (x : ℕ) → x ≡ of_le l → Number (length l) l x
 number l b x e = record { read = e; written = rw e (le_of l b); below = rw e (of_lt l b) }
@@ -97,60 +87,6 @@ pub get_in : (k at : ℕ) (src : List ℕ) (x : ℕ) → at + k ≤ length src
     → Number k (part src at k) x
 get_in k at src x h e = rw (length_cut at k src h, add-sub_cancel_left) at e
 
--- ---- four and eight bytes at once
-
--- Four bytes that are set one after another: four turns of `put-more`.
-pub four-set : (xs : List ℕ) (x : ℕ) → length xs ≡ 4
-    → set
-    (set (set (set xs 0 (x % 256)) 1 (x / 256 % 256)) 2 (x / 256 / 256 % 256))
-    3
-    (x / 256 / 256 / 256 % 256)
-    ≡ le 4 x
-unfolding le
-four-set xs x h =
-    let s₁ = set xs 0 (x % 256) in
-    let s₂ = set s₁ 1 (x / 256 % 256) in
-    let s₃ = set s₂ 2 (x / 256 / 256 % 256) in
-    let s₄ = set s₃ 3 (x / 256 / 256 / 256 % 256) in
-    let h₁ : length s₁ ≡ 4 = simp length-set h in
-    let h₂ : length s₂ ≡ 4 = simp length-set h in
-    let h₃ : length s₃ ≡ 4 = simp length-set h in
-    let h₄ : length s₄ ≡ 4 = simp length-set h in
-    let e₁ = put-more 4 x xs 0 x (omega arith) (omega (arith, h)) refl in
-    let e₂ = put-more 4 x s₁ 1 (x / 256) (omega arith) (omega (arith, h₁)) e₁ in
-    let e₃ = put-more 4 x s₂ 2 (x / 256 / 256) (omega arith) (omega (arith, h₂)) e₂ in
-    let e₄ = put-more 4 x s₃ 3 (x / 256 / 256 / 256) (omega arith) (omega (arith, h₃)) e₃ in
-    write_end (le 4 x) s₄ 4 (omega (arith, h₄)) e₄
-
--- Eight bytes whose lower and upper four are written one after the other.
-pub eight_put : (xs ys zs : List ℕ) (x : ℕ) → length xs ≡ 8 → ys ≡ le 4 x
-    → zs ≡ le 4 (x / 4294967296) → splice (splice xs 0 4 ys) 4 4 zs ≡ le 8 x
-unfolding le
-eight_put xs ys zs x h low up =
-    let none : drop 4 (drop 4 xs) ≡ [] =
-    drop_of_length-le (drop 4 xs) {i = 4} (omega (arith, h, length-drop 4 xs))
-    in
-    let d : x / 4294967296 ≡ x / 256 / 256 / 256 / 256 = omega arith in
-    rw (low, up, none, d) refl
-
--- What a width's own function has written is x at that width.
-pub at_width : (ys : List ℕ) (k n x : ℕ) → ys ≡ le k x → n ≡ k → ys ≡ le n x
-at_width ys k n x e w = rw w e
-
--- Four bytes that are read one after another: four turns of `get_more`.
-pub four_get : (l : List ℕ) → length l ≡ 4
-    → ((get_or l 3 0 * 256 + get_or l 2 0) * 256 + get_or l 1 0) * 256 + get_or l 0 0 ≡ of_le l
-unfolding of_le
-four_get l h =
-    let none : drop 4 l ≡ [] = drop_of_length-le l {i = 4} (omega (arith, h)) in
-    let e₀ : 0 ≡ of_le (drop 4 l) = rw none refl in
-    let g = get_more l 4 0 (omega arith) (omega (arith, h)) e₀ in
-    let e₁ : get_or l 3 0 ≡ of_le (drop 3 l) = omega (arith, g) in
-    let e₂ = get_more l 3 (get_or l 3 0) (omega arith) (omega (arith, h)) e₁ in
-    let x₂ = get_or l 3 0 * 256 + get_or l 2 0 in
-    let e₃ = get_more l 2 x₂ (omega arith) (omega (arith, h)) e₂ in
-    get_more l 1 (x₂ * 256 + get_or l 1 0) (omega arith) (omega (arith, h)) e₃
-
 -- The number of two parts, one behind the other.
 pub of_append : (xs ys : List ℕ) → of_le (xs ++ ys) ≡ of_le ys * 256 ^ length xs + of_le xs
 unfolding of_le
@@ -161,16 +97,57 @@ of_append (x ∷ xs) ys =
     in
     rw (pow-suc, of_append xs ys) (omega (arith, m))
 
--- Eight bytes whose lower and upper four have been read.
-pub eight_get : (l : List ℕ) (low high : ℕ) → length l ≡ 8 → low ≡ of_le (part l 0 4)
-    → high ≡ of_le (part l 4 4) → high * 4294967296 + low ≡ of_le l
-eight_get l low high h e f =
-    let four : length (take 4 l) ≡ 4 = length-take-le 4 l (omega (arith, h)) in
-    let upper : take 4 (drop 4 l) ≡ drop 4 l =
-    take_all 4 (drop 4 l) (omega (arith, h, length-drop 4 l))
-    in
-    let both = of_append (take 4 l) (drop 4 l) in
-    let all : of_le l ≡ of_le (drop 4 l) * 4294967296 + of_le (take 4 l) =
-    rw (take-append-drop, four) at both
-    in
-    rw (e, f, upper) (sym all)
+-- Zeros are the number 0 ..
+pub of-none : (k : ℕ) → of_le (replicate k 0) ≡ 0
+unfolding of_le
+of-none zero = refl
+of-none (suc k) = omega (arith, of-none k)
+
+-- .. and behind bytes they change nothing.
+pub of-zeros : (xs : List ℕ) (k : ℕ) → of_le (xs ++ replicate k 0) ≡ of_le xs
+of-zeros xs k = rw (of_append xs (replicate k 0), of-none k, zero-mul, zero-add) refl
+
+-- ---- the library's words for a number's bytes
+
+-- The k bytes from byte i on are those of what is left of the number there.
+pub low_first : (i k x : ℕ) → bytes_low_first i k x ≡ le k (x / 256 ^ i)
+unfolding le
+low_first i zero x = refl
+low_first i (suc k) x =
+    let d : x / 256 ^ suc i ≡ x / 256 ^ i / 256 = rw (pow-suc, div-div-eq-div-mul) refl in
+    rw (at i, low_first (suc i) k x, d) refl
+  where
+    at : (i : ℕ) → byte_at i x ≡ x / 256 ^ i % 256
+    at zero = omega arith
+    at (suc i) = refl
+
+-- The k lowest bytes, as the library writes them.
+pub low_le : (k x : ℕ) → bytes_low_first 0 k x ≡ le k x
+low_le k x = low_first 0 k x ∙ ap (le k) (div-one x)
+
+-- What the first k + 1 bytes are worth together is the number that they are.
+pub worth_of : (l : List ℕ) (k : ℕ) → k < length l
+    → sum_through (λ i. byte_worth i (get_or l i 0)) k ≡ of_le (take (suc k) l)
+unfolding of_le
+worth_of l zero h = rw (take-suc l 0 0 h) (omega arith)
+worth_of l (suc k) h =
+    let n : length (take (suc k) l) ≡ suc k = length-take-le (suc k) l (omega (arith, h)) in
+    let a = of_append (take (suc k) l) (get_or l (suc k) 0 ∷ []) in
+    rw (take-suc l (suc k) 0 h, a, n, worth_of l k (omega (arith, h))) (omega arith)
+
+-- Four and eight bytes, as the library reads them.
+pub from_four : (l : List ℕ) → length l ≡ 4 → from_le_bytes w32 l ≡ of_le l
+from_four l h =
+    worth_of l 3 (omega (arith, h)) ∙ ap of_le (take_all 4 l (omega (arith, h)))
+
+pub from_eight : (l : List ℕ) → length l ≡ 8 → from_le_bytes w64 l ≡ of_le l
+from_eight l h =
+    worth_of l 7 (omega (arith, h)) ∙ ap of_le (take_all 8 l (omega (arith, h)))
+
+-- Those of at most eight bytes, behind which zeros stand.
+pub from_each : (l : List ℕ) → length l ≤ 8
+    → from_le_bytes w64 (l ++ drop (length l) (replicate 8 0)) ≡ of_le l
+from_each l h =
+    let n : length (l ++ replicate (8 - length l) 0) ≡ 8 =
+    rw (length-append, length-replicate) (omega (arith, h)) in
+    rw (drop-replicate, from_eight (l ++ replicate (8 - length l) 0) n, of-zeros) refl

@@ -1,22 +1,16 @@
 // Numbers as bytes, the least byte first, at any width up to 8.
 #![tactic(auto)]
 
-ghost use Rattle.std.specs.Prelude.{◌≡◌, ◌+◌, ◌≤◌, ◌<◌, length};
+ghost use Rattle.std.specs.Prelude.{◌≡◌, ◌+◌, ◌≤◌, length};
 ghost use Rattle.words.specs.Rows.{part, splice};
 ghost use Rattle.le.specs.Le.{le, of_le, Number};
 
-// Four bytes become x, one by one with no loop: so the compiler makes one store of them.
+// Four bytes become x, with no loop: so the compiler makes one store of them.
 fn put_four(dst: &mut [u8], x: u64)
     requires { length dst.old ≡ 4 }
     ensures { dst.new ≡ le 4 x }
 {
-    let b = x / 256;
-    let c = b / 256;
-    let d = c / 256;
-    dst[0] = (x % 256) as u8;
-    dst[1] = (b % 256) as u8;
-    dst[2] = (c % 256) as u8;
-    dst[3] = (d % 256) as u8;
+    dst.copy_from_slice(&x.to_le_bytes()[..4]);
 }
 
 // Eight bytes become x.
@@ -24,8 +18,7 @@ fn put_eight(dst: &mut [u8], x: u64)
     requires { length dst.old ≡ 8 }
     ensures { dst.new ≡ le 8 x }
 {
-    put_four(&mut dst[0..4], x);
-    put_four(&mut dst[4..8], x / 4294967296);
+    dst.copy_from_slice(&x.to_le_bytes());
 }
 
 // Any number of bytes become x, the least first.
@@ -33,11 +26,9 @@ fn put_each(dst: &mut [u8], x: u64)
     ensures { dst.new ≡ le (length dst.old) x }
 {
     let mut v = x;
-    let mut i = 0;
-    while i < dst.len() {
-        dst[i] = (v % 256) as u8;
+    for byte in dst.iter_mut() {
+        *byte = (v % 256) as u8;
         v = v / 256;
-        i += 1;
     }
 }
 
@@ -46,35 +37,21 @@ fn put_each(dst: &mut [u8], x: u64)
 pub fn put(dst: &mut [u8], x: u64)
     ensures { dst.new ≡ le (length dst.old) x }
 {
-    if dst.len() == 8 {
-        put_eight(dst, x);
-        return;
+    match dst.len() {
+        8 => put_eight(dst, x),
+        4 => put_four(dst, x),
+        _ => put_each(dst, x),
     }
-    if dst.len() == 4 {
-        put_four(dst, x);
-        return;
-    }
-    put_each(dst, x);
-}
-
-// A byte as a word.
-fn wide(x: u8) -> u64
-    ensures value { result ≡ x }
-    ensures upper_bound { result < 256 }
-{
-    x as u64
 }
 
 // The number that four bytes are, with no loop: so the compiler makes one load of them.
 fn get_four(src: &[u8]) -> u64
     requires { length src.now ≡ 4 }
-    ensures value { result ≡ of_le src.now }
-    ensures upper_bound { result < 4294967296 }
+    ensures { result ≡ of_le src.now }
 {
-    let d = wide(src[3]);
-    let c = d * 256 + wide(src[2]);
-    let b = c * 256 + wide(src[1]);
-    b * 256 + wide(src[0])
+    let mut four = [0u8; 4];
+    four.copy_from_slice(src);
+    u64::from(u32::from_le_bytes(four))
 }
 
 // The number that eight bytes are.
@@ -82,23 +59,19 @@ fn get_eight(src: &[u8]) -> u64
     requires { length src.now ≡ 8 }
     ensures { result ≡ of_le src.now }
 {
-    let low = get_four(&src[0..4]);
-    let high = get_four(&src[4..8]);
-    high * 4294967296 + low
+    let mut eight = [0u8; 8];
+    eight.copy_from_slice(src);
+    u64::from_le_bytes(eight)
 }
 
-// The number that at most eight bytes are.
+// The number that at most eight bytes are: behind them zeros change nothing.
 fn get_each(src: &[u8]) -> u64
     requires { length src.now ≤ 8 }
     ensures { result ≡ of_le src.now }
 {
-    let mut x: u64 = 0;
-    let mut i = src.len();
-    while 0 < i {
-        i -= 1;
-        x = x * 256 + wide(src[i]);
-    }
-    x
+    let mut bytes = [0u8; 8];
+    bytes[..src.len()].copy_from_slice(src);
+    u64::from_le_bytes(bytes)
 }
 
 // The same: the two widths of the image at once, any other byte by byte.
@@ -106,13 +79,11 @@ fn get_any(src: &[u8]) -> u64
     requires { length src.now ≤ 8 }
     ensures { result ≡ of_le src.now }
 {
-    if src.len() == 8 {
-        return get_eight(src);
+    match src.len() {
+        8 => get_eight(src),
+        4 => get_four(src),
+        _ => get_each(src),
     }
-    if src.len() == 4 {
-        return get_four(src);
-    }
-    get_each(src)
 }
 
 // The number that all of src is.

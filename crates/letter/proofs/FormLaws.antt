@@ -15,7 +15,8 @@ use Rattle.rules.specs.declared.model.Kind.{Kind}
 use Rattle.rules.proofs.BoundLaws.{first-of, second-of}
 use Rattle.values.specs.Counts.{agreed_count, full_count, held_count}
 use Rattle.values.specs.Faults.{fault_then, is_whole}
-use Rattle.values.specs.declared.Fault.{Fault}
+use Rattle.std.specs.Prelude.{None}
+use Rattle.values.specs.declared.Field.{Field}
 use Rattle.values.proofs.AllLaws.{all-at}
 use Rattle.values.proofs.CountLaws.{either-of, either_first, either_second, first_says}
 use Rattle.values.proofs.CountLaws.{count-says, count-made, full-says, held-room, held-form}
@@ -229,7 +230,7 @@ pub record HeadSays (J : ℕ) (w : List ℕ) : Type 0 where
       (get_or w first_at 0) (get_or w unagreed_at 0) (get_or w count_at 0)
 
 module _ (J : ℕ) (w : List ℕ) where
-  pub head-says : head_fault J w ≡ Fault.None → HeadSays J w
+  pub head-says : head_fault J w ≡ None → HeadSays J w
   unfolding head_fault
   head-says e =
       let t = (then-passed _ _ e).0 in
@@ -245,7 +246,7 @@ module _ (J : ℕ) (w : List ℕ) where
       → form_kind (kind_of (get_or w kind_at 0)) J (get_or w pn_at 0) (get_or w last_at 0)
       (get_or w first_at 0) (get_or w unagreed_at 0) (get_or w count_at 0) ≡ true
       → leb (get_or w pn_at 0) most_pn ≡ true → leb (get_or w unagreed_at 0) most_pn ≡ true
-      → leb (get_or w last_at 0) most_number ≡ true → head_fault J w ≡ Fault.None
+      → leb (get_or w last_at 0) most_number ≡ true → head_fault J w ≡ None
   unfolding head_fault fault_then
   head-whole n f p u l =
       let t = kind_fits J _ _ _ _ _ (kind_of (get_or w kind_at 0)) f p u l in
@@ -295,7 +296,7 @@ pub record PlaceFormed (J : ℕ) (p : List ℕ) : Type 0 where
   pub letter : form_letter J (letter_at p) ≡ true
   pub kind : kind_form J p ≡ true
   pub proper : each proper (letter_at p).records ≡ true
-  pub whole : head_fault J p ≡ Fault.None
+  pub whole : head_fault J p ≡ None
   pub says : HeadSays J p
   pub readable : PlaceReadable p
 
@@ -325,7 +326,7 @@ module _ (J : ℕ) (p : List ℕ) (s : PlaceSized J p) where
       }
 
   -- What the code of `is_by_form` has: no word is amiss ..
-  pub form-go : head_fault J p ≡ Fault.None → each proper (letter_at p).records ≡ place_form J p
+  pub form-go : head_fault J p ≡ None → each proper (letter_at p).records ≡ place_form J p
   unfolding place_form place_fits form_letter all
   form-go e =
       let h = head-says J p e in

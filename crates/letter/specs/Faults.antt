@@ -6,7 +6,7 @@ use Rattle.rules.specs.Form.{first_form}
 use Rattle.rules.specs.declared.model.Kind.{Kind}
 use Rattle.values.specs.Counts.{agreed_count, full_count, held_count}
 use Rattle.values.specs.Faults.{test, fault_then}
-use Rattle.values.specs.declared.Fault.{Fault}
+use Rattle.std.specs.Prelude.{Option, None}
 use Rattle.values.specs.declared.Field.{Field}
 use Rattle.letter.specs.Place.{kind_of, most_kind}
 use Rattle.letter.specs.Place.{kind_at, pn_at, last_at, first_at, unagreed_at, count_at}
@@ -64,7 +64,7 @@ count_fits Kind.Lease J first last unagreed count = eqb count 0
 count_fits Kind.LeaseAck J first last unagreed count = eqb count 0
 
 -- the first of a letter's words that is not by form
-unfoldable pub head_fault : ℕ → List ℕ → Fault
+unfoldable pub head_fault : ℕ → List ℕ → Option Field
 head_fault J w =
     fault_then
     (test Field.Kind (within 1 most_kind (get_or w kind_at 0))
@@ -77,4 +77,4 @@ head_fault J w =
     (count_fits (kind_of (get_or w kind_at 0)) J (get_or w first_at 0) (get_or w last_at 0)
     (get_or w unagreed_at 0) (get_or w count_at 0))
     ∷ [])
-    Fault.None
+    None

@@ -13,7 +13,7 @@ ghost use Rattle.letter.specs.Faults.{
 
 use crate::{COUNT, FIRST, KIND, LAST, PN, UNAGREED, kind_of, records};
 use rules::model::Kind;
-use values::{Fault, Field, MOST_NUMBER, MOST_PN};
+use values::{Field, MOST_NUMBER, MOST_PN};
 
 // What each kind asks of its pn ..
 fn is_pn(k: Kind, pn: u64) -> bool
@@ -96,7 +96,7 @@ fn is_count(k: Kind, j: u32, first: u64, last: u64, unagreed: u64, count: u64) -
 }
 
 // The first of a letter's words that is not by form.
-pub fn head_fault(w: &[u64], j: u32) -> Fault
+pub fn head_fault(w: &[u64], j: u32) -> Option<Field>
     requires { head_words ≤ length w.now }
     ensures { result ≡ head_fault j w.now }
 {
@@ -108,7 +108,7 @@ pub fn head_fault(w: &[u64], j: u32) -> Fault
     let first = is_first(k, w[FIRST], w[LAST]);
     let unagreed = is_unagreed(k, w[UNAGREED]);
     let count = is_count(k, j, w[FIRST], w[LAST], w[UNAGREED], w[COUNT]);
-    let f = values::unless(count, Field::Count, Fault::None);
+    let f = values::unless(count, Field::Count, None);
     let f = values::unless(unagreed, Field::Unagreed, f);
     let f = values::unless(first, Field::First, f);
     let f = values::unless(last, Field::Last, f);
@@ -123,7 +123,7 @@ pub fn is_by_form(place: &[u64], j: u32) -> bool
 {
     let f = head_fault(place, j);
     match f {
-        Fault::None => values::all_proper(records(place)),
-        Fault::At(_) => false,
+        None => values::all_proper(records(place)),
+        Some(_) => false,
     }
 }

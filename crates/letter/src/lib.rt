@@ -14,8 +14,8 @@ ghost use Rattle.letter.specs.Lent.{
   Enclosed,
 };
 
-use rules::model::{Held, Kind, Mail};
-use rules::{numbers, parts};
+use rules::model::{Kind, Mail};
+use rules::parts;
 
 mod form;
 
@@ -36,6 +36,7 @@ pub const COUNT: usize = 5;
 
 pub const HEAD: usize = 6;
 
+// No From: the type is another crate's, and no impl may stand here. By form no other word occurs.
 pub fn kind_of(x: u64) -> Kind
     ensures { result ≡ kind_of x }
 {
@@ -70,6 +71,7 @@ pub fn load(place: &[u64]) -> Mail
 }
 
 // The records that it holds.
+// Not one function with a box's: where the count stands is the place's own, and what is asked.
 pub fn records(place: &[u64]) -> &[u64]
     requires { PlaceReadable place.now }
     ensures { result.now ≡ (letter_at place.now).records }
@@ -100,7 +102,7 @@ fn agreed(m: Mail) -> u32
 }
 
 // What it holds at its last+1.
-pub fn after_last(place: &[u64]) -> Held
+pub fn after_last(place: &[u64]) -> Option<u64>
     requires place_readable { PlaceReadable place.now }
     requires numbered { Numbered (mail_at place.now) }
     ensures { result ≡ next_of (letter_at place.now) }
@@ -149,13 +151,13 @@ pub fn enclose(place: &mut [u64], m: Mail, records: &[u64])
     let from = enclosed_from(kind, a);
     let count = enclosed_count(kind, a, records.len());
     let fields = [
-        values::wide(numbers::kind_number(kind)),
-        values::wide(m.pn),
-        values::wide(m.last),
-        values::wide(m.first),
-        values::wide(m.unagreed),
+        u64::from(u32::from(kind)),
+        u64::from(m.pn),
+        u64::from(m.last),
+        u64::from(m.first),
+        u64::from(m.unagreed),
         words::word(count),
     ];
-    words::copy(&fields, &mut place[0..HEAD]);
+    place[0..HEAD].copy_from_slice(&fields);
     words::copy_part(records, from, place, HEAD, count);
 }

@@ -9,6 +9,7 @@ use lib.Dec.{ltb, eqb}
 use lib.ListN.{length, drop, length-append}
 use lib.Seq.{drop-append_seam}
 use borrow.Author.Tests.{lt-ltb, le-ltb, ltb-true, ltb-false, eqb-true, not-false}
+use Rattle.std.proofs.Common.{Option, Some, None}
 use Rattle.rules.specs.Pick.{pick, pick_true, pick-false}
 use Rattle.rules.specs.Every.{each}
 use Rattle.rules.specs.declared.model.Call.{Call}
@@ -20,7 +21,6 @@ use Rattle.lines.specs.Read.{read_one}
 use Rattle.lines.specs.Printed.{line_word, line_numbers, parted, line_bytes, readable, in_range}
 use Rattle.lines.specs.declared.Line.{Line}
 use Rattle.lines.specs.declared.Numbers.{Numbers}
-use Rattle.lines.specs.declared.One.{One}
 use Rattle.lines.specs.declared.Word.{Word}
 use Rattle.lines.proofs.NumberLaws.{small, last_of, read-parted, pushed_all, numbers-read}
 use Rattle.lines.proofs.NumberLaws.{parted-short}
@@ -249,21 +249,21 @@ unfolding starts
 starts-again [] t = refl
 starts-again (a ∷ w) t = pick_true _ _ _ (eqb_same a) ∙ starts-again w t
 
-is_number : One → Bool
-is_number (One.Number x) = true
-is_number One.Unreadable = false
+is_number : Option ℕ → Bool
+is_number (Some x) = true
+is_number None = false
 
-number_of : One → ℕ
-number_of (One.Number x) = x
-number_of One.Unreadable = 0
+number_of : Option ℕ → ℕ
+number_of (Some x) = x
+number_of None = 0
 
-picked-one : (t : Bool) (o : One) (x : ℕ) → pick t One.Unreadable o ≡ One.Number x
-    → (t ≡ false) × (o ≡ One.Number x)
+picked-one : (t : Bool) (o : Option ℕ) (x : ℕ) → pick t None o ≡ Some x
+    → (t ≡ false) × (o ≡ Some x)
 unfolding pick is_number
 picked-one true o x e = absurd (both-no refl (ap is_number (sym e)))
 picked-one false o x e = (refl, e)
 
-one-read : (w s : List ℕ) (x : ℕ) → read_one w s ≡ One.Number x
+one-read : (w s : List ℕ) (x : ℕ) → read_one w s ≡ Some x
     → (s ≡ w ++ decimal x) × (x < 4294967296) × (length s ≤ 64)
 unfolding read_one one_of number_of spaced each
 one-read w s x e =
@@ -271,7 +271,7 @@ one-read w s x e =
     let n = numbers_of rest in
     let p = picked-one (ltb 64 (length s) || not (starts w s)) _ x e in
     let f = or_no (ltb 64 (length s)) (not (starts w s)) p.0 in
-    let q = picked-one (n.bad || not (eqb n.count 1)) (One.Number n.d) x p.1 in
+    let q = picked-one (n.bad || not (eqb n.count 1)) (Some n.d) x p.1 in
     let g = or_no n.bad (not (eqb n.count 1)) q.0 in
     let count : n.count ≡ 1 = eqb-true n.count 1 (not-false _ g.1) in
     let read = read-parted rest g.0 in
@@ -286,7 +286,7 @@ one-read w s x e =
     )
 
 one_again : (w : List ℕ) (x : ℕ) → x < 4294967296 → length (w ++ decimal x) ≤ 64
-    → read_one w (w ++ decimal x) ≡ One.Number x
+    → read_one w (w ++ decimal x) ≡ Some x
 unfolding read_one one_of each pick spaced
 one_again w x r h =
     pick-false _ _ _ one
@@ -302,7 +302,7 @@ one_again w x r h =
 
 -- `read_one` takes exactly the word with a number in range behind it, in at most 64 bytes, ..
 pub exact_one : (w s : List ℕ) (x : ℕ)
-    → (read_one w s ≡ One.Number x)
+    → (read_one w s ≡ Some x)
     ↔ ((s ≡ w ++ decimal x) × (x < 4294967296) × (length s ≤ 64))
 exact_one w s x = (
   one-read w s x,
@@ -313,9 +313,9 @@ exact_one w s x = (
 -- .. and every other text is unreadable
 pub unreadable-one : (w s : List ℕ)
     → ((x : ℕ) → s ≡ w ++ decimal x → x < 4294967296 → length s ≤ 64 → ⊥)
-    → read_one w s ≡ One.Unreadable
+    → read_one w s ≡ None
 unreadable-one w s none = by (read_one w s) refl
   where
-    by : (o : One) → read_one w s ≡ o → read_one w s ≡ One.Unreadable
-    by (One.Number x) e = let p = one-read w s x e in absurd (none x p.0 p.1 p.2)
-    by One.Unreadable e = e
+    by : (o : Option ℕ) → read_one w s ≡ o → read_one w s ≡ None
+    by (Some x) e = let p = one-read w s x e in absurd (none x p.0 p.1 p.2)
+    by None e = e

@@ -10,6 +10,7 @@ use lib.Dec.{ltb, eqb}
 use lib.ListN.{length, drop, length-append}
 use borrow.Author.Tests.{lt-ltb, le-ltb, ltb-true, ltb-false, eq-eqb, ne_eqb, eqb-true, eqb-false}
 use borrow.Author.Tests.{not-false}
+use Rattle.std.proofs.Common.{Option, Some, None}
 use Rattle.rules.specs.Pick.{pick, pick_true, pick-false}
 use Rattle.rules.specs.Every.{each}
 use Rattle.laws.proofs.Logic.{pick_elim, and_yes, and_both, or_no, both-no}
@@ -19,7 +20,6 @@ use Rattle.print.proofs.DecimalLaws.{few-digits}
 use Rattle.lines.specs.Read.{no_numbers, grown, with_grown, finished, byte_read, bytes_read}
 use Rattle.lines.specs.Read.{numbers_of}
 use Rattle.lines.specs.Printed.{parted}
-use Rattle.lines.specs.declared.Grown.{Grown}
 use Rattle.lines.specs.declared.Numbers.{Numbers}
 
 -- below 2^32
@@ -156,13 +156,13 @@ record Digit (begun : Bool) (v b u : ℕ) : Type 0 where
   fits : u < 4294967296
   is : u ≡ v * 10 + (b - 48)
 
-not-bad : (t : Bool) (g : Grown) (u : ℕ) → pick t Grown.Bad g ≡ Grown.Good u
-    → (t ≡ false) × (g ≡ Grown.Good u)
+not-bad : (t : Bool) (g : Option ℕ) (u : ℕ) → pick t None g ≡ Some u
+    → (t ≡ false) × (g ≡ Some u)
 unfolding pick
 not-bad true g u e = absurd (let z : ◌≡◌ {A = ℕ} 0 1 = cc in omega arith)
 not-bad false g u e = (refl, e)
 
-digit-is : (begun : Bool) (v b u : ℕ) → grown begun v b ≡ Grown.Good u → Digit begun v b u
+digit-is : (begun : Bool) (v b u : ℕ) → grown begun v b ≡ Some u → Digit begun v b u
 unfolding grown
 digit-is begun v b u e =
     let p = not-bad (ltb b 48) _ u e in
@@ -197,8 +197,8 @@ digit-shown false v b u w h z =
     ap (λ (x : ℕ). x ∷ []) f ∙ sym (one-digit 19 u d)
 
 sound-digit : (n : Numbers) (s : List ℕ) (b u : ℕ) → Sound n s
-    → grown n.begun n.value b ≡ Grown.Good u
-    → Sound (with_grown n (Grown.Good u)) (s ++ (b ∷ []))
+    → grown n.begun n.value b ≡ Some u
+    → Sound (with_grown n (Some u)) (s ++ (b ∷ []))
 unfolding shown begun_text
 sound-digit n s b u w e =
     let g = digit-is n.begun n.value b u e in
@@ -224,10 +224,10 @@ sound_byte : (n : Numbers) (s : List ℕ) (b : ℕ) → Sound n s → (byte_read
 unfolding byte_read pick
 sound_byte n s b w = by (eqb b 32) refl
   where
-    grown-sound : (g : Grown) → grown n.begun n.value b ≡ g → (with_grown n g).bad ≡ false
+    grown-sound : (g : Option ℕ) → grown n.begun n.value b ≡ g → (with_grown n g).bad ≡ false
         → Sound (with_grown n g) (s ++ (b ∷ []))
-    grown-sound (Grown.Good u) d e = sound-digit n s b u w d
-    grown-sound Grown.Bad d e = absurd (both-no refl e)
+    grown-sound (Some u) d e = sound-digit n s b u w d
+    grown-sound None d e = absurd (both-no refl e)
 
     by : (t : Bool) → eqb b 32 ≡ t
         → (pick t (finished n) (with_grown n (grown n.begun n.value b))).bad ≡ false
@@ -244,9 +244,9 @@ bad_byte n b e =
     pick_elim (λ (m : Numbers). m.bad ≡ true) (eqb b 32) (λ t. rw e refl)
     (λ t. of (grown n.begun n.value b))
   where
-    of : (g : Grown) → (with_grown n g).bad ≡ true
-    of (Grown.Good u) = e
-    of Grown.Bad = refl
+    of : (g : Option ℕ) → (with_grown n g).bad ≡ true
+    of (Some u) = e
+    of None = refl
 
 bad-stays : (s : List ℕ) (n : Numbers) → n.bad ≡ true → (bytes_read n s).bad ≡ true
 unfolding bytes_read
@@ -315,7 +315,7 @@ read_append n (b ∷ s) t = read_append (byte_read n b) s t
 
 -- one digit more; a zero in front has nothing behind it
 digit-read : (n : Numbers) (v d : ℕ) → n.value ≡ v → d < 10 → (n.begun && eqb v 0) ≡ false
-    → v * 10 + d < 4294967296 → byte_read n (48 + d) ≡ with_grown n (Grown.Good (v * 10 + d))
+    → v * 10 + d < 4294967296 → byte_read n (48 + d) ≡ with_grown n (Some (v * 10 + d))
 unfolding byte_read grown
 digit-read n v d e h f r =
     let minus : 48 + d - 48 ≡ d = omega arith in
@@ -326,7 +326,7 @@ digit-read n v d e h f r =
     ∙ (pick-false _ _ _ (le-ltb (48 + d) 48 (omega arith))
     ∙ (pick-false _ _ _ (le-ltb 57 (48 + d) (omega arith))
     ∙ (pick-false _ _ _ f
-    ∙ (ap (λ (x : ℕ). pick (ltb 4294967295 (v * 10 + x)) Grown.Bad (Grown.Good (v * 10 + x))) minus
+    ∙ (ap (λ (x : ℕ). pick (ltb 4294967295 (v * 10 + x)) None (Some (v * 10 + x))) minus
     ∙ pick-false _ _ _ (le-ltb 4294967295 (v * 10 + d) (omega arith)))))))
 
 no_front : (t : Bool) (v : ℕ) → 0 < v → (t && eqb v 0) ≡ false
@@ -334,17 +334,17 @@ no_front true v h = ne_eqb v 0 (λ e. omega arith)
 no_front false v h = refl
 
 one-read : (f v : ℕ) (n : Numbers) → v < 10 → n.begun ≡ false → n.value ≡ 0
-    → bytes_read n (decimal_of f v) ≡ with_grown n (Grown.Good v)
+    → bytes_read n (decimal_of f v) ≡ with_grown n (Some v)
 unfolding bytes_read
 one-read f v n h e z =
     let zero-first : (n.begun && eqb 0 0) ≡ false = rw e refl in
     let same : 0 * 10 + v ≡ v = omega arith in
     ap (bytes_read n) (one-digit f v h)
     ∙ (digit-read n 0 v z h zero-first (omega arith)
-    ∙ ap (λ (x : ℕ). with_grown n (Grown.Good x)) same)
+    ∙ ap (λ (x : ℕ). with_grown n (Some x)) same)
 
 decimal-read : (f v : ℕ) (n : Numbers) → v < 10 ^ suc f → v < 4294967296 → n.begun ≡ false
-    → n.value ≡ 0 → bytes_read n (decimal_of f v) ≡ with_grown n (Grown.Good v)
+    → n.value ≡ 0 → bytes_read n (decimal_of f v) ≡ with_grown n (Some v)
 unfolding bytes_read
 decimal-read zero v n h r e z = one-read 0 v n h e z
 decimal-read (suc f) v n h r e z =
@@ -354,13 +354,13 @@ decimal-read (suc f) v n h r e z =
     let ten : 0 < 10 = omega arith in
     let q : v / 10 * 10 + v % 10 ≡ v = div-add-mod' v 10 in
     let d : v % 10 < 10 = mod-lt v ten in
-    let m = with_grown n (Grown.Good (v / 10)) in
+    let m = with_grown n (Some (v / 10)) in
     ap (bytes_read n) (more-digits f v l)
     ∙ (read_append n (decimal_of f (v / 10)) ((48 + v % 10) ∷ [])
     ∙ (ap (λ (k : Numbers). byte_read k (48 + v % 10))
     (decimal-read f (v / 10) n (tenth_below (suc f) v h) (omega arith) e z)
     ∙ (digit-read m (v / 10) (v % 10) refl d (ne_eqb (v / 10) 0 (λ e. omega arith)) (omega arith)
-    ∙ ap (λ (x : ℕ). with_grown n (Grown.Good x)) q))))
+    ∙ ap (λ (x : ℕ). with_grown n (Some x)) q))))
     (one_or_more v)
 
 -- a number put behind the others, with nothing begun
@@ -381,7 +381,7 @@ pushed_all n [] = n
 pushed_all n (x ∷ xs) = pushed_all (pushed n x) xs
 
 finish-one : (n : Numbers) (x : ℕ) → n.bad ≡ false → n.count < 4
-    → finished (with_grown n (Grown.Good x)) ≡ pushed n x
+    → finished (with_grown n (Some x)) ≡ pushed n x
 unfolding finished
 finish-one n x g h =
     let t = lt-ltb n.count 4 h in

@@ -1,13 +1,11 @@
 -- What a line says: a word at its start, and then the word's numbers, parted by one space.
 use Rattle.std.specs.Prelude.{ℕ, ◌+◌, ◌-◌, ◌*◌, Bool, true, false, not, ◌&&◌, ◌||◌, List, [], ◌∷◌}
-use Rattle.std.specs.Prelude.{ltb, eqb, length, drop}
+use Rattle.std.specs.Prelude.{Option, Some, None, ltb, eqb, length, drop}
 use Rattle.rules.specs.Pick.{pick}
 use Rattle.rules.specs.declared.model.Call.{Call}
 use Rattle.lines.specs.Table.{word_bytes, arity_of, starts, word_of}
-use Rattle.lines.specs.declared.Grown.{Grown}
 use Rattle.lines.specs.declared.Line.{Line}
 use Rattle.lines.specs.declared.Numbers.{Numbers}
-use Rattle.lines.specs.declared.One.{One}
 use Rattle.lines.specs.declared.Word.{Word}
 
 -- no number yet
@@ -25,16 +23,16 @@ no_numbers = record {
 
 -- the byte b goes on with a decimal of value v, which has begun or not: a digit, no zero in front,
 -- at most 4,294,967,295
-unfoldable pub grown : Bool → ℕ → ℕ → Grown
+unfoldable pub grown : Bool → ℕ → ℕ → Option ℕ
 grown begun v b =
-    pick (ltb b 48) Grown.Bad
-    (pick (ltb 57 b) Grown.Bad
-    (pick (begun && eqb v 0) Grown.Bad
-    (pick (ltb 4294967295 (v * 10 + (b - 48))) Grown.Bad
-    (Grown.Good (v * 10 + (b - 48))))))
+    pick (ltb b 48) None
+    (pick (ltb 57 b) None
+    (pick (begun && eqb v 0) None
+    (pick (ltb 4294967295 (v * 10 + (b - 48))) None
+    (Some (v * 10 + (b - 48))))))
 
-abbrev pub with_grown : Numbers → Grown → Numbers
-with_grown n (Grown.Good v) = record {
+abbrev pub with_grown : Numbers → Option ℕ → Numbers
+with_grown n (Some v) = record {
   bad = n.bad;
   begun = true;
   value = v;
@@ -44,7 +42,7 @@ with_grown n (Grown.Good v) = record {
   c = n.c;
   d = n.d;
 }
-with_grown n Grown.Bad = record {
+with_grown n None = record {
   bad = true;
   begun = true;
   value = 0;
@@ -113,11 +111,11 @@ read_line s =
     (line_of (word_of s) (numbers_of (drop (length (word_bytes (word_of s))) s)))
 
 -- one proper number
-unfoldable pub one_of : Numbers → One
-one_of n = pick (n.bad || not (eqb n.count 1)) One.Unreadable (One.Number n.d)
+unfoldable pub one_of : Numbers → Option ℕ
+one_of n = pick (n.bad || not (eqb n.count 1)) None (Some n.d)
 
 -- the one number after a word w that no trace has, by the same rules
-unfoldable pub read_one : List ℕ → List ℕ → One
+unfoldable pub read_one : List ℕ → List ℕ → Option ℕ
 read_one w s =
-    pick (ltb 64 (length s) || not (starts w s)) One.Unreadable
+    pick (ltb 64 (length s) || not (starts w s)) None
     (one_of (numbers_of (drop (length w) s)))

@@ -46,6 +46,7 @@ pub enum Word {
 
 // What a line says, with its numbers as they stand: n, J and L of a site line, a call of the
 // engine, or c, k, left and right of a holds line.
+// What cannot be read is a line as well: it has its number and its answer, and ends the run.
 #[derive(Clone, Copy)]
 pub enum Line {
     Site(u32, u32, u32),
@@ -54,22 +55,9 @@ pub enum Line {
     Unreadable,
 }
 
-// The number after a word that no trace has.
-#[derive(Clone, Copy)]
-pub enum One {
-    Number(u32),
-    Unreadable,
-}
-
-// A decimal after one more byte.
-#[derive(Clone, Copy)]
-pub enum Grown {
-    Good(u32),
-    Bad,
-}
-
 // Numbers being read: the finished ones stand in the last count of a, b, c and d, and value is the
 // one that has begun.
+// Four fields and no array: each line takes its own by name.
 #[derive(Clone, Copy)]
 pub struct Numbers {
     pub bad: bool,
@@ -86,17 +74,7 @@ pub struct Numbers {
 pub fn starts(w: &[u8], s: &[u8]) -> bool
     ensures { result ≡ starts_with w.now s.now }
 {
-    let mut i = 0;
-    while i < w.len() {
-        if s.len() <= i {
-            return false;
-        }
-        if w[i] != s[i] {
-            return false;
-        }
-        i += 1;
-    }
-    true
+    s.starts_with(w)
 }
 
 fn choose(t: bool, a: Word, b: Word) -> Word
@@ -138,6 +116,7 @@ fn word_at(s: &[u8]) -> Word
 }
 
 // How many bytes a word takes, with its space.
+// A table beside the literals of word_at: those are the byte strings compared at a line's start.
 fn width(w: Word) -> usize
     ensures { result ≡ length (word_bytes w) }
 {
@@ -165,6 +144,7 @@ fn width(w: Word) -> usize
 }
 
 // How many numbers follow a word.
+// A match and no number of the word: the paper's grammar has this table.
 fn arity(w: Word) -> u32
     ensures { result ≡ arity_of w }
 {
@@ -192,23 +172,23 @@ fn arity(w: Word) -> u32
 }
 
 // A decimal of the value value, if it has begun, goes on with the byte b.
-fn grow(begun: bool, value: u32, b: u8) -> Grown
+fn grow(begun: bool, value: u32, b: u8) -> Option<u32>
     ensures { result ≡ grown begun value b }
 {
     if b < 48 {
-        return Grown::Bad;
+        return None;
     }
     if 57 < b {
-        return Grown::Bad;
+        return None;
     }
     if begun & (value == 0) {
-        return Grown::Bad;
+        return None;
     }
     let v = (value as u64) * 10 + ((b - 48) as u64);
     if 4294967295 < v {
-        return Grown::Bad;
+        return None;
     }
-    Grown::Good(v as u32)
+    Some(v as u32)
 }
 
 fn one_more(count: u32) -> u32
@@ -237,7 +217,7 @@ impl Numbers {
         ensures { result ≡ with_grown self (grown self.begun self.value b) }
     {
         match grow(self.begun, self.value, b) {
-            Grown::Good(v) => Numbers {
+            Some(v) => Numbers {
                 bad: self.bad,
                 begun: true,
                 value: v,
@@ -247,7 +227,7 @@ impl Numbers {
                 c: self.c,
                 d: self.d,
             },
-            Grown::Bad => Numbers {
+            None => Numbers {
                 bad: true,
                 begun: true,
                 value: 0,
@@ -293,10 +273,8 @@ fn numbers_at(s: &[u8], at: usize) -> Numbers
     ensures { result ≡ numbers_of (drop at s.now) }
 {
     let mut n = Numbers::none();
-    let mut i = at;
-    while i < s.len() {
+    for i in at..s.len() {
         n = n.next(s[i]);
-        i += 1;
     }
     n.finish()
 }
@@ -349,21 +327,21 @@ pub fn read_line(s: &[u8]) -> Line
     line_of(w, n)
 }
 
-fn one_of(n: Numbers) -> One
+fn one_of(n: Numbers) -> Option<u32>
     ensures { result ≡ one_of n }
 {
     if n.bad | (n.count != 1) {
-        return One::Unreadable;
+        return None;
     }
-    One::Number(n.d)
+    Some(n.d)
 }
 
 // The one number after the word w, which has its space, for every text.
-pub fn read_one(w: &[u8], s: &[u8]) -> One
+pub fn read_one(w: &[u8], s: &[u8]) -> Option<u32>
     ensures { result ≡ read_one w.now s.now }
 {
     if (64 < s.len()) | !starts(w, s) {
-        return One::Unreadable;
+        return None;
     }
     one_of(numbers_at(s, w.len()))
 }

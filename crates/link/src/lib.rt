@@ -132,12 +132,10 @@ pub fn is_by_form(link: &[u64], j: u32, l: u32) -> bool
     if most < count {
         return false;
     }
-    let mut i = 0;
-    while i < count {
+    for i in 0..count {
         if !is_place_by_form(link, j, l, first, i) {
             return false;
         }
-        i += 1;
     }
     true
 }

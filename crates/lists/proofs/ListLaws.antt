@@ -10,13 +10,13 @@ use lib.Dec.{leb}
 use lib.ListN.{length, take, drop, set, length-append, length-set, length-drop}
 use lib.Seq.{take_all, take-suc-set, drop-drop, length-take-le}
 use borrow.Author.Tests.{le-leb, lt-leb, ne_eqb}
+use Rattle.std.proofs.Common.{Some, None}
 use Rattle.rules.specs.Pick.{pick_true, pick-false}
 use Rattle.rules.specs.Every.{each}
 use Rattle.scan.specs.Bytes.{index_of}
 use Rattle.laws.proofs.Logic.{and_yes, and_both}
 use Rattle.lists.specs.Lists.{up_to, behind, record_in, records_by, is_held, listed_as}
 use Rattle.lists.specs.Lists.{Reads}
-use Rattle.lists.specs.declared.Listed.{Listed}
 use Rattle.lists.proofs.PartLaws.{parted-more, parted-last, parted-first}
 
 -- ---- tests of each record
@@ -41,22 +41,22 @@ each-yes (x ∷ xs) r e h =
 
 module _ (room : ℕ) (rs : List ℕ) where
   pub listed-all : each is_held rs ≡ true → length rs ≤ room
-      → Listed.Records (length rs) ≡ listed_as room rs
+      → Some (length rs) ≡ listed_as room rs
   unfolding listed_as
   listed-all e h = sym (pick_true _ _ _ (and_both e (le-leb (length rs) room h)))
 
-  listed-bad : each is_held rs ≡ false → Listed.Unreadable ≡ listed_as room rs
+  listed-bad : each is_held rs ≡ false → None ≡ listed_as room rs
   unfolding listed_as
   listed-bad e = sym (pick-false _ _ _ (ap (λ b. b && leb (length rs) room) e))
 
-  listed-long : room < length rs → Listed.Unreadable ≡ listed_as room rs
+  listed-long : room < length rs → None ≡ listed_as room rs
   unfolding listed_as
   listed-long h =
       sym (pick-false _ _ _
       (ap (λ b. each is_held rs && b) (lt-leb (length rs) room h) ∙ and_no (each is_held rs)))
 
   unread : {o o' : List ℕ} → room ≡ length o → length o' ≡ length o
-      → Listed.Unreadable ≡ listed_as room rs → Reads rs o o' Listed.Unreadable
+      → None ≡ listed_as room rs → Reads rs o o' None
   unread {o} q w e = record {
     answer = e ∙ ap (λ k. listed_as k rs) q;
     records = λ n t. let z : ◌≡◌ {A = ℕ} 0 1 = cc in absurd (omega arith);
@@ -89,7 +89,7 @@ going_start s o = record {
 module _ {s o₀ o : List ℕ} {i n : ℕ} (g : Going s o₀ o i n) where
   -- a record that cannot be read
   pub going-bad : {r : ℕ} → r ≡ record_in (up_to 44 (drop i s)) → r ≡ 0
-      → Reads (records_by s) o₀ o Listed.Unreadable
+      → Reads (records_by s) o₀ o None
   going-bad {r} e z =
       let p = parted-first 44 (drop i s) in
       let rest = map record_in p.0 in
@@ -100,7 +100,7 @@ module _ {s o₀ o : List ℕ} {i n : ℕ} (g : Going s o₀ o i n) where
       (listed-bad (length o₀) (records_by s) (ap (each is_held) all ∙ each-no (take n o) rest))
 
   -- more records than there is room for
-  pub going-full : length o ≤ n → Reads (records_by s) o₀ o Listed.Unreadable
+  pub going-full : length o ≤ n → Reads (records_by s) o₀ o None
   going-full h =
       let p = parted-first 44 (drop i s) in
       let rest = map record_in p.0 in
@@ -128,7 +128,7 @@ module _ {s o₀ o : List ℕ} {i n : ℕ} (g : Going s o₀ o i n) where
       as_long = length-set o n r ∙ g.words
 
       pub going_end : length (drop i s) ≤ index_of 44 (drop i s)
-          → Reads (records_by s) o₀ (set o n r) (Listed.Records (n + 1))
+          → Reads (records_by s) o₀ (set o n r) (Some (n + 1))
       going_end h =
           let f = g.few in
           let w = as_long in
@@ -140,7 +140,7 @@ module _ {s o₀ o : List ℕ} {i n : ℕ} (g : Going s o₀ o i n) where
           ap length all ∙ length-take-le (n + 1) (set o n r) (omega arith) in
           record {
             answer =
-                ap Listed.Records (sym m)
+                ap Some (sym m)
                 ∙ listed-all (length o₀) (records_by s) (ap (each is_held) all
                 ∙ held) (omega arith);
             records = λ k t.

@@ -8,6 +8,7 @@ use native.Mathlib.Nat.{mod-lt}
 use lib.Dec.{eqb, ltb}
 use lib.ListN.{length, drop, length-append}
 use borrow.Author.Tests.{eqb-true, ne_eqb, ltb-true, lt-ltb, le-ltb, not-false}
+use Rattle.std.proofs.Common.{None}
 use Rattle.rules.specs.Pick.{pick, pick_true, pick-false}
 use Rattle.rules.specs.Every.{each}
 use Rattle.print.specs.Decimal.{decimal_of, decimal, spaced}
@@ -17,7 +18,6 @@ use Rattle.lines.specs.Table.{starts}
 use Rattle.lines.specs.Read.{no_numbers, numbers_of, one_of, read_one}
 use Rattle.lines.specs.Printed.{parted}
 use Rattle.lines.specs.declared.Numbers.{Numbers}
-use Rattle.lines.specs.declared.One.{One}
 use Rattle.lines.proofs.NumberLaws.{read-parted, last_of, small, numbers-read}
 use Rattle.lists.specs.Lists.{value_of, number_in}
 
@@ -47,7 +47,7 @@ number_is s some = go (decide (ltb 64 (length s) || not (starts [] s))) some
     n : Numbers
     n = numbers_of (drop 0 s)
 
-    whole : number_in s ≡ value_of (pick (ltb 64 (length s) || not (starts [] s)) One.Unreadable
+    whole : number_in s ≡ value_of (pick (ltb 64 (length s) || not (starts [] s)) None
         (one_of n))
     whole = refl
 

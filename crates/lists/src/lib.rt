@@ -14,7 +14,6 @@ ghost use Rattle.lists.specs.Lists.{
   is_none,
   RecordsRead,
   ListRead,
-  compared_with,
   compared,
   Weighed,
   list_text,
@@ -22,22 +21,7 @@ ghost use Rattle.lists.specs.Lists.{
   said_text,
 };
 
-use lines::One;
 use longer::Which;
-
-// How many records a list has, where it can be read and there is room for them.
-#[derive(Clone, Copy)]
-pub enum Listed {
-    Records(usize),
-    Unreadable,
-}
-
-// What is answered to a line.
-#[derive(Clone, Copy)]
-pub enum Said {
-    Is(Which),
-    Unreadable,
-}
 
 // Where the first byte b of s stands; its length where there is none.
 fn place_of(s: &[u8], b: u8) -> usize
@@ -69,14 +53,11 @@ fn behind(s: &[u8], b: u8) -> &[u8]
     &s[0..0]
 }
 
-// The number that s is, by the rules of a trace; 0 where it is none.
+// The number that s is, by the rules of a trace; 0 where it is none, as a record of 0 is none.
 fn number_in(s: &[u8]) -> u32
     ensures { result ≡ number_in s.now }
 {
-    match lines::read_one(b"", s) {
-        One::Number(x) => x,
-        One::Unreadable => 0,
-    }
+    lines::read_one(b"", s).unwrap_or(0)
 }
 
 fn record_from(left: u32, right: u32) -> u64
@@ -98,44 +79,40 @@ fn record_in(s: &[u8]) -> u64
 }
 
 // A list's records go to the front of words.
-fn read_records(s: &[u8], words: &mut [u64]) -> Listed
+fn read_records(s: &[u8], words: &mut [u64]) -> Option<usize>
     ensures { RecordsRead s.now words.old words.new result }
 {
     let mut i = 0;
-    let mut n = 0;
-    while n < words.len() {
+    for n in 0..words.len() {
         let t = &s[i..];
         let r = record_in(up_to(t, 44));
         if r == 0 {
-            return Listed::Unreadable;
+            return None;
         }
         words[n] = r;
-        n += 1;
         let e = place_of(t, 44);
         if t.len() <= e {
-            return Listed::Records(n);
+            return Some(n + 1);
         }
         i += e + 1;
     }
-    Listed::Unreadable
+    None
 }
 
 // `-`, the list that has no record.
 fn is_none(s: &[u8]) -> bool
     ensures { result ≡ is_none s.now }
 {
-    if s.len() != 1 {
-        return false;
-    }
-    s[0] == 45
+    s == b"-".as_slice()
 }
 
-// A list's records go to the front of words.
-pub fn read_list(s: &[u8], words: &mut [u64]) -> Listed
+// How many records a list has, where it can be read and there is room for them: they go to the
+// front of words.
+pub fn read_list(s: &[u8], words: &mut [u64]) -> Option<usize>
     ensures { ListRead s.now words.old words.new result }
 {
     if is_none(s) {
-        return Listed::Records(0);
+        return Some(0);
     }
     read_records(s, words)
 }
@@ -150,28 +127,18 @@ fn front(words: &[u64], n: usize) -> &[u64]
     words
 }
 
-// The records xs, and those of the second list.
-fn compare_with(xs: &[u64], y: Listed, b: &[u64]) -> Said
-    ensures { result ≡ compared_with xs.now y b.now }
-{
-    match y {
-        Listed::Records(m) => Said::Is(longer::longer_is(xs, front(b, m))),
-        Listed::Unreadable => Said::Unreadable,
-    }
-}
-
 // The records of both lists.
-fn compare(x: Listed, a: &[u64], y: Listed, b: &[u64]) -> Said
+fn compare(x: Option<usize>, a: &[u64], y: Option<usize>, b: &[u64]) -> Option<Which>
     ensures { result ≡ compared x a.now y b.now }
 {
-    match x {
-        Listed::Records(n) => compare_with(front(a, n), y, b),
-        Listed::Unreadable => Said::Unreadable,
-    }
+    let n = x?;
+    let m = y?;
+    Some(longer::longer_is(front(a, n), front(b, m)))
 }
 
-// Which list of the line is the longer; a and b are work room for the records.
-pub fn weigh(line: &[u8], a: &mut [u64], b: &mut [u64]) -> Said
+// Which list of the line is the longer, where it can be read; a and b are work room for the
+// records.
+pub fn weigh(line: &[u8], a: &mut [u64], b: &mut [u64]) -> Option<Which>
     ensures { Weighed (length a.old) (length b.old) line.now
         (length a.new) (length b.new) result }
 {
@@ -205,13 +172,13 @@ fn put_which(out: &mut [u8], line: &[u8], w: Which) -> usize
 }
 
 // The answer to the line, at the front of out.
-pub fn put_said(out: &mut [u8], line: &[u8], said: Said) -> usize
+pub fn put_said(out: &mut [u8], line: &[u8], said: Option<Which>) -> usize
     requires { length line.now + 11 ≤ length out.old }
     ensures { Wrote (length line.now + 11) out.old out.new 0 result
         (said_text line.now said) }
 {
     match said {
-        Said::Is(w) => put_which(out, line, w),
-        Said::Unreadable => print::put_bytes(out, 0, b"refused 11\n"),
+        Some(w) => put_which(out, line, w),
+        None => print::put_bytes(out, 0, b"refused 11\n"),
     }
 }

@@ -1,35 +1,18 @@
--- The loop over the shorter list, record by record.
-use Prim.Native.Nat.{ℕ, suc, ◌+◌, ◌<◌, ◌≤◌}
+-- Whether a list is the beginning of another: the library's test, and what it says.
+use Prim.Native.Nat.{ℕ, suc, ◌≤◌}
 use mathlib.Core.Path.{◌≡◌, refl, sym, ap, ◌∙◌}
-use mathlib.Core.Bool.{true, false}
+use mathlib.Core.Bool.{true, false, ◌&&◌}
 use mathlib.Core.List.{List, [], ◌∷◌}
-use native.Mathlib.Numerals.{add-one}
 use native.Mathlib.Omega.{arith}
 use lib.Dec.{eqb}
-use lib.ListN.{length, take, drop, get_or, drop_of_length-le}
-use lib.Seq.{drop-cons, get_or-take}
-use borrow.Author.Tests.{eq-eqb, ne_eqb, eqb-true, eqb-false}
+use lib.Pointwise.{pointwise}
+use lib.ListN.{length, take, get_or}
+use lib.Seq.{get_or-take}
+use borrow.Author.Tests.{eq-eqb, eqb-true, eqb-false}
 use Rattle.rules.specs.Pick.{pick_true, pick-false}
 use Rattle.laws.proofs.Logic.{Or, left, right, decide, both-no}
 use Rattle.longer.specs.Longer.{begins}
 use Rattle.longer.specs.Told.{DifferAt}
-
-module _ (xs ys : List ℕ) (i : ℕ) where
-  pub begins-on : i < length xs → i < length ys → get_or xs i 0 ≡ get_or ys i 0
-      → begins (drop i xs) (drop i ys) ≡ begins (drop (i + 1) xs) (drop (i + 1) ys)
-  unfolding begins
-  begins-on hx hy e =
-      rw (add-one, drop-cons xs i 0 hx, drop-cons ys i 0 hy) (pick_true _ _ _ (eq-eqb _ _ e))
-
-  pub begins-not : i < length xs → i < length ys → (get_or xs i 0 ≡ get_or ys i 0 → ⊥)
-      → begins (drop i xs) (drop i ys) ≡ false
-  unfolding begins
-  begins-not hx hy e =
-      rw (drop-cons xs i 0 hx, drop-cons ys i 0 hy) (pick-false _ _ _ (ne_eqb _ _ e))
-
-  pub begins-end : length xs ≤ i → begins (drop i xs) (drop i ys) ≡ true
-  unfolding begins
-  begins-end h = rw (drop_of_length-le xs h)
 
 -- ---- what the test says
 
@@ -40,6 +23,22 @@ on x y xs ys t = pick_true _ _ _ t
 stop : (x y : ℕ) (xs ys : List ℕ) → eqb x y ≡ false → begins (x ∷ xs) (y ∷ ys) ≡ false
 unfolding begins
 stop x y xs ys t = pick-false _ _ _ t
+
+-- the library's test of a list that is no longer
+pub starts-begins : (xs ys : List ℕ) → length xs ≤ length ys
+    → pointwise eqb xs (take (length xs) ys) ≡ begins xs ys
+unfolding begins
+starts-begins [] ys h = refl
+starts-begins (x ∷ xs) [] h = absurd (omega arith)
+starts-begins (x ∷ xs) (y ∷ ys) h = go (decide (eqb x y)) (starts-begins xs ys (omega arith))
+  where
+    go : Or (eqb x y ≡ true) (eqb x y ≡ false)
+        → pointwise eqb xs (take (length xs) ys) ≡ begins xs ys
+        → (eqb x y && pointwise eqb xs (take (length xs) ys)) ≡ begins (x ∷ xs) (y ∷ ys)
+    go (left t) e = ap (λ b. b && pointwise eqb xs (take (length xs) ys)) t ∙ e
+        ∙ sym (on x y xs ys t)
+    go (right f) e =
+        ap (λ b. b && pointwise eqb xs (take (length xs) ys)) f ∙ sym (stop x y xs ys f)
 
 abbrev Front : List ℕ → List ℕ → Type 0
 Front xs ys = (length xs ≤ length ys) × (take (length xs) ys ≡ xs)

@@ -6,7 +6,7 @@ ghost use Rattle.std.specs.Prelude.{◌≡◌, ◌≤◌, length};
 ghost use Rattle.longer.specs.Longer.{begins, longer_of, longer_number, Part, from_first};
 
 // Which of two lists is handed back: the first, the second, or neither, since a number that both
-// hold differs.
+// hold differs. An Option of a side would say the three no more plainly.
 #[derive(Clone, Copy)]
 pub enum Which {
     First,
@@ -19,14 +19,7 @@ fn is_beginning(shorter: &[u64], longer: &[u64]) -> bool
     requires { length shorter.now ≤ length longer.now }
     ensures { result ≡ begins shorter.now longer.now }
 {
-    let mut i = 0;
-    while i < shorter.len() {
-        if shorter[i] != longer[i] {
-            return false;
-        }
-        i += 1;
-    }
-    true
+    longer.starts_with(shorter)
 }
 
 // Which list is the longer, the first on equal length, provided that the shorter is its beginning.
@@ -64,6 +57,7 @@ pub fn longer<'a>(a: &'a [u64], b: &'a [u64]) -> &'a [u64]
 }
 
 // 1 and 2 for the first and the second list; the paper's 22 where they differ.
+// No `From`: the pages name this function.
 pub fn longer_number(is: Which) -> u32
     ensures { result ≡ longer_number is }
 {

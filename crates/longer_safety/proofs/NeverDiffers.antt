@@ -23,7 +23,7 @@ use Rattle.engine_safety.proofs.Filed.{Holds, holds-run}
 use Rattle.longer.specs.Longer.{longer_of}
 use Rattle.longer.specs.declared.Which.{Which}
 use Rattle.agreed.specs.Agreed.{agreed_records, box_at, agreed_in, agreed_on, records_on}
-use Rattle.agreed.specs.declared.Agreed.{Agreed}
+use Rattle.std.specs.Prelude.{Ok}
 use Rattle.agreed.proofs.PlaceLaws.{records-on}
 use Rattle.longer_safety.specs.NeverDiffers as specs
 use Rattle.longer_safety.specs.NeverDiffers.{longer_from, longer_of_boxes, longer_of_words}
@@ -108,7 +108,7 @@ at-two {n} {J} {L} g {h} {xs' = xs'} {ls' = ls'} p q =
 
 named-first : {n J L : ℕ} {xs ls : List ℕ} {calls : List Call} → Stands n J L xs ls calls → (b : ℕ)
     → In b n → (at : ℕ) × (count : ℕ)
-    × (agreed_on xs ls b ≡ Agreed.Kept (firsts_in xs ls b) at count)
+    × (agreed_on xs ls b ≡ Ok (record { first = firsts_in xs ls b; place = at; count = count }))
 unfolding agreed_on agreed_in
 named-first {xs} {ls} p b i =
     (_, _, pick_true _ _ _ p.form ∙ pick_true _ _ _ (p.is-box b i))

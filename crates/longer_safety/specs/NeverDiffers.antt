@@ -12,7 +12,7 @@ use Rattle.engine_safety.specs.Served.{Served, firsts_in}
 use Rattle.longer.specs.Longer.{longer_of, from_first}
 use Rattle.longer.specs.declared.Which.{Which}
 use Rattle.agreed.specs.Agreed.{agreed_records, agreed_on, records_on}
-use Rattle.agreed.specs.declared.Agreed.{Agreed}
+use Rattle.std.specs.Prelude.{Ok}
 
 -- two lists, each from the larger of the two first numbers on: which of them is handed back
 abbrev pub longer_from : ℕ → ℕ → List ℕ → List ℕ → Which
@@ -56,7 +56,8 @@ pub record NeverDiffers : Type 0 where
       → longer_of_words xs ls b xs' ls' d ≡ Which.Differs → ⊥
   -- `agreed_at` names the first number of each: nothing is refused, of a box of such words.
   pub named : {n J L : ℕ} {h : Talk} {xs ls : List ℕ} → Served n J L h xs ls → (b : ℕ) → In b n
-      → (at : ℕ) × (count : ℕ) × (agreed_on xs ls b ≡ Agreed.Kept (firsts_in xs ls b) at count)
+      → (at : ℕ) × (count : ℕ)
+      × (agreed_on xs ls b ≡ Ok (record { first = firsts_in xs ls b; place = at; count = count }))
   -- Not empty: in some run both lists have a record.
   pub not-empty : (calls : List Call)
       × (0 < length (agreed_records ((run (start 2 16 8) calls).box 1)))

@@ -91,9 +91,7 @@ pub fn elect_rows(site: &mut [u64], s: Setting, c: u32)
     ensures { RowsPut s (elected_boxes s c (boxes_of s site.old))
         site.old site.new }
 {
-    let mut b = 0;
-    while b < s.n {
-        b += 1;
+    for b in 1..=s.n {
         elect_row(site, s, b, c);
     }
 }
@@ -116,9 +114,7 @@ pub fn fresh_rows(site: &mut [u64], s: Setting)
     requires j_in_bounds { site_words s.n s.j ≤ length site.old }
     ensures { RowsPut s (λ b. fresh_box) site.old site.new }
 {
-    let mut b = 0;
-    while b < s.n {
-        b += 1;
+    for b in 1..=s.n {
         fresh_row(site, s, b);
     }
 }

@@ -62,9 +62,7 @@ fn are_rows_by_form(site: &[u64], s: Setting) -> bool
     ensures { result ≡ rows_form s site.now }
 {
     let mut leaders = 0;
-    let mut b = 0;
-    while b < s.n {
-        b += 1;
+    for b in 1..=s.n {
         if !is_row_by_form(site, s, b) {
             return false;
         }
@@ -88,12 +86,10 @@ fn are_links_by_form(links: &[u64], s: Setting) -> bool
     ensures { result ≡ links_form s links.now }
 {
     let count = places::link_count(s);
-    let mut k = 0;
-    while k < count {
+    for k in 0..count {
         if !is_link_by_form(links, s, k) {
             return false;
         }
-        k += 1;
     }
     true
 }

@@ -62,6 +62,8 @@ pub fn pop(links: &mut [u64], s: Setting, a: u32)
 }
 
 // The first mail from a to me stands twice on its link.
+// Not one function with `pop` over a closure: the two lines that are the same are less than the
+// clause of the closure would be.
 pub fn double(links: &mut [u64], s: Setting, a: u32)
     requires links_lent { LinksLent s links.old }
     requires me_value { is_link s.n a s.me ≡ true }
@@ -94,10 +96,8 @@ pub fn clear_links(links: &mut [u64], s: Setting)
     ensures { LinksPut s (λ a b. []) links.old links.new }
 {
     let count = places::link_count(s);
-    let mut k = 0;
-    while k < count {
+    for k in 0..count {
         clear_link(links, s, k);
-        k += 1;
     }
 }
 
@@ -123,9 +123,7 @@ pub fn has_room(links: &[u64], s: Setting, set: u32) -> bool
     requires me_value_2 { has set s.me ≡ false }
     ensures { result ≡ every s.n (room_for s links.now set) }
 {
-    let mut b = 0;
-    while b < s.n {
-        b += 1;
+    for b in 1..=s.n {
         if !has_room_for(links, s, set, b) {
             return false;
         }
@@ -155,9 +153,7 @@ fn send_all(links: &mut [u64], s: Setting, set: u32, m: Mail, records: &[u64])
         (posted (links_of s links.old) s.me (Out.To set m) records.now)
         links.old links.new }
 {
-    let mut b = 0;
-    while b < s.n {
-        b += 1;
+    for b in 1..=s.n {
         send_to(links, s, set, b, m, records);
     }
 }

@@ -26,10 +26,12 @@ use Rattle.row.proofs.IndexLaws.{Entered, entered-some, entered-more, entered_al
 use Rattle.row.proofs.IndexLaws.{release_all}
 use Rattle.row.proofs.PlayLaws.{play_booked, play_writes, play_booked_again, play_index, play_law}
 use Rattle.row.proofs.HeadLaws.{fresh_law, elect_law}
-use Rattle.own.specs.declared.Judged.{Judged}
+use Rattle.std.specs.Prelude.{⊤, Result, Ok, Err}
+use Rattle.rules.specs.declared.model.Refusal.{Refusal}
 use Rattle.own.specs.Entry.{own_box, own_letter, place_of, row_reads, place_reads, act_on, mail_on}
 use Rattle.own.specs.Entry.{Owned, row_of, fresh_on, elected_on, Told}
 use Rattle.own.specs.Lent.{Posts, Posted, Carries, Carried, Concludes, concluded, StillReads}
+use Rattle.own.specs.Lent.{passed}
 use Rattle.own.specs.Lent.{judged, elected_by}
 use Rattle.own.proofs.FormLaws.{Asks, act-asks, mail-asks}
 use Rattle.own.proofs.OrderLaws.{found, clear}
@@ -149,11 +151,11 @@ module _ (s : Setting) (r out : List ℕ) where
       asks : Asks s r no_mail false (own a) (row_reads s.j r)
       asks = act-asks s r no_mail a
 
-      go : (v : Judged) → found asks ≡ v → Given s (act_on s r a out) r out
-      go (Judged.Refused why) h =
+      go : (v : Result ⊤ Refusal) → found asks ≡ v → Given s (act_on s r a out) r out
+      go (Err why) h =
           let k = refused {out = out} {to = 0} asks h (refl, refl) in
           record { row = r; place = out; answer = _; to = 0; owned = k.0; reads = k.1 }
-      go Judged.Passed h =
+      go (Ok tt) h =
           let ok = clear asks h in
           let c = concludes s r no_mail out (turn_of s (own_box s r) (own a))
           (turn-concludes ok no_mail refl refl fits) in
@@ -173,11 +175,11 @@ module _ (s : Setting) (r out : List ℕ) where
           (row_reads s.j r && place_reads s.j p)
       asks = mail-asks s r p sender
 
-      go : (v : Judged) → found asks ≡ v → Given s (mail_on s r sender p out) r out
-      go (Judged.Refused why) h =
+      go : (v : Result ⊤ Refusal) → found asks ≡ v → Given s (mail_on s r sender p out) r out
+      go (Err why) h =
           let k = refused {out = out} {to = 0} asks h (refl, refl) in
           record { row = r; place = out; answer = _; to = 0; owned = k.0; reads = k.1 }
-      go Judged.Passed h =
+      go (Ok tt) h =
           let ok = clear asks h in
           let q = place_of s.j p in
           let c = concludes s r q out (turn_of s (own_box s r) (mail sender (own_letter s p)))
@@ -209,11 +211,12 @@ pub elected-given : (s : Setting) (r : List ℕ) (c : ℕ)
     → (q : List ℕ) × (a : Answer) × Told s.n s.j (elected_on s r c) r q a
 elected-given s r c = go (judged s r no_mail false (both_boxes s r no_mail c)) refl
   where
-    now-elected : judged s r no_mail false (both_boxes s r no_mail c) ≡ Judged.Passed → (v : Judged)
-        → ruled Judged.Refused (told_needs s c) Judged.Passed ≡ v
+    now-elected : judged s r no_mail false (both_boxes s r no_mail c) ≡ passed
+        → (v : Result ⊤ Refusal)
+        → ruled Err (told_needs s c) passed ≡ v
         → (q : List ℕ) × (a : Answer) × Told s.n s.j (elected_by s (own_box s r) c) r q a
-    now-elected h (Judged.Refused why) g = (r, Answer.Refused why, not-elected s r c g)
-    now-elected h Judged.Passed g =
+    now-elected h (Err why) g = (r, Answer.Refused why, not-elected s r c g)
+    now-elected h (Ok tt) g =
         let lent = elect-lent s r no_mail c h in (
           _,
           Answer.Done,
@@ -221,15 +224,15 @@ elected-given s r c = go (judged s r no_mail false (both_boxes s r no_mail c)) r
               (elect_law s c (row_of s.j r) lent.by_form _ _ _ _ refl refl refl refl),
         )
 
-    go : (v : Judged) → judged s r no_mail false (both_boxes s r no_mail c) ≡ v
+    go : (v : Result ⊤ Refusal) → judged s r no_mail false (both_boxes s r no_mail c) ≡ v
         → (q : List ℕ) × (a : Answer) × Told s.n s.j (elected_on s r c) r q a
-    go (Judged.Refused why) h = (
+    go (Err why) h = (
       r,
       Answer.Refused why,
       untold s.n s.j r (elected_on s r c) why (sym (elected-found s r no_mail c h)),
     )
-    go Judged.Passed h =
-        let t = now-elected h (ruled Judged.Refused (told_needs s c) Judged.Passed) refl in (
+    go (Ok tt) h =
+        let t = now-elected h (ruled Err (told_needs s c) passed) refl in (
           t.0,
           t.1,
           subst (λ (o : OwnOutcome). Told s.n s.j o r t.0 t.1)

@@ -14,7 +14,7 @@ use Rattle.laws.proofs.TurnForm.{EventFits}
 use Rattle.letter.specs.Place.{letter_at, head_words as letter_head}
 use Rattle.row.specs.Row.{row_width}
 use Rattle.row.specs.Lent.{RowByForm, PlaceByForm}
-use Rattle.own.specs.declared.Judged.{Judged}
+use Rattle.std.specs.Prelude.{Err}
 use Rattle.own.specs.Entry.{row_of, place_of, own_box, own_letter, row_reads, place_reads}
 use Rattle.own.specs.Entry.{own_on, Owned}
 use Rattle.own.specs.Lent.{Concludes, concluded, StillReads}
@@ -31,7 +31,7 @@ me_in s (mail sender y) h = (is-link {a = sender} {b = s.me} h).1
 -- 13, 1 or 2 is found, as the code answers it.
 pub refused : {s : Setting} {r p out : List ℕ} {mailed : Bool} {e : Event} {reads : Bool}
     {why : Refusal} {a : Answer} {to : ℕ} (asks : Asks s r p mailed e reads)
-    → found asks ≡ Judged.Refused why → (a ≡ Answer.Refused why) × (to ≡ 0)
+    → found asks ≡ Err why → (a ≡ Answer.Refused why) × (to ≡ 0)
     → Owned s (own_on s (own_box s r) reads e out) r out r out a to × StillReads s r r out to
 refused {s} {r} {out = out} {why = why} asks h answered =
     rw (answered.0, answered.1)

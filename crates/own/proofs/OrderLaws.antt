@@ -10,41 +10,41 @@ use Rattle.rules.specs.Box.{Box, Event, own, turn_of, brought}
 use Rattle.rules.specs.Site.{is_box}
 use Rattle.rules.specs.Own.{unmoved, own_turn, form_own, right_numbers, own_step, quiet_needs}
 use Rattle.rules.specs.Unheard.{unheard_by, own_unheard}
-use Rattle.rules.specs.declared.model.Unheard.{Unheard}
 use Rattle.laws.proofs.Types.{Act, Answer, Refusal, Setting}
 use Rattle.laws.proofs.Logic.{Passed, true≠false, and4}
 use Rattle.laws.proofs.StepLaws.{mets, by_needs}
-use Rattle.own.specs.declared.Judged.{Judged}
+use Rattle.std.specs.Prelude.{⊤, Result, Ok, Err}
 use Rattle.own.specs.Entry.{own_box, row_reads, if_read, own_on, unheard_on, buffered}
-use Rattle.own.specs.Lent.{row_test, place_test, in_order, judged}
+use Rattle.own.specs.Lent.{row_test, place_test, in_order, judged, passed}
 use Rattle.own.proofs.FormLaws.{Asks, act-asks}
 
 -- what comes of it: a refusal, or a
-abbrev pub by {ℓ} : {A : Type ℓ} → (Refusal → A) → A → Judged → A
-by refuse a Judged.Passed = a
-by refuse a (Judged.Refused why) = refuse why
+abbrev pub by {ℓ} : {A : Type ℓ} → (Refusal → A) → A → Result ⊤ Refusal → A
+by refuse a (Ok tt) = a
+by refuse a (Err why) = refuse why
 
 -- Every need is met where none refuses.
-all-met : (ks : List Need) → ruled Judged.Refused ks Judged.Passed ≡ Judged.Passed
+all-met : (ks : List Need) → ruled Err ks passed ≡ passed
     → Passed (mets ks)
 all-met ks =
-    by_needs (λ v. v ≡ Judged.Passed → Passed (mets ks)) Judged.Refused ks Judged.Passed
+    by_needs (λ v. v ≡ passed → Passed (mets ks)) Err ks passed
     (λ why e. absurd (true≠false (sym (ap (by (λ w. false) true) e))))
     (λ p e. p)
 
 -- What refuses is what is judged.
-one-more {ℓ} : {A : Type ℓ} (refuse : Refusal → A) (a more : A) (rest : Judged) (why : Refusal)
+one-more {ℓ} : {A : Type ℓ} (refuse : Refusal → A) (a more : A) (rest : Result ⊤ Refusal)
+    (why : Refusal)
     (met : Bool) → more ≡ by refuse a rest
-    → cond met more (refuse why) ≡ by refuse a (cond met rest (Judged.Refused why))
+    → cond met more (refuse why) ≡ by refuse a (cond met rest (Err why))
 one-more refuse a more rest why true e = e
 one-more refuse a more rest why false e = refl
 
 pub judged-by {ℓ} : {A : Type ℓ} (refuse : Refusal → A) (a : A) (ks : List Need)
-    → ruled refuse ks a ≡ by refuse a (ruled Judged.Refused ks Judged.Passed)
+    → ruled refuse ks a ≡ by refuse a (ruled Err ks passed)
 unfolding ruled
 judged-by refuse a [] = refl
 judged-by refuse a (k ∷ ks) =
-    one-more refuse a (ruled refuse ks a) (ruled Judged.Refused ks Judged.Passed) k.why k.met
+    one-more refuse a (ruled refuse ks a) (ruled Err ks passed) k.why k.met
     (judged-by refuse a ks)
 
 -- Words that cannot be read are not by form; sizes come first.
@@ -53,7 +53,7 @@ module _ {ℓ κ} {A : Type ℓ} {B : Type κ} (f : A → B) (refuse : Refusal �
       → cond (reads || not sizes) (f (ruled refuse (in_order sizes form numbers) a))
       (f (refuse Refusal.Form))
       ≡ by (λ why. f (refuse why)) (f a)
-      (ruled Judged.Refused (in_order sizes (reads && form) numbers) Judged.Passed)
+      (ruled Err (in_order sizes (reads && form) numbers) passed)
   unfolding ruled
   first_found false true form numbers = refl
   first_found false false form numbers = refl
@@ -79,10 +79,10 @@ module _ {s : Setting} {r p : List ℕ} {mailed : Bool} {e : Event} {reads : Boo
   abbrev x : Box
   x = own_box s r
 
-  abbrev pub found : Judged
+  abbrev pub found : Result ⊤ Refusal
   found = judged s r p mailed (right_numbers s e)
 
-  pub own-found : {v : Judged} → found ≡ v → (out : List ℕ) → own_on s x reads e out
+  pub own-found : {v : Result ⊤ Refusal} → found ≡ v → (out : List ℕ) → own_on s x reads e out
       ≡ by (λ why. unmoved x (Answer.Refused why))
       (buffered s x out (own_turn (turn_of s x e).answer x (turn_of s x e) (brought e)))
       v
@@ -92,7 +92,7 @@ module _ {s : Setting} {r p : List ℕ} {mailed : Bool} {e : Event} {reads : Boo
       (first_found (buffered s x out) (λ why. unmoved x (Answer.Refused why)) _
       (sizes_form s.n s.j s.l) reads (form_own s x e) (right_numbers s e))
 
-  pub clear : found ≡ Judged.Passed → Clear s r p mailed e reads
+  pub clear : found ≡ passed → Clear s r p mailed e reads
   unfolding judged
   clear h =
       let t = all-met _ h in
@@ -108,7 +108,7 @@ module _ {s : Setting} {r p : List ℕ} {mailed : Bool} {e : Event} {reads : Boo
 
 -- None of these is found before what sends nothing.
 pub asked : (s : Setting) (r p : List ℕ) (numbers : Bool)
-    → judged s r p false numbers ≡ Judged.Passed
+    → judged s r p false numbers ≡ passed
     → (sizes_form s.n s.j s.l ≡ true) × (row_test s r ≡ true) × (numbers ≡ true)
 unfolding judged
 asked s r p numbers h =
@@ -118,7 +118,7 @@ asked s r p numbers h =
 -- What a box is told or asked that sends nothing, after the same; `more` is needed then.
 module _ {ℓ} {A : Type ℓ} (refuse : Refusal → A) (s : Setting) (r p : List ℕ) (numbers : Bool)
     (more : List Need) (a : A) where
-  pub told-found : {v : Judged} → judged s r p false numbers ≡ v
+  pub told-found : {v : Result ⊤ Refusal} → judged s r p false numbers ≡ v
       → by refuse (ruled refuse more a) v
       ≡ if_read s (row_reads s.j r) (ruled refuse (quiet_needs s (own_box s r) numbers more) a)
       (refuse Refusal.Form)
@@ -130,9 +130,9 @@ module _ {ℓ} {A : Type ℓ} (refuse : Refusal → A) (s : Setting) (r p : List
       (form_own s (own_box s r) (own Act.Recover)) numbers))
 
 -- Which present boxes have not answered its lease.
-pub unheard-found : (s : Setting) (r p : List ℕ) {v : Judged}
+pub unheard-found : (s : Setting) (r p : List ℕ) {v : Result ⊤ Refusal}
     → judged s r p false (is_box s.n s.me) ≡ v
-    → by Unheard.Refused (unheard_by (own_box s r).head s) v ≡ unheard_on s r
+    → by Err (unheard_by (own_box s r).head s) v ≡ unheard_on s r
 unfolding unheard_on own_unheard ruled
 unheard-found s r p h =
-    told-found Unheard.Refused s r p (is_box s.n s.me) [] (unheard_by (own_box s r).head s) h
+    told-found Err s r p (is_box s.n s.me) [] (unheard_by (own_box s r).head s) h

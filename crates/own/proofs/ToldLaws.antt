@@ -20,9 +20,9 @@ use Rattle.laws.proofs.Logic.{both-no, and_yes, and_both}
 use Rattle.laws.proofs.FormLaws.{sizes-says, is-box}
 use Rattle.row.specs.Row.{box_of, row_width}
 use Rattle.row.specs.Lent.{RowHolds, FreshRow}
-use Rattle.own.specs.declared.Judged.{Judged}
+use Rattle.std.specs.Prelude.{⊤, Result, Err}
 use Rattle.own.specs.Entry.{row_of, own_box, row_reads, fresh_on, elected_on, holds_on, Told}
-use Rattle.own.specs.Lent.{judged, RowLent, elected_by}
+use Rattle.own.specs.Lent.{judged, RowLent, elected_by, passed}
 use Rattle.own.proofs.FormLaws.{own_row}
 use Rattle.own.proofs.OrderLaws.{by, judged-by, told-found, asked}
 use Rattle.own.proofs.OwnedLaws.{front-is, front-past}
@@ -113,7 +113,7 @@ module _ (s : Setting) (r : List ℕ) (c : ℕ) where
   abbrev outcome : OwnOutcome
   outcome = elected_by s (own_box s r) c
 
-  module _ {v : Judged} (h : ruled Judged.Refused (told_needs s c) Judged.Passed ≡ v) where
+  module _ {v : Result ⊤ Refusal} (h : ruled Err (told_needs s c) passed ≡ v) where
     comes : outcome ≡ by (λ why. unmoved (own_box s r) (Answer.Refused why))
         (unmoved (elected_box s c (own_box s r)) Answer.Done) v
     comes =
@@ -122,11 +122,11 @@ module _ (s : Setting) (r : List ℕ) (c : ℕ) where
         (unmoved (elected_box s c (own_box s r)) Answer.Done)) h
 
   pub not-elected : {why : Refusal}
-      → ruled Judged.Refused (told_needs s c) Judged.Passed ≡ Judged.Refused why
+      → ruled Err (told_needs s c) passed ≡ Err why
       → Told s.n s.j outcome r r (Answer.Refused why)
   not-elected {why} h = untold s.n s.j r outcome why (comes h)
 
-  pub was-elected : ruled Judged.Refused (told_needs s c) Judged.Passed ≡ Judged.Passed
+  pub was-elected : ruled Err (told_needs s c) passed ≡ passed
       → RowLent s r → (end : ℕ) → end ≡ row_width s.j → (q : List ℕ)
       → RowHolds s.n s.j (elected_box s c (box_of s.n (take end r))) (take end r) q
       → Told s.n s.j outcome r (q ++ drop end r) Answer.Done
@@ -135,7 +135,7 @@ module _ (s : Setting) (r : List ℕ) (c : ℕ) where
       q (rw ee at holds)
 
 module _ (s : Setting) (r p : List ℕ) where
-  pub told-lent : (numbers : Bool) → judged s r p false numbers ≡ Judged.Passed
+  pub told-lent : (numbers : Bool) → judged s r p false numbers ≡ passed
       → is_box s.n s.me ≡ true → RowLent s r
   told-lent numbers h me =
       let t = asked s r p numbers h in
@@ -150,7 +150,7 @@ module _ (s : Setting) (r p : List ℕ) where
     abbrev pub both_boxes : Bool
     both_boxes = is_box s.n s.me && is_box s.n c
 
-    module _ {v : Judged} (h : judged s r p false both_boxes ≡ v) where
+    module _ {v : Result ⊤ Refusal} (h : judged s r p false both_boxes ≡ v) where
       pub elected-found : by (λ why. unmoved (own_box s r) (Answer.Refused why))
           (elected_by s (own_box s r) c) v ≡ elected_on s r c
       unfolding elected_on own_elected
@@ -158,7 +158,7 @@ module _ (s : Setting) (r p : List ℕ) where
           told-found (λ why. unmoved (own_box s r) (Answer.Refused why)) s r p both_boxes
           (told_needs s c) (unmoved (elected_box s c (own_box s r)) Answer.Done) h
 
-    module _ (h : judged s r p false both_boxes ≡ Judged.Passed) where
+    module _ (h : judged s r p false both_boxes ≡ passed) where
       both : (is_box s.n s.me ≡ true) × (is_box s.n c ≡ true)
       both =
           and_yes (is_box s.n s.me) (is_box s.n c)
@@ -176,7 +176,8 @@ module _ (s : Setting) (r p : List ℕ) where
             (sizes-says (asked s r p both_boxes h).0).few-boxes,
           )
 
-  module _ (k left right : ℕ) {v : Judged} (h : judged s r p false (is_box s.n s.me) ≡ v) where
+  module _ (k left right : ℕ) {v : Result ⊤ Refusal}
+      (h : judged s r p false (is_box s.n s.me) ≡ v) where
     pub holds-found : by Answer.Refused
         (cond (agreed_as (own_box s r) k left right) Answer.Done (Answer.Refused Refusal.Untrue)) v
         ≡ holds_on s r k left right

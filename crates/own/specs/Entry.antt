@@ -1,5 +1,6 @@
 -- The box by itself in lent words: its row, its setting, one event in; the row, one letter and its
 -- receivers out.
+use Rattle.std.specs.Prelude.{Result, Err}
 use Rattle.std.specs.Prelude.{ℕ, ◌+◌, ◌≡◌, Bool, true, false, not, ◌&&◌, ◌||◌, cond, List, [], ◌∷◌}
 use Rattle.std.specs.Prelude.{eqb, leb, ltb, length, take, drop}
 use Rattle.rules.specs.Sizes.{sizes_form}
@@ -11,7 +12,6 @@ use Rattle.rules.specs.declared.model.Act.{Act}
 use Rattle.rules.specs.declared.model.Answer.{Answer}
 use Rattle.rules.specs.declared.model.Refusal.{Refusal}
 use Rattle.rules.specs.declared.model.Setting.{Setting}
-use Rattle.rules.specs.declared.model.Unheard.{Unheard}
 use Rattle.letter.specs.Place.{letter_at, place_fits, head_words as letter_head}
 use Rattle.row.specs.Row.{box_of, row_fits, row_width}
 
@@ -62,9 +62,9 @@ mail_on s r sender p out =
     (mail sender (own_letter s p)) out
 
 -- which present boxes have not answered its lease
-unfoldable pub unheard_on : Setting → List ℕ → Unheard
+unfoldable pub unheard_on : Setting → List ℕ → Result ℕ Refusal
 unheard_on s r =
-    if_read s (row_reads s.j r) (own_unheard s (own_box s r)) (Unheard.Refused Refusal.Form)
+    if_read s (row_reads s.j r) (own_unheard s (own_box s r)) (Err Refusal.Form)
 
 -- a fresh box in the words of a row, whatever they were: 12 where they are too few, after 13
 unfoldable pub fresh_on : ℕ → ℕ → ℕ → List ℕ → OwnOutcome

@@ -17,7 +17,7 @@ use Rattle.letter.specs.Place.{letter_at, place_fits, head_words as letter_head}
 use Rattle.letter.specs.Lent.{Encloses}
 use Rattle.row.specs.Row.{box_of, row_width}
 use Rattle.row.specs.Lent.{RowByForm, Plays, Played}
-use Rattle.own.specs.declared.Judged.{Judged}
+use Rattle.std.specs.Prelude.{⊤, Result, Ok, Err}
 use Rattle.own.specs.Entry.{row_of, own_box, own_letter, row_reads, place_reads, buffered}
 
 -- the row can be read, and the box that it holds is by form
@@ -39,13 +39,17 @@ abbrev pub in_order : Bool → Bool → Bool → List Need
 in_order sizes form numbers =
     need Refusal.Sizes sizes ∷ need Refusal.Form form ∷ need Refusal.Box numbers ∷ []
 
+-- nothing is refused before a turn
+abbrev pub passed : Result ⊤ Refusal
+passed = Ok tt
+
 -- which of these refuses a step of its own, or where `mailed` a mail in the place p
-unfoldable pub judged : Setting → List ℕ → List ℕ → Bool → Bool → Judged
+unfoldable pub judged : Setting → List ℕ → List ℕ → Bool → Bool → Result ⊤ Refusal
 judged s r p mailed numbers =
-    ruled Judged.Refused
+    ruled Err
     (in_order (sizes_form s.n s.j s.l)
     (form_test s r p mailed) numbers)
-    Judged.Passed
+    passed
 
 -- a box's own row r is by form: it can be told of an election, and asked
 pub record RowLent (s : Setting) (r : List ℕ) : Type 0 where

@@ -21,7 +21,7 @@ ghost use Rattle.own.specs.Lent.{
   StillReads,
 };
 
-use rules::model::{Act, Answer, Mail, Out, Refusal, Setting, Turn, Unheard};
+use rules::model::{Act, Answer, Mail, Out, Refusal, Setting, Turn};
 use rules::{answers, ranges};
 
 mod told;
@@ -33,13 +33,6 @@ pub use told::{elected, fresh, holds};
 pub struct Sent {
     pub answer: Answer,
     pub to: u32,
-}
-
-// What comes before a turn: a refusal, or nothing.
-#[derive(Clone, Copy)]
-enum Judged {
-    Passed,
-    Refused(Refusal),
 }
 
 fn refused(why: Refusal) -> Sent
@@ -102,26 +95,32 @@ fn is_formed(row: &[u64], letter: &[u64], s: Setting, mailed: bool) -> bool
     requires { sizes_form s.n s.j s.l ≡ true }
     ensures { result ≡ form_test s row.now letter.now mailed }
 {
-    let present = values::is_set(s.n, values::wide(s.present));
+    let present = values::is_set(s.n, u64::from(s.present));
     let own = is_row(row, s);
     let read = is_letter(letter, s);
     (1 <= s.epoch) & (s.epoch <= 1000000) & present & own & (!mailed | read)
 }
 
-// 13, 1 and 2, in this order.
-fn judge(row: &[u64], letter: &[u64], s: Setting, mailed: bool, numbers: bool) -> Judged
+// What comes before a turn: 13, 1 and 2, in this order.
+fn judge(
+    row: &[u64],
+    letter: &[u64],
+    s: Setting,
+    mailed: bool,
+    numbers: bool,
+) -> Result<(), Refusal>
     ensures { result ≡ judged s row.now letter.now mailed numbers }
 {
     if !are_sizes(s) {
-        return Judged::Refused(Refusal::Sizes);
+        return Err(Refusal::Sizes);
     }
     if !is_formed(row, letter, s, mailed) {
-        return Judged::Refused(Refusal::Form);
+        return Err(Refusal::Form);
     }
     if numbers {
-        return Judged::Passed;
+        return Ok(());
     }
-    Judged::Refused(Refusal::Box)
+    Err(Refusal::Box)
 }
 
 // 12 where the turn goes on and the place for its letter has too few words.
@@ -205,8 +204,8 @@ pub fn act(row: &mut [u64], out: &mut [u64], s: Setting, a: Act) -> Sent
     let nothing = [0; letter::HEAD];
     let came = judge(row, &nothing, s, false, ranges::is_box(s.n, s.me));
     match came {
-        Judged::Refused(why) => refused(why),
-        Judged::Passed => {
+        Err(why) => refused(why),
+        Ok(()) => {
             let t = row::act_turn(used_row(row, s.j), s, a);
             conclude(row, &nothing, out, s, t)
         }
@@ -214,14 +213,14 @@ pub fn act(row: &mut [u64], out: &mut [u64], s: Setting, a: Act) -> Sent
 }
 
 // Which present boxes have not answered its lease.
-pub fn unheard(row: &[u64], s: Setting) -> Unheard
+pub fn unheard(row: &[u64], s: Setting) -> Result<u32, Refusal>
     ensures { result ≡ unheard_on s row.now }
 {
     let nothing = [0; letter::HEAD];
     let came = judge(row, &nothing, s, false, ranges::is_box(s.n, s.me));
     match came {
-        Judged::Refused(why) => Unheard::Refused(why),
-        Judged::Passed => {
+        Err(why) => Err(why),
+        Ok(()) => {
             let head = row::load(used_row(row, s.j), s.n);
             head.unheard(s)
         }
@@ -237,8 +236,8 @@ pub fn mail(row: &mut [u64], letter: &[u64], out: &mut [u64], s: Setting, sender
 {
     let came = judge(row, letter, s, true, ranges::is_link(s.n, sender, s.me));
     match came {
-        Judged::Refused(why) => refused(why),
-        Judged::Passed => {
+        Err(why) => refused(why),
+        Ok(()) => {
             let read = used_place(letter, s.j);
             let t = row::mail_turn(used_row(row, s.j), read, s, sender);
             conclude(row, read, out, s, t)

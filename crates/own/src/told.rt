@@ -1,12 +1,12 @@
 // A box by itself is started, told of an election, and asked what it holds.
-ghost use Rattle.std.specs.Prelude.{◌≡◌, cond, ◌≤◌};
+ghost use Rattle.std.specs.Prelude.{◌≡◌, cond, ◌≤◌, Err};
 ghost use Rattle.rules.specs.Sizes.{most_boxes};
 ghost use Rattle.rules.specs.Needs.{ruled};
 ghost use Rattle.rules.specs.Own.{told_needs};
 ghost use Rattle.own.specs.Entry.{own_box, fresh_on, elected_on, holds_on, Told};
-ghost use Rattle.own.specs.Lent.{RowLent, elected_by};
+ghost use Rattle.own.specs.Lent.{RowLent, elected_by, passed};
 
-use crate::{Judged, judge, used_row};
+use crate::{judge, used_row};
 use rules::model::{Answer, Refusal, Setting};
 use rules::{ranges, sets};
 
@@ -26,21 +26,21 @@ pub fn fresh(row: &mut [u64], n: u32, j: u32, l: u32) -> Answer
 }
 
 // 3 and 4, in this order, of what there is to know after an election of c.
-fn judge_election(s: Setting, c: u32) -> Judged
+fn judge_election(s: Setting, c: u32) -> Result<(), Refusal>
     requires { c ≤ most_boxes }
-    ensures { result ≡ ruled Judged.Refused (told_needs s c) Judged.Passed }
+    ensures { result ≡ ruled Err (told_needs s c) passed }
 {
     let majority = s.n / 2 + 1;
     if !sets::is_even(s.epoch) {
-        return Judged::Refused(Refusal::Condition);
+        return Err(Refusal::Condition);
     }
     if !sets::has(s.present, c) {
-        return Judged::Refused(Refusal::Condition);
+        return Err(Refusal::Condition);
     }
     if majority <= sets::count(s.present) {
-        return Judged::Passed;
+        return Ok(());
     }
-    Judged::Refused(Refusal::Majority)
+    Err(Refusal::Majority)
 }
 
 // The row holds the box when c is elected, or nothing is done.
@@ -52,8 +52,8 @@ fn elect(row: &mut [u64], s: Setting, c: u32) -> Answer
 {
     let came = judge_election(s, c);
     match came {
-        Judged::Refused(why) => Answer::Refused(why),
-        Judged::Passed => {
+        Err(why) => Answer::Refused(why),
+        Ok(()) => {
             let end = row::row_width(s.j);
             row::elect(&mut row[0..end], s, c);
             Answer::Done
@@ -70,8 +70,8 @@ pub fn elected(row: &mut [u64], s: Setting, c: u32) -> Answer
     let numbers = ranges::is_box(s.n, s.me) & ranges::is_box(s.n, c);
     let came = judge(row, &nothing, s, false, numbers);
     match came {
-        Judged::Refused(why) => Answer::Refused(why),
-        Judged::Passed => elect(row, s, c),
+        Err(why) => Answer::Refused(why),
+        Ok(()) => elect(row, s, c),
     }
 }
 
@@ -92,8 +92,8 @@ pub fn holds(row: &[u64], s: Setting, k: u32, left: u32, right: u32) -> Answer
     let nothing = [0; letter::HEAD];
     let came = judge(row, &nothing, s, false, ranges::is_box(s.n, s.me));
     match came {
-        Judged::Refused(why) => Answer::Refused(why),
-        Judged::Passed => {
+        Err(why) => Answer::Refused(why),
+        Ok(()) => {
             let read = used_row(row, s.j);
             if_true(row::is_agreed(read, s, k, left, right))
         }

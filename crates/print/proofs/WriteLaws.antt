@@ -1,12 +1,13 @@
 -- Laws of writing text at a place.
-use Prim.Native.Nat.{ℕ, suc, ◌+◌, ◌/◌, ◌%◌, ◌<◌, ◌≤◌}
+use Prim.Native.Nat.{ℕ, suc, ◌+◌, ◌-◌, ◌/◌, ◌%◌, ◌<◌, ◌≤◌}
 use mathlib.Core.Path.{◌≡◌, refl, ap, sym, ◌∙◌, subst}
 use mathlib.Core.List.{List, [], ◌∷◌, ◌++◌}
-use native.Mathlib.Numerals.{add-one}
 use native.Mathlib.Omega.{arith}
 use native.Mathlib.Nat.{add-zero, add-suc, suc-add}
-use lib.ListN.{length, take, get_or, set, length-append, length-set}
-use lib.Seq.{sets, take-suc, take_all}
+use borrow.Rule.Slice.PartMut.{put_mid}
+use lib.ListN.{length, take, drop, set, length-append}
+use lib.Seq.{sets, sets-eq, length-sets, take_all}
+use Rattle.std.proofs.lemmas.Slice.{put_mid-paste}
 use Rattle.io.specs.Digits.{last_digits, IsDigitCount}
 use Rattle.print.specs.Decimal.{decimal}
 use Rattle.print.specs.Text.{Wrote}
@@ -41,33 +42,23 @@ spelled {m} {i} {j} {a} {b} e w = subst (λ s. Wrote m a b i j s) e w
 pub at_most : {m n i j : ℕ} {a b s : List ℕ} → m ≤ n → Wrote m a b i j s → Wrote n a b i j s
 at_most h w = record { bytes = w.bytes; end = w.end; few = omega arith; room = w.room }
 
--- a loop that writes a list byte by byte: before it, one turn of it, and after it
-pub none-yet : (a : List ℕ) (i : ℕ) → Wrote 0 a a i (i + 0) []
-none-yet a i = record { bytes = refl; end = refl; few = omega arith; room = refl }
-
-pub one-more : (src : List ℕ) (i : ℕ) {a b : List ℕ} {at : ℕ} → i < length src
-    → Wrote i a b at (at + i) (take i src)
-    → Wrote (i + 1) a (set b (at + i) (get_or src i 0)) at (at + (i + 1)) (take (i + 1) src)
-one-more src i {a} {b} {at} h w =
-    let after = set b (at + i) (get_or src i 0) in
-    let one : Wrote 1 b after (at + i) (at + (i + 1)) (get_or src i 0 ∷ []) =
+-- a text copied to its place at once
+pub copied : (src part : List ℕ) (at : ℕ) {before : List ℕ} → part ≡ src
+    → at + length src ≤ length before
+    → Wrote (length src) before (put_mid at (at + length src - at) before part) at (at + length src)
+    src
+copied src part at {before} e room =
+    let n = length src in
+    let width : n ≡ at + n - at = omega arith in
+    let pasted = put_mid-paste at (at + n - at) before part src n e width refl in
+    let whole = ap (λ l. take at before ++ l ++ drop (at + n) before) (take_all n src (omega arith))
+    in
+    let same = pasted ∙ (whole ∙ sym (sets-eq src before at room)) in
     record {
-      bytes = refl;
-      end = omega arith;
+      bytes = same;
+      end = refl;
       few = omega arith;
-      room = length-set b (at + i) (get_or src i 0);
-    } in
-    spelled (sym (rw add-one (take-suc src i 0 h))) (then w one)
-
-pub all-written : (src : List ℕ) (i : ℕ) {a b : List ℕ} {at : ℕ} → length src ≤ i
-    → i ≤ length src → Wrote i a b at (at + i) (take i src)
-    → Wrote (length src) a b at (at + i) src
-all-written src i {a} {b} {at} h k w =
-    record {
-      bytes = w.bytes ∙ ap (sets a at) (take_all i src h);
-      end = omega arith;
-      few = omega arith;
-      room = w.room;
+      room = ap length same ∙ length-sets before at src;
     }
 
 -- what the kit's `decimal` left in t is the decimal of x

@@ -20,12 +20,9 @@ pub fn put_bytes(out: &mut [u8], at: usize, src: &[u8]) -> usize
     ensures { Wrote (length src.now)
         out.old out.new at result src.now }
 {
-    let mut i = 0;
-    while i < src.len() {
-        out[at + i] = src[i];
-        i += 1;
-    }
-    at + i
+    let end = at + src.len();
+    out[at..end].copy_from_slice(src);
+    end
 }
 
 // The first n bytes of text.
@@ -47,6 +44,7 @@ fn put_long(out: &mut [u8], at: usize, x: u64) -> usize
 }
 
 // Most numbers that a replay prints have one digit or two: they go to their place at once.
+// By hand over io::decimal: Display writes to a stream, and not into a lent slice.
 pub fn put_decimal(out: &mut [u8], at: usize, x: u64) -> usize
     requires { at + 20 ≤ length out.old }
     ensures { Wrote 20 out.old out.new at result (decimal x) }

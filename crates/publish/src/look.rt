@@ -1,5 +1,4 @@
 // The first reading: can every line be read, and does each have a name.
-use crate::pieces::{Piece, least};
 use crate::run::{Run, Stage};
 use crate::{pieces, say, way};
 use renamed::judge;
@@ -9,16 +8,19 @@ use wording::put;
 
 // The lines of part; of the first that has no name the text goes into shown.
 fn look_at<S: Streams>(rt: &S, back: bool, part: &[u8], shown: &mut [u8], run: Run) -> Run {
-    let j = judge::judge(run.judged(), part, way::from(back), way::to(back));
-    if j.unreadable != 0 {
-        let k = std::num::wrapping_sub_u64(std::num::wrapping_sub_u64(j.unreadable, run.lines), 1);
-        say::unreadable(rt, back, j.unreadable, pieces::from_line(part, k));
+    let j = judge::judge(run.judged, part, way::from(back), way::to(back));
+    if let Some(line) = j.unreadable {
+        let k = line.wrapping_sub(run.judged.lines).wrapping_sub(1);
+        say::unreadable(rt, back, line, pieces::from_line(part, k));
         return run.with_judged(j, 0).with_stage(Stage::Refused);
     }
-    if (run.unnamed != 0) | (j.unnamed == 0) {
+    if run.judged.unnamed.is_some() {
         return run.with_judged(j, run.shown);
     }
-    let k = std::num::wrapping_sub_u64(std::num::wrapping_sub_u64(j.unnamed, run.lines), 1);
+    let Some(line) = j.unnamed else {
+        return run.with_judged(j, run.shown);
+    };
+    let k = line.wrapping_sub(run.judged.lines).wrapping_sub(1);
     let n = put::put(shown, 0, pieces::first_line(pieces::from_line(part, k)));
     run.with_judged(j, n)
 }
@@ -32,7 +34,7 @@ fn look_lines<S: Streams>(
     shown: &mut [u8],
     run: Run,
 ) -> Run {
-    let n = least(n, piece.len());
+    let n = n.min(piece.len());
     let e = pieces::whole(&piece[0..n]);
     let r = look_at(rt, back, &piece[0..e], shown, run);
     if !r.goes_on() {
@@ -46,16 +48,16 @@ fn look_lines<S: Streams>(
 
 // The input has ended; the last bytes are no line where no newline ended them.
 fn look_end<S: Streams>(rt: &S, back: bool, piece: &[u8], shown: &mut [u8], run: Run) -> Run {
-    let n = least(run.held, piece.len());
+    let n = run.held.min(piece.len());
     let r = look_at(rt, back, &piece[0..n], shown, run);
     if !r.goes_on() {
         return r;
     }
-    if r.unnamed == 0 {
+    let Some(line) = r.judged.unnamed else {
         return r.with_stage(Stage::Ended);
-    }
-    let k = least(r.shown, shown.len());
-    say::unnamed(rt, back, r.unnamed, &shown[0..k]);
+    };
+    let k = r.shown.min(shown.len());
+    say::unnamed(rt, back, line, &shown[..k]);
     r.with_stage(Stage::Refused)
 }
 
@@ -88,9 +90,9 @@ fn look_piece<S: Streams>(
 ) -> Run {
     let mut from = rt.reader();
     match pieces::fill(rt, &mut from, piece, run.held) {
-        Piece::Filled(n) => look_filled(rt, back, kept, file, piece, n, shown, run),
-        Piece::End => look_end(rt, back, piece, shown, run),
-        Piece::Failed(error) => {
+        Ok(Some(n)) => look_filled(rt, back, kept, file, piece, n, shown, run),
+        Ok(None) => look_end(rt, back, piece, shown, run),
+        Err(error) => {
             say::input_failed(rt, back, error);
             run.with_stage(Stage::Failed)
         }
@@ -98,7 +100,7 @@ fn look_piece<S: Streams>(
 }
 
 // Reads to the end of the input, or to a line that cannot be read. A proved loop has to end, and
-// nothing says that an input does: so the reads are counted down from a number that no run uses up.
+// nothing says that an input does: so the reads are counted, to a number that no run uses up.
 pub(crate) fn look<S: Streams>(
     rt: &S,
     back: bool,
@@ -108,13 +110,11 @@ pub(crate) fn look<S: Streams>(
     shown: &mut [u8],
 ) -> Run {
     let mut r = Run::start();
-    let mut turns = u64::MAX;
-    while turns > 0 {
+    for _ in 0..u64::MAX {
         r = look_piece(rt, back, kept, file, piece, shown, r);
         if !r.goes_on() {
             return r;
         }
-        turns -= 1;
     }
     r
 }

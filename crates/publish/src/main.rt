@@ -17,8 +17,5 @@ mod write;
 fn main(rt: HostRuntime) {
     let back = streams::has_argument(&rt, 1, b"back") | streams::has_argument(&rt, 2, b"back");
     let kept = streams::has_argument(&rt, 2, b"kept") | streams::has_argument(&rt, 3, b"kept");
-    let status = write::serve(&rt, back, kept);
-    if streams::has_argument(&rt, 1, b"report") {
-        streams::report(&rt, status);
-    }
+    streams::report_if_asked(&rt, write::serve(&rt, back, kept));
 }

@@ -1,26 +1,11 @@
 // An input in a lent buffer, in whole lines: what no newline has ended yet stands at its front.
 ghost use Rattle.std.specs.Prelude.{◌≤◌, length};
 
-use std::io::{Error, Read, Result};
-use streams::{Got, Streams};
+use std::io::{Read, Result};
+use streams::Streams;
 
 // The file that keeps an input which cannot be read twice.
 const KEPT: &str = "/proc/self/fd/4";
-
-// So many bytes stand in the buffer; or the input has ended; or the reading failed.
-#[derive(Clone, Copy)]
-pub enum Piece {
-    Filled(usize),
-    End,
-    Failed(Error),
-}
-
-pub(crate) fn least(a: usize, b: usize) -> usize
-    ensures upper_bound { result ≤ a }
-    ensures upper_bound_2 { result ≤ b }
-{
-    if a < b { a } else { b }
-}
 
 // What is read the second time; it stands where the trace begins.
 pub(crate) fn source<S: Streams>(rt: &S, kept: bool) -> Result<S::File> {
@@ -42,24 +27,22 @@ pub(crate) fn keep<S: Streams>(
     if !kept {
         return Ok(());
     }
-    let e = least(end, piece.len());
-    let s = least(start, e);
-    streams::send(rt, file, &piece[s..e])
+    let e = end.min(piece.len());
+    streams::send(rt, file, &piece[start.min(e)..e])
 }
 
-// One read behind the bytes that are held.
+// One read behind the bytes that are held: how many there are then, or none at the end of the
+// input.
 pub(crate) fn fill<S: Streams, R: Read>(
     rt: &S,
     from: &mut R,
     piece: &mut [u8],
     held: usize,
-) -> Piece {
-    let h = least(held, piece.len());
-    let room = piece.len() - h;
-    match streams::receive(rt, from, &mut piece[h..]) {
-        Got::Bytes(n) => Piece::Filled(h + least(n, room)),
-        Got::End => Piece::End,
-        Got::Failed(error) => Piece::Failed(error),
+) -> Result<Option<usize>> {
+    let h = held.min(piece.len());
+    match streams::receive(rt, from, &mut piece[h..])? {
+        0 => Ok(None),
+        n => Ok(Some(h + n)),
     }
 }
 
@@ -67,55 +50,35 @@ pub(crate) fn fill<S: Streams, R: Read>(
 pub(crate) fn whole(piece: &[u8]) -> usize
     ensures { result ≤ length piece.now }
 {
-    let mut i = piece.len();
-    while i > 0 {
-        if piece[i - 1] == 10 {
-            return i;
-        }
-        i -= 1;
+    match piece.iter().rposition(|b| *b == b'\n') {
+        Some(i) => i + 1,
+        None => 0,
     }
-    0
 }
 
 // The bytes from start to end go to the front; gives how many.
 pub(crate) fn move_down(piece: &mut [u8], start: usize, end: usize) -> usize {
-    let e = least(end, piece.len());
-    let s = least(start, e);
-    let mut i = 0;
-    while i < e - s {
-        piece[i] = piece[s + i];
-        i += 1;
-    }
-    i
+    let e = end.min(piece.len());
+    let s = start.min(e);
+    piece.copy_within(s..e, 0);
+    e - s
 }
 
 // How many lines a newline has ended.
 pub(crate) fn lines_in(piece: &[u8]) -> u64 {
-    let mut n = 0;
-    let mut i = 0;
-    while i < piece.len() {
-        if piece[i] == 10 {
-            n = std::num::wrapping_add_u64(n, 1);
-        }
-        i += 1;
-    }
-    n
+    piece.iter().filter(|b| **b == b'\n').count() as u64
 }
 
 // From line k on, the first being 0.
 pub(crate) fn from_line(s: &[u8], k: u64) -> &[u8] {
-    let n = s.len();
-    let mut i = 0;
-    let mut left = k;
-    while left > 0 {
-        let e = scan::find(s, i, n, 10);
-        if n <= e {
-            return &s[n..n];
-        }
-        i = e + 1;
-        left -= 1;
+    let mut rest = s;
+    for _ in 0..k {
+        let Some(i) = rest.iter().position(|b| *b == b'\n') else {
+            return &rest[rest.len()..];
+        };
+        rest = &rest[i + 1..];
     }
-    &s[i..n]
+    rest
 }
 
 // The first line, without its newline.

@@ -1,8 +1,10 @@
-// How far a reading of the trace has come.
+// How far a reading of the trace has come. Not that of `by_lines`: the trace is read twice, in
+// pieces of whole lines, and no line is answered by itself.
 use renamed::judge::Judged;
+use streams::Status;
 
 // The reading goes on; or the input has ended; or the trace is refused; or it failed.
-#[derive(Clone, Copy)]
+#[derive(Clone, Copy, PartialEq, Eq)]
 pub enum Stage {
     On,
     Ended,
@@ -10,15 +12,13 @@ pub enum Stage {
     Failed,
 }
 
-// held: the bytes of a line that has begun. lines, unreadable, unnamed: what was seen of the trace.
-// shown: the bytes of the first line that has no name.
+// held: the bytes of a line that has begun. judged: what was seen of the trace. shown: the bytes of
+// the first line that has no name.
 #[derive(Clone, Copy)]
 pub struct Run {
     pub stage: Stage,
     pub held: usize,
-    pub lines: u64,
-    pub unreadable: u64,
-    pub unnamed: u64,
+    pub judged: Judged,
     pub shown: usize,
 }
 
@@ -27,96 +27,50 @@ impl Run {
         Run {
             stage: Stage::On,
             held: 0,
-            lines: 0,
-            unreadable: 0,
-            unnamed: 0,
+            judged: Judged {
+                lines: 0,
+                unreadable: None,
+                unnamed: None,
+            },
             shown: 0,
         }
     }
 
     pub(crate) fn goes_on(self) -> bool {
-        let s = self.stage;
-        match s {
-            Stage::On => true,
-            Stage::Ended => false,
-            Stage::Refused => false,
-            Stage::Failed => false,
-        }
-    }
-
-    pub(crate) fn has_ended(self) -> bool {
-        let s = self.stage;
-        match s {
-            Stage::On => false,
-            Stage::Ended => true,
-            Stage::Refused => false,
-            Stage::Failed => false,
-        }
+        self.stage == Stage::On
     }
 
     // What the program reports.
-    pub(crate) fn status(self) -> u8 {
-        let s = self.stage;
-        match s {
-            Stage::On => 3,
-            Stage::Ended => 0,
-            Stage::Refused => 1,
-            Stage::Failed => 3,
+    pub(crate) fn status(self) -> Status {
+        match self.stage {
+            Stage::Ended => Status::Done,
+            Stage::Refused => Status::Refused,
+            Stage::On | Stage::Failed => Status::Failed,
         }
     }
 
-    pub(crate) fn with_stage(self, s: Stage) -> Run {
-        Run {
-            stage: s,
-            held: self.held,
-            lines: self.lines,
-            unreadable: self.unreadable,
-            unnamed: self.unnamed,
-            shown: self.shown,
-        }
+    pub(crate) fn with_stage(self, stage: Stage) -> Run {
+        Run { stage, ..self }
     }
 
-    pub(crate) fn with_held(self, n: usize) -> Run {
-        let s = self.stage;
-        Run {
-            stage: s,
-            held: n,
-            lines: self.lines,
-            unreadable: self.unreadable,
-            unnamed: self.unnamed,
-            shown: self.shown,
-        }
+    pub(crate) fn with_held(self, held: usize) -> Run {
+        Run { held, ..self }
     }
 
+    // So many more lines were written.
     pub(crate) fn with_lines(self, n: u64) -> Run {
-        let s = self.stage;
-        Run {
-            stage: s,
-            held: self.held,
-            lines: n,
-            unreadable: self.unreadable,
-            unnamed: self.unnamed,
-            shown: self.shown,
-        }
+        let judged = Judged {
+            lines: self.judged.lines.wrapping_add(n),
+            ..self.judged
+        };
+        Run { judged, ..self }
     }
 
-    pub(crate) fn judged(self) -> Judged {
-        Judged {
-            lines: self.lines,
-            unreadable: self.unreadable,
-            unnamed: self.unnamed,
-        }
-    }
-
-    pub(crate) fn with_judged(self, j: Judged, shown: usize) -> Run {
-        let s = self.stage;
+    pub(crate) fn with_judged(self, judged: Judged, shown: usize) -> Run {
         Run {
-            stage: s,
-            held: self.held,
-            lines: j.lines,
-            unreadable: j.unreadable,
-            unnamed: j.unnamed,
-            shown: shown,
+            judged,
+            shown,
+            ..self
         }
     }
 }

@@ -9,8 +9,5 @@ pub(crate) fn from(back: bool) -> Names {
 }
 
 pub(crate) fn to(back: bool) -> Names {
-    if back {
-        return Names::Ours;
-    }
-    Names::Published
+    from(!back)
 }

@@ -1,11 +1,10 @@
 // The second reading: each piece goes out under the other names.
-use crate::pieces::{Piece, least};
 use crate::run::{Run, Stage};
 use crate::{look, pieces, say, way};
 use renamed::entries;
-use renamed::text::Answer;
+use renamed::text::Refused;
 use std::io::{Seek, SeekFrom};
-use streams::Streams;
+use streams::{Status, Streams, buffer};
 
 // Thrice a piece: a published line is at most 2.2 times as long as ours.
 const OUT: usize = 196608;
@@ -17,23 +16,21 @@ fn changed<S: Streams>(rt: &S, back: bool, run: Run) -> Run {
 
 // k bytes of out are the lines of the piece, of which there are n.
 fn send<S: Streams>(rt: &S, back: bool, out: &[u8], k: usize, n: u64, run: Run) -> Run {
-    let k = least(k, out.len());
+    let k = k.min(out.len());
     if let Err(error) = streams::write_output(rt, &out[0..k]) {
         say::output_failed(rt, back, error);
         return run.with_stage(Stage::Failed);
     }
-    run.with_lines(std::num::wrapping_add_u64(run.lines, n))
+    run.with_lines(n)
 }
 
 // The whole lines of part.
 fn write_lines<S: Streams>(rt: &S, back: bool, part: &[u8], out: &mut [u8], run: Run) -> Run {
     let from = way::from(back);
     let to = way::to(back);
-    match entries::translate(part, run.lines, from, to, out) {
-        Answer::Written(k) => send(rt, back, out, k, pieces::lines_in(part), run),
-        Answer::Unreadable => changed(rt, back, run),
-        Answer::Unnamed => changed(rt, back, run),
-        Answer::Short => changed(rt, back, run),
+    match entries::translate(part, run.judged.lines, from, to, out) {
+        Ok(k) => send(rt, back, out, k, pieces::lines_in(part), run),
+        Err(Refused::Unreadable | Refused::Unnamed | Refused::Short) => changed(rt, back, run),
     }
 }
 
@@ -46,7 +43,7 @@ fn write_filled<S: Streams>(
     out: &mut [u8],
     run: Run,
 ) -> Run {
-    let n = least(n, piece.len());
+    let n = n.min(piece.len());
     let e = pieces::whole(&piece[0..n]);
     let r = write_lines(rt, back, &piece[0..e], out, run);
     if !r.goes_on() {
@@ -60,7 +57,7 @@ fn write_filled<S: Streams>(
 
 // The input has ended; lines: how many the first reading saw.
 fn write_end<S: Streams>(rt: &S, back: bool, lines: u64, run: Run) -> Run {
-    if (run.held != 0) | (run.lines != lines) {
+    if (run.held != 0) | (run.judged.lines != lines) {
         return changed(rt, back, run);
     }
     run.with_stage(Stage::Ended)
@@ -76,9 +73,9 @@ fn write_piece<S: Streams>(
     run: Run,
 ) -> Run {
     match pieces::fill(rt, file, piece, run.held) {
-        Piece::Filled(n) => write_filled(rt, back, piece, n, out, run),
-        Piece::End => write_end(rt, back, lines, run),
-        Piece::Failed(error) => {
+        Ok(Some(n)) => write_filled(rt, back, piece, n, out, run),
+        Ok(None) => write_end(rt, back, lines, run),
+        Err(error) => {
             say::input_failed(rt, back, error);
             run.with_stage(Stage::Failed)
         }
@@ -92,15 +89,13 @@ fn write<S: Streams>(
     lines: u64,
     piece: &mut [u8],
     out: &mut [u8],
-) -> u8 {
+) -> Status {
     let mut r = Run::start();
-    let mut turns = u64::MAX;
-    while turns > 0 {
+    for _ in 0..u64::MAX {
         r = write_piece(rt, back, file, lines, piece, out, r);
         if !r.goes_on() {
             return r.status();
         }
-        turns -= 1;
     }
     r.status()
 }
@@ -114,26 +109,22 @@ fn again<S: Streams>(
     lines: u64,
     piece: &mut [u8],
     out: &mut [u8],
-) -> u8 {
+) -> Status {
     if kept {
         if let Err(error) = file.seek(SeekFrom::Start(0)) {
             say::input_failed(rt, back, error);
-            return 3;
+            return Status::Failed;
         }
     }
     write(rt, back, file, lines, piece, out)
 }
 
 // What the first reading has come to is not that all is well.
-fn refuse<S: Streams>(rt: &S, back: bool, run: Run) -> u8 {
-    let status = run.status();
-    if status != 1 {
-        return status;
+fn refuse<S: Streams>(rt: &S, back: bool, run: Run) -> Status {
+    if run.stage == Stage::Refused {
+        return say::refused(rt, back, run.judged.unreadable.is_some());
     }
-    if say::refused(rt, back, run.unreadable != 0) {
-        return 1;
-    }
-    3
+    run.status()
 }
 
 fn read_from<S: Streams>(
@@ -144,12 +135,12 @@ fn read_from<S: Streams>(
     piece: &mut [u8],
     shown: &mut [u8],
     out: &mut [u8],
-) -> u8 {
+) -> Status {
     let r = look::look(rt, back, kept, file, piece, shown);
-    if !r.has_ended() {
+    if r.stage != Stage::Ended {
         return refuse(rt, back, r);
     }
-    again(rt, back, kept, file, r.lines, piece, out)
+    again(rt, back, kept, file, r.judged.lines, piece, out)
 }
 
 // A trace may stand behind what was read before.
@@ -160,31 +151,23 @@ fn read_twice<S: Streams>(
     piece: &mut [u8],
     shown: &mut [u8],
     out: &mut [u8],
-) -> u8 {
+) -> Status {
     match pieces::source(rt, kept) {
-        Ok(source) => {
-            let mut file = source;
-            read_from(rt, back, kept, &mut file, piece, shown, out)
-        }
+        Ok(mut file) => read_from(rt, back, kept, &mut file, piece, shown, out),
         Err(error) => {
             if kept {
                 say::keeping_failed(rt, back, error);
             } else {
                 say::input_failed(rt, back, error);
             }
-            3
+            Status::Failed
         }
     }
 }
 
-// A large buffer comes from a function, so that its length is known by its type.
-fn out_room() -> [u8; OUT] {
-    [0u8; OUT]
-}
-
-pub(crate) fn serve<S: Streams>(rt: &S, back: bool, kept: bool) -> u8 {
+pub(crate) fn serve<S: Streams>(rt: &S, back: bool, kept: bool) -> Status {
     let mut piece = io::large_buffer();
-    let mut out = out_room();
+    let mut out = buffer::bytes::<OUT>();
     let mut shown = [0u8; 64];
     read_twice(rt, back, kept, &mut piece, &mut shown, &mut out)
 }

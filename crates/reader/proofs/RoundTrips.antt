@@ -15,7 +15,8 @@ use Rattle.memory.proofs.LentLaws.{form-site}
 use Rattle.image.specs.Image.{image_of}
 use Rattle.image.proofs.OneImage.{Agree, one-image, agree_same}
 use Rattle.image.proofs.MemoryImage.{memory_bounded}
-use Rattle.writer.specs.declared.Written.{Written}
+use Rattle.std.specs.Prelude.{Ok}
+use Rattle.writer.specs.Writer.{Written}
 use Rattle.writer.specs.Writer.{WriteIs}
 use Rattle.writer.specs.Writer as writer
 use Rattle.reader.specs.Reader.{enough_for, ReadIs}
@@ -35,7 +36,7 @@ read_back s {ys = ys} {ks = ks} f room (reader.done h) =
 -- ---- over the lent buffers
 
 -- The bytes that `write` has written.
-pub front-written : {us vs o o' : List ℕ} {w : Written} (n : ℕ) → w ≡ Written.Length n
+pub front-written : {us vs o o' : List ℕ} {w : Written} (n : ℕ) → w ≡ Ok n
     → WriteIs us vs o w o' → (memory_form us vs ≡ true) × (take n o' ≡ image_of (site_of us vs))
 front-written n e (writer.not-by-form f) = absurd (let z : ◌≡◌ {A = ℕ} 0 1 = cc in omega arith)
 front-written n e (writer.too_short f l) = absurd (let z : ◌≡◌ {A = ℕ} 0 1 = cc in omega arith)
@@ -46,7 +47,7 @@ front-written {us} {vs} {o} n e (writer.written f l) =
 
 -- WRITE, THEN READ: the same site.
 pub write_read : {us vs o o' xs ls ys ks : List ℕ} {w : Written} {a : Answer} (n : ℕ)
-    → w ≡ Written.Length n → WriteIs us vs o w o' → enough_for (site_of us vs) xs ls ≡ true
+    → w ≡ Ok n → WriteIs us vs o w o' → enough_for (site_of us vs) xs ls ≡ true
     → ReadIs (take n o') xs ls a ys ks → (a ≡ Answer.Done) × (site_of ys ks ≡ site_of us vs)
 write_read {us} {vs} {xs = xs} {ls = ls} {ys = ys} {ks = ks} {a = a} n e w room r =
     let k = front-written n e w in
@@ -61,7 +62,7 @@ write_read {us} {vs} {xs = xs} {ls = ls} {ys = ys} {ks = ks} {a = a} n e w room 
 -- READ, THEN WRITE: the image's bytes.
 pub read_write : {image xs ls ys ks o o' : List ℕ} {w : Written} {a : Answer} → a ≡ Answer.Done
     → ReadIs image xs ls a ys ks → length image ≤ length o → WriteIs ys ks o w o'
-    → (w ≡ Written.Length (length image)) × (o' ≡ image ++ drop (length image) o)
+    → (w ≡ Ok (length image)) × (o' ≡ image ++ drop (length image) o)
 read_write e (reader.not-by-form p) room w = absurd (let z : ◌≡◌ {A = ℕ} 0 1 = cc in omega arith)
 read_write e (reader.too_short s f d r) room w =
     absurd (let z : ◌≡◌ {A = ℕ} 0 1 = cc in omega arith)
@@ -70,6 +71,6 @@ read_write e (reader.done h) room (writer.too_short f l) =
     let same = ap length h.image in
     absurd (omega arith)
 read_write {o = o} e (reader.done h) room (writer.written f l) = (
-  ap (λ (b : List ℕ). Written.Length (length b)) h.image,
+  ap (λ (b : List ℕ). Ok (length b)) h.image,
   ap (λ (b : List ℕ). b ++ drop (length b) o) h.image,
 )

@@ -4,7 +4,6 @@
 ghost use Rattle.whole.specs.Whole.{ImageFound};
 ghost use Rattle.reader.specs.Reader.{ReadIs};
 
-use cells::Walk;
 use rules::model::{Answer, Refusal};
 
 // The bodies of an image by form, the first of them at `at`: 12, or they are stored.
@@ -30,7 +29,7 @@ pub fn read(image: &[u8], site: &mut [u64], links: &mut [u64]) -> Answer
 {
     let r = whole::check_image(image);
     match r {
-        Walk::Next(at) => read_bodies(image, at, site, links),
-        Walk::Bad => Answer::Refused(Refusal::Form),
+        Some(at) => read_bodies(image, at, site, links),
+        None => Answer::Refused(Refusal::Form),
     }
 }

@@ -9,6 +9,7 @@ use lib.Dec.{leb}
 use lib.ListN.{length, take, drop}
 use lib.Seq.{sets, sets-eq, take-append_seam}
 use borrow.Author.Tests.{le-leb, lt-leb, leb-true}
+use Rattle.std.proofs.Common.{Result, Ok, Err}
 use Rattle.rules.specs.Pick.{pick, pick_true, pick-false}
 use Rattle.rules.specs.Every.{each}
 use Rattle.laws.proofs.Logic.{Or, left, right, decide}
@@ -19,7 +20,7 @@ use Rattle.renamed.specs.Trace.{lines_from, lines_in, is_trace, text_in}
 use Rattle.renamed.specs.Translate.{answer_of, buffer_after, Translated}
 use Rattle.renamed.specs.BothWays.{Gives, Ended, none, lines, BothWays}
 use Rattle.renamed.specs.declared.names.Names.{Names}
-use Rattle.renamed.specs.declared.text.Answer.{Answer}
+use Rattle.renamed.specs.declared.text.Refused.{Refused}
 use Rattle.renamed.proofs.NameLaws.{named_ours}
 use Rattle.renamed.proofs.LineLaws.{printed}
 use Rattle.renamed.proofs.TraceLaws.{trace-readable}
@@ -57,7 +58,7 @@ record Wrote-all (to : Names) (k room m : ℕ) (ls : List Line) : Type 0 where
   count : m ≡ length (text_in to ls)
 
 wrote-all : (to : Names) (k room m : ℕ) (ls : List Line)
-    → answer_of to k room ls ≡ Answer.Written m → Wrote-all to k room m ls
+    → answer_of to k room ls ≡ Ok m → Wrote-all to k room m ls
 unfolding answer_of
 wrote-all to k room m ls e =
     go (decide (is_trace k ls)) (decide (each (has_name to) ls))
@@ -68,18 +69,18 @@ wrote-all to k room m ls e =
         → Or (leb (length (text_in to ls)) room ≡ true) (leb (length (text_in to ls)) room ≡ false)
         → Wrote-all to k room m ls
     go (right f) q r =
-        let d : Answer.Unreadable ≡ Answer.Written m = sym (pick-false _ _ _ f) ∙ e in
+        let d : Err Refused.Unreadable ≡ Ok m = sym (pick-false _ _ _ f) ∙ e in
         let z : ◌≡◌ {A = ℕ} 0 1 = cc in absurd (omega arith)
     go (left t) (right f) r =
-        let d : Answer.Unnamed ≡ Answer.Written m =
+        let d : Err Refused.Unnamed ≡ Ok m =
         sym (pick_true _ _ _ t ∙ pick-false _ _ _ f) ∙ e in
         let z : ◌≡◌ {A = ℕ} 0 1 = cc in absurd (omega arith)
     go (left t) (left u) (right f) =
-        let d : Answer.Short ≡ Answer.Written m =
+        let d : Err Refused.Short ≡ Ok m =
         sym (pick_true _ _ _ t ∙ (pick_true _ _ _ u ∙ pick-false _ _ _ f)) ∙ e in
         let z : ◌≡◌ {A = ℕ} 0 1 = cc in absurd (omega arith)
     go (left t) (left u) (left v) =
-        let d : Answer.Written (length (text_in to ls)) ≡ Answer.Written m =
+        let d : Ok (length (text_in to ls)) ≡ Ok m =
         sym (pick_true _ _ _ t ∙ (pick_true _ _ _ u ∙ pick_true _ _ _ v)) ∙ e in
         record {
           trace = t;
@@ -89,7 +90,7 @@ wrote-all to k room m ls e =
         }
 
 gives : (from to : Names) (k m : ℕ) (s o o' : List ℕ)
-    → Translated from to k s o o' (Answer.Written m) → Gives from to k s (take m o')
+    → Translated from to k s o o' (Ok m) → Gives from to k s (take m o')
 gives from to k m s o o' t =
     let w = wrote-all to k (length o) m (lines_in from s) (sym t.answer) in
     let text = text_in to (lines_in from s) in
@@ -104,40 +105,41 @@ gives from to k m s o o' t =
 -- the answer to what is given
 module _ (from to : Names) (k : ℕ) (t s p : List ℕ) (g : Gives from to k t s) where
   answer-long : length s ≤ length p
-      → answer_of to k (length p) (lines_in from t) ≡ Answer.Written (length s)
+      → answer_of to k (length p) (lines_in from t) ≡ Ok (length s)
   unfolding answer_of
   answer-long h =
       let e = ap length g.text in
       pick_true _ _ _ g.trace ∙ (pick_true _ _ _ g.named
       ∙ (pick_true _ _ _ (le-leb (length (text_in to (lines_in from t))) (length p) (omega arith))
-      ∙ ap (λ (u : List ℕ). Answer.Written (length u)) (sym g.text)))
+      ∙ ap (λ (u : List ℕ). Ok (length u)) (sym g.text)))
 
   answer-short : length p < length s
-      → answer_of to k (length p) (lines_in from t) ≡ Answer.Short
+      → answer_of to k (length p) (lines_in from t) ≡ Err Refused.Short
   unfolding answer_of
   answer-short h =
       let e = ap length g.text in
       pick_true _ _ _ g.trace ∙ (pick_true _ _ _ g.named
       ∙ pick-false _ _ _ (lt-leb (length (text_in to (lines_in from t))) (length p) (omega arith)))
 
-lent : (from to : Names) (k m : ℕ) (s o o' p p' : List ℕ) (r : Answer)
-    → Translated from to k s o o' (Answer.Written m) → Translated to from k (take m o') p p' r
-    → length s ≤ length p → (r ≡ Answer.Written (length s)) × (take (length s) p' ≡ s)
+lent : (from to : Names) (k m : ℕ) (s o o' p p' : List ℕ) (r : Result ℕ Refused)
+    → Translated from to k s o o' (Ok m) → Translated to from k (take m o') p p' r
+    → length s ≤ length p → (r ≡ Ok (length s)) × (take (length s) p' ≡ s)
 lent from to k m s o o' p p' r t u h =
     let b = back from to k s (take m o') (gives from to k m s o o' t) in
-    let e : r ≡ Answer.Written (length s) =
+    let e : r ≡ Ok (length s) =
     u.answer ∙ answer-long to from k (take m o') s p b h in (
       e,
       ap (take (length s))
           (u.buffer
-          ∙ ap (λ (a : Answer). buffer_after a p (text_in from (lines_in to (take m o')))) e
+          ∙ ap (λ (a : Result ℕ Refused). buffer_after a p (text_in from (lines_in to (take m o'))))
+          e
           ∙ ap (sets p 0) (sym b.text))
           ∙ front-is p s h,
     )
 
-short : (from to : Names) (k m : ℕ) (s o o' p p' : List ℕ) (r : Answer)
-    → Translated from to k s o o' (Answer.Written m) → Translated to from k (take m o') p p' r
-    → length p < length s → r ≡ Answer.Short
+short : (from to : Names) (k m : ℕ) (s o o' p p' : List ℕ) (r : Result ℕ Refused)
+    → Translated from to k s o o' (Ok m) → Translated to from k (take m o') p p' r
+    → length p < length s → r ≡ Err Refused.Short
 short from to k m s o o' p p' r t u h =
     let b = back from to k s (take m o') (gives from to k m s o o' t) in
     u.answer ∙ answer-short to from k (take m o') s p b h
@@ -145,24 +147,24 @@ short from to k m s o o' p p' r t u h =
 -- ---- 18 never comes back
 
 never_unnamed : (k room : ℕ) (s : List ℕ)
-    → answer_of Names.Ours k room (lines_in Names.Published s) ≡ Answer.Unnamed → ⊥
+    → answer_of Names.Ours k room (lines_in Names.Published s) ≡ Err Refused.Unnamed → ⊥
 unfolding answer_of
 never_unnamed k room s e = go (decide (is_trace k (lines_in Names.Published s)))
   where
     ls : List Line
     ls = lines_in Names.Published s
 
-    last : (b : Bool) → pick b (Answer.Written (length (text_in Names.Ours ls))) Answer.Short
-        ≡ Answer.Unnamed → ⊥
+    last : (b : Bool) → pick b (Ok (length (text_in Names.Ours ls))) (Err Refused.Short)
+        ≡ Err Refused.Unnamed → ⊥
     last b d = by (decide b)
       where
         by : Or (b ≡ true) (b ≡ false) → ⊥
         by (left t) =
-            let f : Answer.Written (length (text_in Names.Ours ls)) ≡ Answer.Unnamed =
+            let f : Ok (length (text_in Names.Ours ls)) ≡ Err Refused.Unnamed =
             sym (pick_true _ _ _ t) ∙ d in
             let z : ◌≡◌ {A = ℕ} 0 1 = cc in omega arith
         by (right t) =
-            let f : Answer.Short ≡ Answer.Unnamed = sym (pick-false _ _ _ t) ∙ d in
+            let f : Err Refused.Short ≡ Err Refused.Unnamed = sym (pick-false _ _ _ t) ∙ d in
             let z : ◌≡◌ {A = ℕ} 0 1 = cc in omega arith
 
     go : Or (is_trace k ls ≡ true) (is_trace k ls ≡ false) → ⊥
@@ -174,7 +176,7 @@ never_unnamed k room s e = go (decide (is_trace k (lines_in Names.Published s)))
         last (leb (length (text_in Names.Ours ls)) room)
         (sym (pick_true _ _ _ t ∙ pick_true _ _ _ named) ∙ e)
     go (right f) =
-        let d : Answer.Unreadable ≡ Answer.Unnamed = sym (pick-false _ _ _ f) ∙ e in
+        let d : Err Refused.Unreadable ≡ Err Refused.Unnamed = sym (pick-false _ _ _ f) ∙ e in
         let z : ◌≡◌ {A = ℕ} 0 1 = cc in omega arith
 
 -- ---- in pieces
@@ -201,12 +203,12 @@ pieces from to k p q t u e g h =
 
 -- ---- once
 
-once : (from to : Names) (k : ℕ) (s o p q : List ℕ) (a b : Answer)
+once : (from to : Names) (k : ℕ) (s o p q : List ℕ) (a b : Result ℕ Refused)
     → Translated from to k s o p a → Translated from to k s o q b → (a ≡ b) × (p ≡ q)
 once from to k s o p q a b t u =
     let e : a ≡ b = t.answer ∙ sym u.answer in (
       e,
-      t.buffer ∙ ap (λ (r : Answer). buffer_after r o (text_in to (lines_in from s))) e
+      t.buffer ∙ ap (λ (r : Result ℕ Refused). buffer_after r o (text_in to (lines_in from s))) e
           ∙ sym u.buffer,
     )
 

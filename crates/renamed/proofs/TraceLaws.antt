@@ -4,14 +4,15 @@ use mathlib.Core.Path.{◌≡◌, refl, ap, sym, ◌∙◌}
 use mathlib.Core.Bool.{Bool, true, false, not, ◌&&◌}
 use mathlib.Core.List.{List, [], ◌∷◌, ◌++◌, append-nil, append_assoc}
 use native.Mathlib.Omega.{arith}
-use lib.Dec.{eqb, ltb}
+use lib.Dec.{eqb}
 use lib.ListN.{length, take, drop, length-append, length-drop, drop_of_length-le}
 use lib.Seq.{take-length, drop-drop}
 use borrow.Author.Tests.{ne_eqb, lt-ltb, ltb-true}
-use Rattle.rules.specs.Pick.{pick, pick_true, pick-false}
+use Rattle.std.proofs.Common.{Option, Some, None, is_none}
+use Rattle.rules.specs.Pick.{pick, pick_true}
 use Rattle.rules.specs.Every.{each}
 use Rattle.scan.specs.Bytes.{index_after, index_of, slice}
-use Rattle.laws.proofs.Logic.{Or, left, right, decide, below?, and_yes, and_both, both-no}
+use Rattle.laws.proofs.Logic.{Or, left, right, below?, and_yes, and_both, both-no}
 use Rattle.laws.proofs.Logic.{pick_elim}
 use Rattle.lines.specs.Printed.{readable}
 use Rattle.lines.specs.declared.Line.{Line}
@@ -164,24 +165,11 @@ judged-same {t} {u} j l f = by (readable l) refl
 
 -- ---- what the numbers say
 
-more-some : (k : ℕ) → one_more k ≡ 0 → ⊥
-unfolding one_more
-more-some k e = go (decide (ltb k 4294967296))
-  where
-    go : Or (ltb k 4294967296 ≡ true) (ltb k 4294967296 ≡ false) → ⊥
-    go (left t) = let z : k + 1 ≡ 0 = sym (pick_true _ _ _ t) ∙ e in omega arith
-    go (right f) =
-        let z : k ≡ 0 = sym (pick-false _ _ _ f) ∙ e in
-        both-no (lt-ltb k 4294967296 (omega arith)) f
-
-first-none : (a : ℕ) (t : Bool) (k : ℕ) → eqb (first_of a t (one_more k)) 0 ≡ (eqb a 0 && not t)
+first-none : (a : Option ℕ) (t : Bool) (k : ℕ) → is_none (first_of a t k) ≡ (is_none a && not t)
 unfolding first_of pick
-first-none a t k = go (eqb a 0) refl t
-  where
-    go : (b : Bool) → eqb a 0 ≡ b → (t : Bool) → eqb (pick (b && t) (one_more k) a) 0 ≡ (b && not t)
-    go true e true = ne_eqb (one_more k) 0 (more-some k)
-    go true e false = e
-    go false e t = e
+first-none None true k = refl
+first-none None false k = refl
+first-none (Some x) t k = refl
 
 not-not : (b : Bool) → not (not b) ≡ b
 not-not true = refl
@@ -213,9 +201,9 @@ trace-readable k (l ∷ ls) e =
 module _ (to : Names) where
   -- none is unreadable exactly where the lines are a trace ..
   pub judged-trace : (ls : List Line) (j : Judged)
-      → eqb (judged_all to j ls).unreadable 0 ≡ (eqb j.unreadable 0 && is_trace j.lines ls)
+      → is_none (judged_all to j ls).unreadable ≡ (is_none j.unreadable && is_trace j.lines ls)
   unfolding judged_all is_trace judged_by
-  judged-trace [] j = sym (yes (eqb j.unreadable 0))
+  judged-trace [] j = sym (yes (is_none j.unreadable))
     where
       yes : (b : Bool) → (b && true) ≡ b
       yes true = refl
@@ -223,9 +211,9 @@ module _ (to : Names) where
   judged-trace (l ∷ ls) j =
       judged-trace ls (judged_by (has_name to l) j l)
       ∙ ap (λ (b : Bool). b && is_trace (one_more j.lines) ls)
-      (first-none j.unreadable (not (fits j.lines l)) j.lines
-      ∙ ap (λ (b : Bool). eqb j.unreadable 0 && b) (not-not (fits j.lines l)))
-      ∙ go (eqb j.unreadable 0) (fits j.lines l) (fits-few j.lines l)
+      (first-none j.unreadable (not (fits j.lines l)) (one_more j.lines)
+      ∙ ap (λ (b : Bool). is_none j.unreadable && b) (not-not (fits j.lines l)))
+      ∙ go (is_none j.unreadable) (fits j.lines l) (fits-few j.lines l)
     where
       go : (a f : Bool) → (f ≡ true → one_more j.lines ≡ j.lines + 1)
           → (a && f && is_trace (one_more j.lines) ls) ≡ (a && (f && is_trace (j.lines + 1) ls))
@@ -235,9 +223,9 @@ module _ (to : Names) where
 
   -- .. and none has no name where each has one
   pub judged-named : (ls : List Line) (j : Judged) → each readable ls ≡ true
-      → eqb (judged_all to j ls).unnamed 0 ≡ (eqb j.unnamed 0 && each (has_name to) ls)
+      → is_none (judged_all to j ls).unnamed ≡ (is_none j.unnamed && each (has_name to) ls)
   unfolding judged_all each judged_by
-  judged-named [] j e = sym (yes (eqb j.unnamed 0))
+  judged-named [] j e = sym (yes (is_none j.unnamed))
     where
       yes : (b : Bool) → (b && true) ≡ b
       yes true = refl
@@ -246,10 +234,10 @@ module _ (to : Names) where
       let p = and_yes (readable l) (each readable ls) e in
       judged-named ls (judged_by (has_name to l) j l) p.1
       ∙ ap (λ (b : Bool). b && each (has_name to) ls)
-      (first-none j.unnamed (readable l && not (has_name to l)) j.lines
-      ∙ ap (λ (b : Bool). eqb j.unnamed 0 && not (b && not (has_name to l))) p.0
-      ∙ ap (λ (b : Bool). eqb j.unnamed 0 && b) (not-not (has_name to l)))
-      ∙ over (eqb j.unnamed 0) (has_name to l) (each (has_name to) ls)
+      (first-none j.unnamed (readable l && not (has_name to l)) (one_more j.lines)
+      ∙ ap (λ (b : Bool). is_none j.unnamed && not (b && not (has_name to l))) p.0
+      ∙ ap (λ (b : Bool). is_none j.unnamed && b) (not-not (has_name to l)))
+      ∙ over (is_none j.unnamed) (has_name to l) (each (has_name to) ls)
     where
       over : (a b c : Bool) → (a && b && c) ≡ (a && (b && c))
       over true b c = refl

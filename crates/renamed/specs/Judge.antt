@@ -1,6 +1,7 @@
 -- Lines looked at one after another: how many, and which is the first that cannot be read, and the
--- first that has no name; 0 for none.
-use Rattle.std.specs.Prelude.{ℕ, ◌+◌, Bool, not, ◌&&◌, List, [], ◌∷◌, eqb, ltb}
+-- first that has no name.
+use Rattle.std.specs.Prelude.{ℕ, ◌+◌, Bool, not, ◌&&◌, List, [], ◌∷◌, ltb, Option}
+use Rattle.std.specs.Prelude.{Some, is_none}
 use Rattle.rules.specs.Pick.{pick}
 use Rattle.lines.specs.Printed.{readable}
 use Rattle.lines.specs.declared.Line.{Line}
@@ -14,8 +15,8 @@ unfoldable pub one_more : ℕ → ℕ
 one_more k = pick (ltb k 4294967296) (k + 1) k
 
 -- the first of these, or else k where t says so
-unfoldable pub first_of : ℕ → Bool → ℕ → ℕ
-first_of a t k = pick (eqb a 0 && t) k a
+unfoldable pub first_of : Option ℕ → Bool → ℕ → Option ℕ
+first_of a t k = pick (is_none a && t) (Some k) a
 
 -- l is looked at; named: it has a name
 unfoldable pub judged_by : Bool → Judged → Line → Judged

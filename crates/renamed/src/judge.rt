@@ -9,12 +9,12 @@ use crate::{line, names};
 use lines::Line;
 
 // How many lines were looked at, and the number of the first that cannot be read, and of the first
-// that has no name; 0: there is none.
+// that has no name, where there is one.
 #[derive(Clone, Copy)]
 pub struct Judged {
     pub lines: u64,
-    pub unreadable: u64,
-    pub unnamed: u64,
+    pub unreadable: Option<u64>,
+    pub unnamed: Option<u64>,
 }
 
 // l can stand behind k lines.
@@ -38,11 +38,11 @@ fn one_more(k: u64) -> u64
     k
 }
 
-fn first_of(a: u64, t: bool, k: u64) -> u64
+fn first_of(a: Option<u64>, t: bool, k: u64) -> Option<u64>
     ensures { result ≡ first_of a t k }
 {
-    if (a == 0) & t {
-        return k;
+    if a.is_none() & t {
+        return Some(k);
     }
     a
 }
@@ -72,6 +72,7 @@ fn judge_text(j: Judged, s: &[u8], from: Names, to: Names) -> Judged
 }
 
 // The lines of s, behind those that were looked at.
+// No `split`: it does not tell whether a newline ended the last piece.
 pub fn judge(j: Judged, s: &[u8], from: Names, to: Names) -> Judged
     ensures { result ≡ judged_all to j (lines_in from s.now) }
 {

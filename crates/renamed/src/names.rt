@@ -16,6 +16,7 @@ pub enum Names {
 }
 
 // The word of a line, how many bytes its name has here, and how many the other; 0: it has none.
+// Lengths and no Options: a name of no bytes is none in the table of names, too.
 #[derive(Clone, Copy)]
 pub struct Found {
     pub word: Word,
@@ -75,6 +76,7 @@ fn or_name<'a>(
 }
 
 // The word at the start of s.
+// The table stands in put_name as well: here the names are the byte strings compared.
 pub(crate) fn find(from: Names, to: Names, s: &[u8]) -> Found
     ensures { result ≡ found_by from to (word_in from s.now) }
 {

@@ -10,24 +10,24 @@ ghost use Rattle.renamed.specs.Translate.{answer_number};
 use crate::names;
 use crate::names::Names;
 
-// So many bytes were written; or a line cannot be read, or has no name, or the buffer is too short.
+// Why nothing is written: a line cannot be read, or has no name, or the buffer is too short.
 #[derive(Clone, Copy)]
-pub enum Answer {
-    Written(usize),
+pub enum Refused {
     Unreadable,
     Unnamed,
     Short,
 }
 
-// 0 where it is written, else the refusal's number.
-pub fn answer_number(a: Answer) -> u32
+// 0 where so many bytes were written, else the refusal's number.
+// No `From`: the pages name this function.
+pub fn answer_number(a: Result<usize, Refused>) -> u32
     ensures { result ≡ answer_number a }
 {
     match a {
-        Answer::Written(n) => 0,
-        Answer::Unreadable => 11,
-        Answer::Unnamed => 18,
-        Answer::Short => 12,
+        Ok(_) => 0,
+        Err(Refused::Unreadable) => 11,
+        Err(Refused::Unnamed) => 18,
+        Err(Refused::Short) => 12,
     }
 }
 
@@ -41,6 +41,7 @@ fn line_length(s: &[u8], from: Names, to: Names) -> usize
 }
 
 // There is room for the lines.
+// No `split` here and in put_lines: it gives one line more, behind the last newline.
 pub(crate) fn has_room(s: &[u8], from: Names, to: Names, room: usize) -> bool
     requires { each readable (lines_in from s.now) ≡ true }
     ensures { result ≡ leb (length (text_in to (lines_in from s.now))) room }

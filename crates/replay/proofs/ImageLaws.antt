@@ -5,10 +5,11 @@ use mathlib.Core.List.{List}
 use native.Mathlib.Omega.{arith}
 use lib.ListN.{length, drop, length-append}
 use Rattle.writer.specs.Writer.{image, WriteIs, not-by-form, too_short, written}
-use Rattle.writer.specs.declared.Written.{Written}
+use Rattle.std.specs.Prelude.{Ok}
+use Rattle.writer.specs.Writer.{Written}
 
 pub image-fits : {xs ls o p : List ℕ} {w : Written} {n : ℕ} → WriteIs xs ls o w p
-    → w ≡ Written.Length n → n ≤ length p
+    → w ≡ Ok n → n ≤ length p
 image-fits (not-by-form g) e = absurd (let z : ◌≡◌ {A = ℕ} 0 1 = cc in omega arith)
 image-fits (too_short g l) e = absurd (let z : ◌≡◌ {A = ℕ} 0 1 = cc in omega arith)
 image-fits {xs} {ls} {o} {n = n} (written g l) e =

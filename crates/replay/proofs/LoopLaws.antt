@@ -18,8 +18,7 @@ use Rattle.feed.specs.declared.state.Fed.{Fed}
 use Rattle.feed.specs.declared.state.Feed.{Feed}
 use Rattle.feed.specs.declared.state.Stage.{Stage}
 use Rattle.feed.proofs.WholeLaws.{taken-part, taken-some}
-use Rattle.streams.specs.Got.{GotFrom}
-use Rattle.streams.specs.declared.Got.{Got}
+use Rattle.streams.specs.declared.status.Status.{Status}
 use Rattle.replay.specs.Fed.{FedAll, Goes, Over, ReadOn}
 use Rattle.replay.specs.declared.run.Going.{Going}
 use Rattle.replay.specs.declared.run.Sent.{Sent}
@@ -130,7 +129,7 @@ goes-not s e o = record {
       ∙ sym (ap (λ (b : Bool). b && not (is_ended s.feed.stage)) (not-true s.whole e));
 }
 
-pub goes_by : (s : Sent) (ends : Bool) (status : ℕ) → not s.whole ≡ false
+pub goes_by : (s : Sent) (ends : Bool) (status : Status) → not s.whole ≡ false
     → ends ≡ is_ended s.feed.stage
     → Goes s (record { feed = s.feed; more = not ends; status = status })
 goes_by s ends status e is = record {
@@ -141,15 +140,15 @@ goes_by s ends status e is = record {
 }
 
 -- bytes came, and were fed
-pub read-on : {f : Feed} {xs ls xs' ls' input : List ℕ} {got : Got} {n : ℕ} {s : Sent} {g : Going}
-    → got ≡ Got.Bytes n → GotFrom got input → n ≤ length input
+pub read-on : {f : Feed} {xs ls xs' ls' input : List ℕ} {n : ℕ} {s : Sent} {g : Going}
+    → 0 < n → n ≤ length input
     → FedAll f (take n input) xs ls xs' ls' s → Goes s g → ReadOn f xs ls xs' ls' input g
-read-on {xs' = xs'} {ls' = ls'} {input = input} {n = n} {s = s} e came within fed goes = record {
+read-on {xs' = xs'} {ls' = ls'} {input = input} {n = n} {s = s} came within fed goes = record {
   more = λ more.
       let w = and_yes s.whole (not (is_ended s.feed.stage)) (sym goes.more ∙ more) in (
         n,
         record {
-          some = (subst (λ (got : Got). GotFrom got input) e came).0;
+          some = came;
           within = within;
           next = ap (λ (d : Feed). feeding_of d xs' ls') goes.feed ∙ fed.next w.0;
           goes =

@@ -6,7 +6,7 @@
 
 use feed::state::{LINKS_WORDS, SITE_WORDS};
 use std::io::Result;
-use streams::Streams;
+use streams::{Status, Streams};
 
 mod run;
 mod site_image;
@@ -23,13 +23,13 @@ fn image_of<S: Streams>(rt: &S) -> Option<Result<S::File>> {
 // The site's image, where one is asked for and the trace was read to its end.
 fn finish<S: Streams>(
     rt: &S,
-    status: u8,
+    status: Status,
     to: Option<Result<S::File>>,
     site: &[u64],
     links: &[u64],
     out: &mut [u8],
-) -> u8 {
-    if status != 0 {
+) -> Status {
+    if status != Status::Done {
         return status;
     }
     match to {

@@ -7,7 +7,7 @@ ghost use Rattle.replay.specs.Fed.{FedAll, Goes, Over, ReadOn};
 
 use crate::tell::{tell_refused, tell_unended};
 use feed::state::Feed;
-use streams::{Got, Streams};
+use streams::{Status, Streams};
 
 // The state after a piece, and whether all that was said of it was written.
 #[derive(Clone, Copy)]
@@ -21,7 +21,7 @@ struct Sent {
 struct Going {
     feed: Feed,
     more: bool,
-    status: u8,
+    status: Status,
 }
 
 // Writes what is said. Where that fails, it is told why.
@@ -34,7 +34,7 @@ fn write<S: Streams>(rt: &S, said: &[u8]) -> bool {
 }
 
 // Feeds the whole piece, and writes what is said of it whenever out is full and at the end. It
-// stops where that fails.
+// stops where that fails. No `for`: it goes on behind what was taken.
 fn feed_all<S: Streams>(
     rt: &S,
     f: Feed,
@@ -70,20 +70,21 @@ fn feed_all<S: Streams>(
 }
 
 // What is left to say when the input has ended; gives the status.
-fn write_end<S: Streams>(rt: &S, f: Feed, out: &mut [u8]) -> u8 {
-    let e = feed::feed_end(f, out);
-    let at = e.at;
+fn write_end<S: Streams>(rt: &S, f: Feed, out: &mut [u8]) -> Status {
+    let Ok(at) = feed::feed_end(f, out) else {
+        return Status::Done;
+    };
     if at == 0 {
-        return 0;
+        return Status::Done;
     }
     if !write(rt, &out[..at]) {
-        return 3;
+        return Status::Failed;
     }
     tell_unended(rt, f);
-    1
+    Status::Refused
 }
 
-fn over(f: Feed, status: u8) -> Going
+fn over(f: Feed, status: Status) -> Going
     ensures { Over f result }
 {
     Going {
@@ -99,12 +100,12 @@ fn after(s: Sent) -> Going
 {
     let f = s.feed;
     if !s.whole {
-        return over(f, 3);
+        return over(f, Status::Failed);
     }
     Going {
         feed: f,
         more: !feed::is_ended(f),
-        status: 1,
+        status: Status::Refused,
     }
 }
 
@@ -122,17 +123,17 @@ fn read_some<S: Streams>(
         input.new result }
 {
     match streams::read_input(rt, input) {
-        Got::Bytes(n) => {
-            let s = feed_all(rt, f, &input[..n], site, links, out);
-            after(s)
-        }
-        Got::End => {
+        Ok(0) => {
             let status = write_end(rt, f, out);
             over(f, status)
         }
-        Got::Failed(error) => {
+        Ok(n) => {
+            let s = feed_all(rt, f, &input[..n], site, links, out);
+            after(s)
+        }
+        Err(error) => {
             streams::fail(rt, b"replay: standard input", error);
-            over(f, 3)
+            over(f, Status::Failed)
         }
     }
 }
@@ -144,19 +145,17 @@ pub(crate) fn run<S: Streams>(
     links: &mut [u64],
     input: &mut [u8],
     out: &mut [u8],
-) -> u8
+) -> Status
     requires { (site_words 5 32 ≤ length site.old) × (links_words 5 32 8 ≤ length links.old)
         × (answer_most ≤ length out.old) }
 {
     let mut f = feed::start();
-    let mut turns = u64::MAX;
-    while turns > 0 {
+    for _ in 0..u64::MAX {
         let g = read_some(rt, f, site, links, input, out);
         f = g.feed;
         if !g.more {
             return g.status;
         }
-        turns -= 1;
     }
-    3
+    Status::Failed
 }

@@ -1,7 +1,6 @@
 // The image of the site after the last line.
 use std::io::Result;
-use streams::Streams;
-use writer::Written;
+use streams::{Status, Streams};
 
 const IMAGE: &str = "/proc/self/fd/4";
 
@@ -24,18 +23,18 @@ pub(crate) fn send_image<S: Streams>(
     site: &[u64],
     links: &[u64],
     out: &mut [u8],
-) -> u8 {
+) -> Status {
     match writer::write(site, links, out) {
-        Written::Length(n) => {
+        Ok(n) => {
             if let Err(error) = send(rt, to, &out[..n]) {
                 streams::fail(rt, b"replay: the image", error);
-                return 3;
+                return Status::Failed;
             }
-            0
+            Status::Done
         }
-        Written::Refused(_) => {
+        Err(_) => {
             wording::say(rt, b"replay", b"a trace without a line has no site");
-            1
+            Status::Refused
         }
     }
 }

@@ -6,7 +6,6 @@ ghost use Rattle.io.specs.Counts.{IsPrefixLen};
 use feed::state::Feed;
 use lines::Line;
 use streams::Streams;
-use wording::Place;
 use wording::fault::{Fault, fault_of};
 use wording::put::put;
 
@@ -17,35 +16,31 @@ fn past_lines(piece: &[u8], n: u64) -> usize
     ensures { result ≤ length piece.now }
 {
     let mut left = n;
-    let mut i = 0;
-    while i < piece.len() {
+    for (i, b) in piece.iter().enumerate() {
         if left == 0 {
             return i;
         }
-        if piece[i] == 10 {
+        if *b == b'\n' {
             left -= 1;
         }
-        i += 1;
     }
-    i
+    piece.len()
 }
 
 // The first n bytes of line, or all.
 fn put_first(text: &mut [u8], line: &[u8], n: usize) -> usize
     ensures { IsPrefixLen result text.new }
 {
-    if n < line.len() {
-        return put(text, 0, &line[..n]);
-    }
-    put(text, 0, line)
+    put(text, 0, &line[..n.min(line.len())])
 }
 
 // What is held of the line that has begun.
 fn held(text: &mut [u8], f: Feed) -> usize
     ensures { IsPrefixLen result text.new }
 {
-    let line = f.line;
-    put_first(text, &line, f.len)
+    let held = f.held;
+    let line = held.line;
+    put_first(text, &line, held.len)
 }
 
 // The beginning of the line n lines after the one that has begun: f was the state before piece.
@@ -71,14 +66,13 @@ fn tell_misplaced<S: Streams>(rt: &S, k: u64, text: &[u8]) {
 }
 
 fn say<S: Streams>(rt: &S, k: u64, text: &[u8], words: &[u8]) {
-    wording::refuse(rt, b"replay", Place::Line(k), text, UNREADABLE, words);
+    wording::refuse(rt, b"replay", Some(k), text, UNREADABLE, words);
 }
 
 fn tell_other<S: Streams>(rt: &S, k: u64, text: &[u8]) {
     match lines::read_line(text) {
         Line::Site(_, _, _) => say(rt, k, text, b"a site line stands first and nowhere else"),
-        Line::Call(_) => tell_misplaced(rt, k, text),
-        Line::Holds(_, _, _, _) => tell_misplaced(rt, k, text),
+        Line::Call(_) | Line::Holds(_, _, _, _) => tell_misplaced(rt, k, text),
         Line::Unreadable => say(rt, k, text, b""),
     }
 }
@@ -100,7 +94,7 @@ fn tell_unreadable<S: Streams>(rt: &S, k: u64, text: &[u8], ended: bool) {
     if let Fault::Other = why {
         tell_other(rt, k, text);
     } else {
-        wording::refuse_unreadable(rt, b"replay", Place::Line(k), text, why);
+        wording::refuse_unreadable(rt, b"replay", Some(k), text, why);
     }
 }
 
@@ -109,18 +103,13 @@ fn tell_line<S: Streams>(rt: &S, k: u64, text: &[u8], code: u64) {
         tell_unreadable(rt, k, text, true);
         return;
     }
-    wording::refuse(rt, b"replay", Place::Line(k), text, code, b"");
-}
-
-// How many lines k is after first.
-fn lines_after(first: u64, k: u64) -> u64 {
-    if first < k { k - first } else { 0 }
+    wording::refuse(rt, b"replay", Some(k), text, code, b"");
 }
 
 // Line k was refused as piece was fed to f, and said ends with the answer.
 fn tell_in<S: Streams>(rt: &S, text: &mut [u8], f: Feed, k: u64, piece: &[u8], said: &[u8]) {
     let code = wording::number::code(said);
-    let n = gather(text, f, piece, lines_after(f.k, k));
+    let n = gather(text, f, piece, k.saturating_sub(f.k));
     tell_line(rt, k, &text[..n], code);
 }
 

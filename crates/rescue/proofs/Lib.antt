@@ -1,2 +1,1 @@
--- The loops of `rescue` end, and stay inside what is lent.
-pub mod ReadLaws
+-- The functions of `rescue` are safe and end.

@@ -1,2 +1,1 @@
 -- What the contracts of `rescue` cite.
-pub mod Filled

@@ -1,44 +1,32 @@
 // One image: its block goes to standard output, and why it is refused to standard error.
-use crate::run::{Run, Stage, least};
-use hexed::Hexed;
+use by_lines::{Answered, Answers, End};
+use hexed::HexError;
 use salvage::Told;
+use std::io::Result;
 use streams::Streams;
-use wording::Place;
 
-// How an image was answered.
-#[derive(Clone, Copy)]
-pub enum Answered {
-    Block,
-    Refused,
-    Failed,
-}
-
-fn sent<S: Streams>(rt: &S, text: &[u8], is: Answered) -> Answered {
-    if let Err(error) = streams::write_output(rt, text) {
-        streams::fail(rt, b"salvage: standard output", error);
-        return Answered::Failed;
-    }
-    is
+// Work room: for an image, and for its block.
+#[derive(Drop)]
+pub(crate) struct Room<'a> {
+    pub(crate) image: &'a mut [u8],
+    pub(crate) out: &'a mut [u8],
 }
 
 // No sound table, or too long.
-pub(crate) fn refused<S: Streams>(rt: &S) -> Answered {
-    sent(rt, b"refused 17\n.\n", Answered::Refused)
+pub(crate) fn refused<S: Streams>(rt: &S) -> Result<Answered> {
+    streams::write_output(rt, b"refused 17\n.\n")?;
+    Ok(Answered::Refused)
 }
 
 // The block of an image.
-pub(crate) fn tell<S: Streams>(rt: &S, image: &[u8], out: &mut [u8]) -> Answered {
-    match salvage::salvage(image, out) {
-        Told::Block(n) => {
-            let k = least(n, out.len());
-            sent(rt, &out[0..k], Answered::Block)
-        }
-        Told::Refused(n) => {
-            let k = least(n, out.len());
-            sent(rt, &out[0..k], Answered::Refused)
-        }
-        Told::Short => refused(rt),
-    }
+pub(crate) fn tell<S: Streams>(rt: &S, image: &[u8], out: &mut [u8]) -> Result<Answered> {
+    let (n, answered) = match salvage::salvage(image, out) {
+        Told::Block(n) => (n, Answered::Done),
+        Told::Refused(n) => (n, Answered::Refused),
+        Told::Short => return refused(rt),
+    };
+    streams::write_output(rt, &out[..n.min(out.len())])?;
+    Ok(answered)
 }
 
 // .. of one in hex.
@@ -47,48 +35,28 @@ pub(crate) fn tell_hex<S: Streams>(
     text: &[u8],
     image: &mut [u8],
     out: &mut [u8],
-) -> Answered {
+) -> Result<Answered> {
     match hexed::read_hex(text, image) {
-        Hexed::Length(n) => {
-            let k = least(n, image.len());
-            tell(rt, &image[0..k], out)
-        }
-        Hexed::Long => refused(rt),
-        Hexed::Bad => refused(rt),
+        Ok(n) => tell(rt, &image[..n.min(image.len())], out),
+        Err(HexError::Long | HexError::Bad) => refused(rt),
     }
 }
 
-// A line was answered.
-pub(crate) fn go_on<S: Streams>(rt: &S, line: &[u8], a: Answered, run: Run) -> Run {
-    match a {
-        Answered::Block => run.with_line(false),
-        Answered::Refused => {
+// A line that fills its buffer is longer than any image, and one that no newline ends is a line
+// too.
+impl<'a, S: Streams> Answers<S> for Room<'a> {
+    fn answer(&mut self, rt: &S, line: &[u8], number: u64, _end: End) -> Result<Answered> {
+        let answered = tell_hex(rt, line, self.image, self.out)?;
+        if answered == Answered::Refused {
             wording::refuse(
                 rt,
                 b"salvage",
-                Place::Line(run.number()),
+                Some(number),
                 line,
                 17,
                 b"no image of at most 65,536 bytes with a sound table of contents",
             );
-            run.with_line(true)
         }
-        Answered::Failed => run.with_stage(Stage::Failed),
-    }
-}
-
-// The one image was answered.
-pub(crate) fn status<S: Streams>(rt: &S, a: Answered) -> u8 {
-    match a {
-        Answered::Block => 0,
-        Answered::Refused => {
-            wording::say(
-                rt,
-                b"salvage",
-                b"refused 17: no image of at most 65,536 bytes with a sound table of contents",
-            );
-            1
-        }
-        Answered::Failed => 3,
+        Ok(answered)
     }
 }

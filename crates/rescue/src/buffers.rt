@@ -1,35 +1,26 @@
 // Room for an image of at most 65,536 bytes, for its hex with two bytes more, which a longer one
 // fills, and for its block.
-use crate::{pieces, whole_input};
-use streams::Streams;
+use crate::answer::Room;
+use crate::whole_input;
+use streams::{Status, Streams, buffer};
 
 const IMAGE: usize = 65536;
 
 const LINE: usize = 2 * IMAGE + 2;
 
-// Large buffers come from functions, so that their lengths are known by their types.
-fn line_room() -> [u8; LINE] {
-    [0u8; LINE]
-}
+const OUT: usize = salvage::MOST_TEXT;
 
-fn image_room() -> [u8; IMAGE] {
-    [0u8; IMAGE]
-}
-
-fn out_room() -> [u8; salvage::MOST_TEXT] {
-    [0u8; salvage::MOST_TEXT]
-}
-
-fn serve_lines<S: Streams>(rt: &S, line: &mut [u8], image: &mut [u8], out: &mut [u8]) -> u8 {
+fn serve_lines<S: Streams>(rt: &S, line: &mut [u8], image: &mut [u8], out: &mut [u8]) -> Status {
     let mut piece = io::large_buffer();
-    pieces::serve(rt, &mut piece, line, image, out)
+    let mut room = Room { image, out };
+    by_lines::serve(rt, b"salvage", &mut piece, line, &mut room)
 }
 
 // `hex`: lines of images; else one image.
-pub(crate) fn serve<S: Streams>(rt: &S) -> u8 {
-    let mut line = line_room();
-    let mut image = image_room();
-    let mut out = out_room();
+pub(crate) fn serve<S: Streams>(rt: &S) -> Status {
+    let mut line = buffer::bytes::<LINE>();
+    let mut image = buffer::bytes::<IMAGE>();
+    let mut out = buffer::bytes::<OUT>();
     if streams::has_argument(rt, 2, b"hex") {
         return serve_lines(rt, &mut line, &mut image, &mut out);
     }

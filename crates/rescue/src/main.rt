@@ -7,14 +7,8 @@
 
 mod answer;
 mod buffers;
-mod pieces;
-mod run;
 mod whole_input;
 
-// `report`: the status goes to descriptor 3.
 fn main(rt: HostRuntime) {
-    let status = buffers::serve(&rt);
-    if streams::has_argument(&rt, 1, b"report") {
-        streams::report(&rt, status);
-    }
+    streams::report_if_asked(&rt, buffers::serve(&rt));
 }

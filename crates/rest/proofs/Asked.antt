@@ -1,5 +1,6 @@
 -- Two sites with the same sizes, epoch and present set, whose boxes keep the same: a holds line is
 -- answered alike, and so is who has not answered a lease.
+use Rattle.std.specs.Prelude.{Result, Err}
 use Prim.Native.Nat.{ℕ}
 use mathlib.Core.Path.{◌≡◌, refl, sym, ap, ◌∙◌}
 use mathlib.Core.Bool.{Bool, true, false, ◌&&◌}
@@ -12,7 +13,6 @@ use Rattle.rules.specs.Form.{form}
 use Rattle.rules.specs.Needs.{Need, need, ruled}
 use Rattle.rules.specs.Step.{agreed_as, holds}
 use Rattle.rules.specs.Unheard.{lease_is_out, unheard_by, unheard}
-use Rattle.rules.specs.declared.model.Unheard.{Unheard}
 use Rattle.laws.proofs.Types.{Answer, BoxState, Refusal, Setting}
 use Rattle.laws.proofs.Logic.{Or, left, right, decide, In, and_yes}
 use Rattle.laws.proofs.FormLaws.{is-box}
@@ -55,13 +55,13 @@ module _ (x : Site) (box : ℕ → Box) (link : Links) (fx : form x ≡ true)
       → (c : ℕ) → unheard x c ≡ unheard (changed x box link) c
   unfolding unheard
   unheard-two by c =
-      met Unheard.Refused Refusal.Form (form x) _ _ fx
-      ∙ ruled-more Unheard.Refused Refusal.Box (is_box x.n c) [] [] _ _
+      met Err Refusal.Form (form x) _ _ fx
+      ∙ ruled-more Err Refusal.Box (is_box x.n c) [] [] _ _
       (λ e. none (by c (is-box e)))
-      ∙ sym (met Unheard.Refused Refusal.Form (form (changed x box link)) _ _ fy)
+      ∙ sym (met Err Refusal.Form (form (changed x box link)) _ _ fy)
     where
-      none : {a b : Unheard} → a ≡ b → ruled Unheard.Refused [] a ≡ ruled Unheard.Refused [] b
-      none e = ap (ruled Unheard.Refused []) e
+      none : {a b : Result ℕ Refusal} → a ≡ b → ruled Err [] a ≡ ruled Err [] b
+      none e = ap (ruled Err []) e
 
 -- no lease is out in an odd epoch
 pub odd-unheard : (b d : BoxState) (s : Setting) → even s.epoch ≡ false
@@ -81,7 +81,7 @@ unfolding unheard_by lease_is_out
 out b o s e = rw e refl
 
 off : (b : BoxState) (s : Setting) → lease_is_out b s ≡ false
-    → unheard_by b s ≡ Unheard.Refused Refusal.Condition
+    → unheard_by b s ≡ Err Refusal.Condition
 unfolding unheard_by
 off b s e = pick-false _ _ _ e
 

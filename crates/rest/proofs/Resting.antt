@@ -7,6 +7,7 @@ use mathlib.Core.List.{List, [], ◌∷◌}
 use native.Mathlib.Omega.{arith}
 use lib.Dec.{ltb}
 use lib.ListN.{length, drop}
+use Rattle.std.specs.Prelude.{Option}
 use Rattle.rules.specs.Pick.{pick}
 use Rattle.rules.specs.Sizes.{even, record_of}
 use Rattle.rules.specs.Fields.{with_waiting}
@@ -22,7 +23,7 @@ use Rattle.rules.specs.Form.{form}
 use Rattle.rules.specs.Needs.{Need, need, ruled}
 use Rattle.rules.specs.Step.{refused, did, by_answer, at_box, acting, delivered, elect}
 use Rattle.rules.specs.Step.{presented, step}
-use Rattle.laws.proofs.Types.{Act, Answer, Book, BoxState, Call, Held, Out, Refusal, Setting}
+use Rattle.laws.proofs.Types.{Act, Answer, Book, BoxState, Call, Out, Refusal, Setting}
 use Rattle.laws.proofs.Types.{Verdict}
 use Rattle.laws.proofs.Logic.{Or, left, right, both-no, In, Passed}
 use Rattle.laws.proofs.FormLaws.{box-is}
@@ -52,7 +53,7 @@ oddly Act.Finish = Refusal.Condition
 oddly Act.Heard = Refusal.Condition
 oddly (Act.Trim k) = Refusal.Condition
 
-module _ (b : BoxState) (s : Setting) (odd : even s.epoch ≡ false) (m : Held) where
+module _ (b : BoxState) (s : Setting) (odd : even s.epoch ≡ false) (m : Option ℕ) where
   no-offer : (l r : ℕ) → offer b s l r ≡ still b (Answer.Refused (oddly (Act.Offer l r)))
   unfolding offer can_offer unless oddly pick settled
   no-offer l r = rw odd (go (ltb 0 l && ltb 0 r))

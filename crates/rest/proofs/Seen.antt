@@ -11,7 +11,7 @@ use Rattle.rules.specs.Sets.{bit, joined, without, digit, has, set_form, full_se
 use Rattle.rules.specs.Numbers.{in_state, in_phase}
 use Rattle.rules.specs.NewPn.{new_pn}
 use Rattle.rules.specs.Turns.{first_cause, unless, settled}
-use Rattle.rules.specs.Parts.{others, is_held, under_of, higher, took_kept, took_book, room_next}
+use Rattle.rules.specs.Parts.{others, under_of, higher, took_kept, took_book, room_next}
 use Rattle.rules.specs.Parts.{cleared}
 use Rattle.rules.specs.Last.{noted, told, behind, lagging, improves, bettered, raised, counted}
 use Rattle.rules.specs.Last.{uncounted, replied, last_verdict, on_last}
@@ -89,7 +89,7 @@ pub load-after-rest :
     ranges (done_by (start 2 16 8) (agreed-after ++ rests ∷ begun)) ≡ 1 ∷ 1 ∷ 1 ∷ 1 ∷ []
 unfolding begun agreed-after pick all each every tally sizes_form proper record_form bit joined
     without digit has set_form full_set in_state in_phase new_pn first_cause unless
-    settled others is_held
+    settled others
     under_of took_kept took_book cleared noted told behind lagging improves bettered raised counted
     uncounted replied last_verdict on_last unagreed_of on_collect begin_verdict
     on_begin accept_verdict

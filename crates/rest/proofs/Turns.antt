@@ -4,6 +4,7 @@ use mathlib.Core.Path.{◌≡◌, refl, sym, ap, subst}
 use mathlib.Core.Bool.{Bool, true, false, not}
 use lib.ListN.{get_or}
 use borrow.Author.Tests.{eq-eqb}
+use Rattle.std.specs.Prelude.{Option}
 use Rattle.rules.specs.Pick.{pick}
 use Rattle.rules.specs.Sets.{joined}
 use Rattle.rules.specs.Numbers.{in_phase}
@@ -21,7 +22,7 @@ use Rattle.rules.specs.Steps.{can_agree}
 use Rattle.rules.specs.Steps.{agree, can_finish, finish, can_heard, lease_heard, can_trim, trim}
 use Rattle.rules.specs.Steps.{acted}
 use Rattle.rules.specs.Box.{Box, Event, own, mail, mine, next_of, turn_of}
-use Rattle.laws.proofs.Types.{Act, Best, BoxState, Held, Kind, Mail, Phase, Refusal, Setting, State}
+use Rattle.laws.proofs.Types.{Act, Best, BoxState, Kind, Mail, Phase, Refusal, Setting, State}
 use Rattle.laws.proofs.Types.{Turn, Verdict}
 use Rattle.laws.proofs.Logic.{Or, left, right, decide, both-no, or_left}
 use Rattle.laws.proofs.Conditions.{can-ready, can-agree, can-heard}
@@ -76,7 +77,7 @@ can_ready_phase : (c : BoxState) (s : Setting) → can_ready c s ≡ true
 unfolding in_phase
 can_ready_phase c s t = eq-eqb _ _ (can-ready {b = c} {s = s} t).0.phase
 
-can_agree_phase : (c : BoxState) (s : Setting) (m : Held) → can_agree c s m ≡ true
+can_agree_phase : (c : BoxState) (s : Setting) (m : Option ℕ) → can_agree c s m ≡ true
     → in_phase c.phase Phase.Begin ≡ true
 unfolding in_phase
 can_agree_phase c s m t = eq-eqb _ _ (can-agree {b = c} {s = s} t).leading.phase
@@ -115,7 +116,7 @@ module _ (b : BoxState) (o : Aside) (h : Unread b.phase (aside_of b) o) (s : Set
   recover-two =
       settled-two b o _ _ _ h (λ go. record { same = refl; unread = idle refl refl refl })
 
-  collect-two : (m : Held) → TurnAlike (collect b s m) (collect d s m)
+  collect-two : (m : Option ℕ) → TurnAlike (collect b s m) (collect d s m)
   unfolding collect can_collect in_phase
   collect-two m =
       settled-two b o _ _ _ h
@@ -171,18 +172,18 @@ module _ (b : BoxState) (o : Aside) (h : Unread b.phase (aside_of b) o) (s : Set
           (sym (collected e)) (is-ready o.accepts o.heard) h
       go (right e) = rw (not-ready b e, not-ready d e) refuses-two
 
-  not-agree : (c : BoxState) (m : Held) → in_phase c.phase Phase.Begin ≡ false
+  not-agree : (c : BoxState) (m : Option ℕ) → in_phase c.phase Phase.Begin ≡ false
       → agree c s m ≡ refuses c
   unfolding agree unless pick settled
   not-agree c m e = rw (no (can_agree c s m) (λ t. both-no (can_agree_phase c s m t) e)) refl
 
-  is_agree : (m : Held) (q : Aside) → Unread b.phase (aside_of b) (from_begin b q)
+  is_agree : (m : Option ℕ) (q : Aside) → Unread b.phase (aside_of b) (from_begin b q)
       → TurnAlike (agree b s m) (agree (aside b (from_begin b q)) s m)
   unfolding agree can_agree in_phase
   is_agree m q u =
       settled-two b _ _ _ _ u (λ go. record { same = refl; unread = idle refl refl refl })
 
-  agree-two : (m : Held) → TurnAlike (agree b s m) (agree d s m)
+  agree-two : (m : Option ℕ) → TurnAlike (agree b s m) (agree d s m)
   agree-two m = go (decide (in_phase b.phase Phase.Begin))
     where
       go : Or (in_phase b.phase Phase.Begin ≡ true) (in_phase b.phase Phase.Begin ≡ false)
@@ -214,7 +215,7 @@ module _ (b : BoxState) (o : Aside) (h : Unread b.phase (aside_of b) o) (s : Set
           (sym (leased-out (or_left (in_phase b.phase Phase.LeaseDone) e))) (is-heard o) h
       go (right e) = rw (not-heard b e, not-heard d e) refuses-two
 
-  pub act-two : (a : Act) (m : Held) → TurnAlike (acted a b s m) (acted a d s m)
+  pub act-two : (a : Act) (m : Option ℕ) → TurnAlike (acted a b s m) (acted a d s m)
   unfolding acted
   act-two Act.Recover m = recover-two
   act-two Act.Collect m = collect-two m
@@ -228,7 +229,8 @@ module _ (b : BoxState) (o : Aside) (h : Unread b.phase (aside_of b) o) (s : Set
 
   -- ---- mail
 
-  on-collect : (a : ℕ) (m : Mail) (k : Held) → TurnAlike (on_collect b a m k) (on_collect d a m k)
+  on-collect : (a : ℕ) (m : Mail) (k : Option ℕ)
+      → TurnAlike (on_collect b a m k) (on_collect d a m k)
   unfolding on_collect
   on-collect a m k = settled-two b o _ _ _ h (λ go. record { same = refl; unread = h })
 
@@ -287,7 +289,7 @@ module _ (b : BoxState) (o : Aside) (h : Unread b.phase (aside_of b) o) (s : Set
       })
 
   -- a Last is taken in phase Collect, where the two differ in accepts and heard alone
-  replied-two : (c : BoxState) (q k me a : ℕ) (m : Mail) (next : Held)
+  replied-two : (c : BoxState) (q k me a : ℕ) (m : Mail) (next : Option ℕ)
       → Unread c.phase (aside_of c) (from_collect c q k)
       → HeadAlike (replied c me a m next) (replied (aside c (from_collect c q k)) me a m next)
   unfolding replied raised counted uncounted in_phase
@@ -317,7 +319,7 @@ module _ (b : BoxState) (o : Aside) (h : Unread b.phase (aside_of b) o) (s : Set
       }
 
   last-two : (q k : ℕ) → Unread b.phase (aside_of b) (from_collect b q k) → (a : ℕ) (m : Mail)
-      (next : Held)
+      (next : Option ℕ)
       → TurnAlike (on_last b s a m next) (on_last (aside b (from_collect b q k)) s a m next)
   unfolding on_last last_verdict told
   last-two q k u a m next =
@@ -333,14 +335,14 @@ module _ (b : BoxState) (o : Aside) (h : Unread b.phase (aside_of b) o) (s : Set
       in record { same = rw r.same refl; unread = r.unread })
 
   -- .. and in another phase it is not
-  not_last : (c : BoxState) (a : ℕ) (m : Mail) (next : Held)
+  not_last : (c : BoxState) (a : ℕ) (m : Mail) (next : Option ℕ)
       → in_phase c.phase Phase.Collect ≡ false
       → on_last c s a m next
       ≡ settled c (first_cause (not c.leads) true false false Verdict.Go) (leased c s)
   unfolding on_last last_verdict
   not_last c a m next e = rw e (shut c.leads _ c _ _)
 
-  on-last : (a : ℕ) (m : Mail) (next : Held)
+  on-last : (a : ℕ) (m : Mail) (next : Option ℕ)
       → TurnAlike (on_last b s a m next) (on_last d s a m next)
   on-last a m next = go (decide (in_phase b.phase Phase.Collect))
     where
@@ -354,7 +356,7 @@ module _ (b : BoxState) (o : Aside) (h : Unread b.phase (aside_of b) o) (s : Set
           rw (not_last b a m next e, not_last d a m next e)
           (settled-two b o _ _ _ h (λ go. lease-two b o))
 
-  kind-two : (k : Kind) (a : ℕ) (m : Mail) (one : ℕ) (next mine : Held)
+  kind-two : (k : Kind) (a : ℕ) (m : Mail) (one : ℕ) (next mine : Option ℕ)
       → TurnAlike (of_kind k b s a m one next mine) (of_kind k d s a m one next mine)
   unfolding of_kind
   kind-two Kind.Collect a m one next mine = on-collect a m mine
@@ -365,7 +367,7 @@ module _ (b : BoxState) (o : Aside) (h : Unread b.phase (aside_of b) o) (s : Set
   kind-two Kind.Lease a m one next mine = on-lease a m
   kind-two Kind.LeaseAck a m one next mine = on-lease-ack a
 
-  mail-two : (a : ℕ) (m : Mail) (one : ℕ) (next mine : Held)
+  mail-two : (a : ℕ) (m : Mail) (one : ℕ) (next mine : Option ℕ)
       → TurnAlike (on_mail b s a m one next mine) (on_mail d s a m one next mine)
   unfolding on_mail
   mail-two a m one next mine =

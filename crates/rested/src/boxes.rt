@@ -55,9 +55,7 @@ pub(crate) fn rest_rows(site: &mut [u64], links: &[u64], s: Setting)
     ensures { RowsPut s (λ b. rested_box (boxes_of s site.old b))
         site.old site.new }
 {
-    let mut b = 0;
-    while b < s.n {
-        b += 1;
+    for b in 1..=s.n {
         let known = Setting { me: b, ..s };
         rest_row(site, links, known);
     }

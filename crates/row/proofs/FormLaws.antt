@@ -17,7 +17,7 @@ use Rattle.index.specs.Lent.{Indexed}
 use Rattle.index.proofs.FormLaws.{form-indexed, indexed-form}
 use Rattle.values.specs.Counts.{held_count}
 use Rattle.values.specs.Faults.{is_whole}
-use Rattle.values.specs.declared.Fault.{Fault}
+use Rattle.std.specs.Prelude.{None}
 use Rattle.values.proofs.AllLaws.{all-at}
 use Rattle.values.proofs.FaultLaws.{then-passed, passed_then}
 use Rattle.rules.proofs.BoundLaws.{first-of}
@@ -88,7 +88,7 @@ module _ (w : List ℕ) (J : ℕ) (first : first_form (get_or w first_at 0) (get
       (first_says (get_or w first_at 0) (get_or w last_at 0) first).1
 
 module _ (n J b : ℕ) (w : List ℕ) where
-  pub head-says : head_fault n J b w ≡ Fault.None → HeadSays n J b w
+  pub head-says : head_fault n J b w ≡ None → HeadSays n J b w
   unfolding head_fault
   head-says e =
       let one = then-passed (number_tests w) _ e in
@@ -132,7 +132,7 @@ module _ (n J b : ℕ) (w : List ℕ) where
           && peer_form n b (head_of n w).peers 1) ≡ true
       five t = rw (all-at 0 _ t, all-at 1 _ t, all-at 2 _ t, all-at 3 _ t, all-at 4 _ t)
 
-  pub head-whole : HeadSays n J b w → head_fault n J b w ≡ Fault.None
+  pub head-whole : HeadSays n J b w → head_fault n J b w ≡ None
   unfolding head_fault all
   head-whole h =
       passed_then (number_tests w)
@@ -227,7 +227,7 @@ pub record RowFormed (n J b : ℕ) (r : List ℕ) : Type 0 where
   pub fits : row_fits J r ≡ true
   pub box : form_box n J b (box_of n r) ≡ true
   pub proper : each proper (records_of r) ≡ true
-  pub whole : head_fault n J b r ≡ Fault.None
+  pub whole : head_fault n J b r ≡ None
   pub says : HeadSays n J b r
   pub readable : RowReadable n r
   pub booked : RowBooked J r
@@ -274,7 +274,7 @@ module _ (n J b : ℕ) (r : List ℕ) (z : RowSized n J r) where
       }
 
   -- What the code of `is_by_form` has: no word is amiss ..
-  pub form-go : head_fault n J b r ≡ Fault.None
+  pub form-go : head_fault n J b r ≡ None
       → (each proper (records_of r) && index_form (get_or r first_at 0) (agreed_of r)
       (index_of J r))
       ≡ row_form n J b r

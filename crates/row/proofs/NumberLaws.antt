@@ -4,6 +4,7 @@ use mathlib.Core.Bool.{Bool, true, false}
 use Prim.Native.Nat.{ℕ, zero, suc, ◌-◌, ◌≤◌}
 use native.Mathlib.Omega.{arith}
 use lib.Dec.{leb}
+use Rattle.std.specs.Int.{from_bool}
 use Rattle.rules.specs.Numbers.{flag_number, state_number, phase_number}
 use Rattle.rules.specs.declared.model.Phase.{Phase}
 use Rattle.rules.specs.declared.model.State.{State}
@@ -77,3 +78,8 @@ flag-number-back (suc (suc x)) h = absurd (omega arith)
 pub flag_in : (b : Bool) → leb (flag_number b) 1 ≡ true
 flag_in true = refl
 flag_in false = refl
+
+-- .. and the library's number of a test is the same.
+pub flag-from : (b : Bool) → from_bool b ≡ flag_number b
+flag-from true = refl
+flag-from false = refl

@@ -5,6 +5,7 @@ use mathlib.Core.List.{List}
 use Prim.Native.Nat.{ℕ, ◌+◌, ◌≤◌}
 use borrow.Author.Tests.{le-leb}
 use lib.ListN.{get_or}
+use Rattle.std.specs.Prelude.{Option}
 use Rattle.rules.specs.Sizes.{most_boxes, most_loads, most_number, most_pn}
 use Rattle.rules.specs.Parts.{span}
 use Rattle.rules.specs.Box.{held_at, next_of, own, mail, turn_of}
@@ -13,7 +14,6 @@ use Rattle.rules.specs.Steps.{acted}
 use Rattle.rules.specs.Bounds.{bounded_box, bounded_mail, any_mail, any_act}
 use Rattle.rules.specs.declared.model.Act.{Act}
 use Rattle.rules.specs.declared.model.BoxState.{BoxState}
-use Rattle.rules.specs.declared.model.Held.{Held}
 use Rattle.rules.specs.declared.model.Mail.{Mail}
 use Rattle.rules.specs.declared.model.Setting.{Setting}
 use Rattle.rules.specs.declared.model.Turn.{Turn}
@@ -27,12 +27,12 @@ use Rattle.row.specs.Lent.{RowByForm, PlaceByForm, records_of}
 use Rattle.row.proofs.FormLaws.{RowFormed, formed}
 
 module _ (b : BoxState) (s : Setting) (inside : bounded_box b s ≡ true) where
-  pub any_act_in : (a : Act) (mine : Held) → any_act b s a mine ≡ acted a b s mine
+  pub any_act_in : (a : Act) (mine : Option ℕ) → any_act b s a mine ≡ acted a b s mine
   unfolding any_act
   any_act_in a mine =
       sym (guard_go b (bounded_box b s) (bounded_box b s) (acted a b s mine) refl inside)
 
-  pub any_mail_in : (sender : ℕ) (m : Mail) (one : ℕ) (next mine : Held) → bounded_mail m ≡ true
+  pub any_mail_in : (sender : ℕ) (m : Mail) (one : ℕ) (next mine : Option ℕ) → bounded_mail m ≡ true
       → any_mail b s sender m one next mine ≡ on_mail b s sender m one next mine
   unfolding any_mail
   any_mail_in sender m one next mine e =
@@ -60,7 +60,7 @@ module _ (s : Setting) (r : List ℕ) (ok : RowByForm s r) where
       )
 
   -- What the code of `act_turn` has computed is the box's own step.
-  pub act_law : (a : Act) (head : BoxState) (rs : List ℕ) (mine : Held) (t : Turn)
+  pub act_law : (a : Act) (head : BoxState) (rs : List ℕ) (mine : Option ℕ) (t : Turn)
       → head ≡ head_of s.n r → rs ≡ records_of r
       → mine ≡ held_at rs (span head.kept.first head.kept.last)
       → t ≡ any_act head s a mine → t ≡ turn_of s (box_of s.n r) (own a)
@@ -83,8 +83,8 @@ module _ (s : Setting) (r : List ℕ) (ok : RowByForm s r) where
         )
 
     -- What the code of `mail_turn` has computed is what the mail makes of the box.
-    pub mail_law : (sender : ℕ) (head : BoxState) (rs : List ℕ) (mine : Held)
-        (m : Mail) (one : ℕ) (next : Held) (t : Turn)
+    pub mail_law : (sender : ℕ) (head : BoxState) (rs : List ℕ) (mine : Option ℕ)
+        (m : Mail) (one : ℕ) (next : Option ℕ) (t : Turn)
         → head ≡ head_of s.n r → rs ≡ records_of r
         → mine ≡ held_at rs (span head.kept.first head.kept.last)
         → m ≡ mail_at p → one ≡ get_or (letter_at p).records 0 0

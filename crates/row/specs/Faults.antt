@@ -6,7 +6,7 @@ use Rattle.rules.specs.Sets.{set_form}
 use Rattle.rules.specs.Form.{first_form, peer_form}
 use Rattle.values.specs.Counts.{held_count}
 use Rattle.values.specs.Faults.{Test, test, fault_then}
-use Rattle.values.specs.declared.Fault.{Fault}
+use Rattle.std.specs.Prelude.{Option, None}
 use Rattle.values.specs.declared.Field.{Field}
 use Rattle.row.specs.Row.{head_of, most_state, most_phase}
 use Rattle.row.specs.Row.{flag_at, state_at, phase_at, pn_at, last_at, first_at, stored_pn_at}
@@ -54,10 +54,10 @@ count_test J w =
     ∷ []
 
 -- the first of a box's words that is not by form
-unfoldable pub head_fault : ℕ → ℕ → ℕ → List ℕ → Fault
+unfoldable pub head_fault : ℕ → ℕ → ℕ → List ℕ → Option Field
 head_fault n J b w =
     fault_then (number_tests w)
     (fault_then (value_tests n w)
     (fault_then (peer_tests n b w)
     (fault_then (count_test J w)
-    Fault.None)))
+    None)))

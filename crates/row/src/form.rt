@@ -11,10 +11,10 @@ use crate::{
     ACCEPTS, AGREEING, ANSWERED, BEFORE_PEERS, BEST, BEST_NUMBER, BEST_PN, COUNT, FIRST, FLAG,
     HEARD, LAST, PHASE, PN, STATE, STORED_NUMBER, STORED_PN, UNKNOWN, WAITING, indexed, records,
 };
-use values::{Fault, Field, MOST_NUMBER, MOST_PN, unless};
+use values::{Field, MOST_NUMBER, MOST_PN, unless};
 
 // Numbers, and what is said of the fields behind them.
-fn number_fault(w: &[u64], rest: Fault) -> Fault
+fn number_fault(w: &[u64], rest: Option<Field>) -> Option<Field>
     requires { head_words ≤ length w.now }
     ensures { result ≡ fault_then (number_tests w.now) rest }
 {
@@ -32,7 +32,7 @@ fn number_fault(w: &[u64], rest: Fault) -> Fault
 }
 
 // Sets and records.
-fn value_fault(w: &[u64], n: u32, rest: Fault) -> Fault
+fn value_fault(w: &[u64], n: u32, rest: Option<Field>) -> Option<Field>
     requires { head_words ≤ length w.now }
     ensures { result ≡ fault_then (value_tests n w.now) rest }
 {
@@ -58,7 +58,7 @@ fn is_peer(w: &[u64], n: u32, b: u32, k: u32) -> bool
     (last == UNKNOWN) | ((k != b) & (last <= MOST_NUMBER))
 }
 
-fn peer_fault(w: &[u64], n: u32, b: u32, rest: Fault) -> Fault
+fn peer_fault(w: &[u64], n: u32, b: u32, rest: Option<Field>) -> Option<Field>
     requires { head_words ≤ length w.now }
     ensures { result ≡ fault_then (peer_tests n b w.now) rest }
 {
@@ -70,14 +70,14 @@ fn peer_fault(w: &[u64], n: u32, b: u32, rest: Fault) -> Fault
 }
 
 // The first of a box's words that is not by form.
-pub fn head_fault(w: &[u64], n: u32, j: u32, b: u32) -> Fault
+pub fn head_fault(w: &[u64], n: u32, j: u32, b: u32) -> Option<Field>
     requires { head_words ≤ length w.now }
     ensures { result ≡ head_fault n j b w.now }
 {
     let f = unless(
         values::is_count(j, w[FIRST], w[LAST], w[COUNT]),
         Field::Count,
-        Fault::None,
+        None,
     );
     let f = peer_fault(w, n, b, f);
     let f = value_fault(w, n, f);
@@ -91,10 +91,10 @@ pub fn is_by_form(row: &[u64], n: u32, j: u32, b: u32) -> bool
 {
     let f = head_fault(row, n, j, b);
     match f {
-        Fault::None => {
+        None => {
             let proper = values::all_proper(records(row));
             proper & indexed::is_indexed(row, j)
         }
-        Fault::At(_) => false,
+        Some(_) => false,
     }
 }

@@ -88,10 +88,8 @@ fn leave_first(row: &mut [u64], j: u32, d: usize)
     ensures { Reindexed j d (get_or row.old first_at 0 + d)
         (drop d (agreed_of row.old)) row.old row.new }
 {
-    let mut i = 0;
-    while i < d {
+    for i in 0..d {
         leave_one(row, j, i);
-        i += 1;
     }
 }
 
@@ -155,10 +153,8 @@ pub(crate) fn enter_from(row: &mut [u64], j: u32, m: usize)
 {
     let a = agreed_count(row, j);
     let first = row[FIRST];
-    let mut i = m;
-    while i < a {
+    for i in m..a {
         enter_one(row, j, values::number(first + words::word(i)), i);
-        i += 1;
     }
 }
 

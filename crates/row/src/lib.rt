@@ -4,7 +4,6 @@
 ghost use Rattle.std.specs.Prelude.{◌≡◌, ◌++◌, ◌+◌, ◌-◌, ◌≤◌, ◌<◌, length, get_or, drop, set};
 ghost use Rattle.words.specs.Rows.{part, splice};
 ghost use Rattle.rules.specs.Sizes.{most_boxes, most_loads};
-ghost use Rattle.rules.specs.Numbers.{flag_number};
 ghost use Rattle.rules.specs.Box.{own, mail, turn_of};
 ghost use Rattle.rules.specs.Site.{fresh_head};
 ghost use Rattle.rules.specs.Own.{elected_box};
@@ -37,7 +36,7 @@ ghost use Rattle.row.specs.Lent.{
 };
 
 use rules::model::{Act, Best, Book, BoxState, Kept, Phase, Setting, State, Stored, Turn};
-use rules::{numbers, parts};
+use rules::parts;
 
 mod agreed;
 mod form;
@@ -92,6 +91,7 @@ pub const HEAD: usize = 22;
 // The last of a peer that is not known.
 pub const UNKNOWN: u64 = 4294967295;
 
+// No From: the type is another crate's, and no impl may stand here. By form no other word occurs.
 pub fn state_of(x: u64) -> State
     ensures { result ≡ state_of x }
 {
@@ -104,6 +104,7 @@ pub fn state_of(x: u64) -> State
     }
 }
 
+// No From, as above.
 pub fn phase_of(x: u64) -> Phase
     ensures { result ≡ phase_of x }
 {
@@ -118,13 +119,8 @@ pub fn phase_of(x: u64) -> Phase
     }
 }
 
-pub fn flag_number(b: bool) -> u64
-    ensures { result ≡ flag_number b }
-{
-    if b { 1 } else { 0 }
-}
-
 // The records that it holds.
+// Not one function with a mail's: where the count stands is the row's own, and what is asked.
 pub fn records(row: &[u64]) -> &[u64]
     requires { head_words + get_or row.now count_at 0 ≤ length row.now }
     ensures { result.now ≡ records_of row.now }
@@ -206,30 +202,30 @@ pub fn store(row: &mut [u64], h: BoxState, held: u32)
     let phase = h.phase;
     let peers = h.peers;
     let fields = [
-        flag_number(h.leads),
-        values::wide(numbers::state_number(state)),
-        values::wide(numbers::phase_number(phase)),
-        values::wide(h.kept.pn),
-        values::wide(h.kept.last),
-        values::wide(h.kept.first),
-        values::wide(h.kept.stored.pn),
-        values::wide(h.kept.stored.number),
-        values::wide(h.best.pn),
-        values::wide(h.best.number),
-        values::wide(h.answered),
-        values::wide(h.accepts),
-        values::wide(h.heard),
+        u64::from(h.leads),
+        u64::from(u32::from(state)),
+        u64::from(u32::from(phase)),
+        u64::from(h.kept.pn),
+        u64::from(h.kept.last),
+        u64::from(h.kept.first),
+        u64::from(h.kept.stored.pn),
+        u64::from(h.kept.stored.number),
+        u64::from(h.best.pn),
+        u64::from(h.best.number),
+        u64::from(h.answered),
+        u64::from(h.accepts),
+        u64::from(h.heard),
         h.best.value,
         h.waiting,
         h.agreeing,
-        values::wide(peers[0]),
-        values::wide(peers[1]),
-        values::wide(peers[2]),
-        values::wide(peers[3]),
-        values::wide(peers[4]),
-        values::wide(held),
+        u64::from(peers[0]),
+        u64::from(peers[1]),
+        u64::from(peers[2]),
+        u64::from(peers[3]),
+        u64::from(peers[4]),
+        u64::from(held),
     ];
-    words::copy(&fields, &mut row[0..HEAD]);
+    row[0..HEAD].copy_from_slice(&fields);
 }
 
 fn fresh_head() -> BoxState
@@ -360,6 +356,7 @@ fn take(row: &mut [u64], place: &[u64], d: u32, a: u32, b: u32, e: u32)
 }
 
 // What becomes of the records, of which there are so many.
+// A match and no closure: the rules say it as a value, which the clause reads.
 fn write(row: &mut [u64], place: &[u64], count: u32, b: Book)
     requires writes { Writes row.old place.now b }
     requires count_value { count ≡ get_or row.old count_at 0 }

@@ -1,3 +1,4 @@
 pub mod Tests
 pub mod BoundLaws
 pub mod PartLaws
+pub mod NumberLaws

@@ -1,12 +1,13 @@
 -- A box and a letter with their records; "A box runs the same rules for its own part": an event in,
 -- a turn out.
 use Rattle.std.specs.Prelude.{ℕ, ◌+◌, ◌-◌, ◌≤◌, ◌<◌, List, [], ◌∷◌, ◌++◌, ltb, length, take, drop}
+use Rattle.std.specs.Prelude.{Option, Some, None}
 use Rattle.std.specs.Prelude.{get_or}
 use Rattle.rules.specs.Pick.{pick}
 use Rattle.rules.specs.Parts.{span}
 use Rattle.rules.specs.Mails.{on_mail}
 use Rattle.rules.specs.Steps.{acted}
-use Rattle.rules.specs.Types.{Act, Book, BoxState, Held, Kind, Mail, Setting, Turn}
+use Rattle.rules.specs.Types.{Act, Book, BoxState, Kind, Mail, Setting, Turn}
 
 -- a box: its fields, and the records that it holds, of the numbers first, first+1, .. (Q-4)
 pub record Box : Type 0 where
@@ -19,15 +20,15 @@ pub record Letter : Type 0 where
   pub records : List ℕ
 
 -- the record after the first l, if there is one
-unfoldable pub held_at : List ℕ → ℕ → Held
-held_at rs l = pick (ltb l (length rs)) (Held.Record (get_or rs l 0)) Held.Nothing
+unfoldable pub held_at : List ℕ → ℕ → Option ℕ
+held_at rs l = pick (ltb l (length rs)) (Some (get_or rs l 0)) None
 
 -- the record that a box holds at its last+1
-abbrev pub mine : Box → Held
+abbrev pub mine : Box → Option ℕ
 mine x = held_at x.records (span x.head.kept.first x.head.kept.last)
 
 -- .. and a letter at its own
-abbrev pub next_of : Letter → Held
+abbrev pub next_of : Letter → Option ℕ
 next_of y = held_at y.records (span y.head.first y.head.last)
 
 -- the record of number k, of those from first on

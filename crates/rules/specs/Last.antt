@@ -1,5 +1,6 @@
 -- "Mail", the kind Last: what a leader that collects does with a peer's answer.
 use Rattle.std.specs.Prelude.{ℕ, ◌+◌, ◌-◌, Bool, false, not, ◌&&◌, ◌||◌, List, leb, ltb, eqb, set}
+use Rattle.std.specs.Prelude.{Option, Some, None}
 use Rattle.std.specs.Prelude.{get_or}
 use Rattle.std.specs.Int.Bits.{bit_and, bit_or}
 use Rattle.rules.specs.Pick.{pick}
@@ -11,7 +12,7 @@ use Rattle.rules.specs.Fields.{with_phase, with_kept, with_best, with_answered, 
 use Rattle.rules.specs.Fields.{promised}
 use Rattle.rules.specs.Parts.{others, took_kept, took_book, cleared}
 use Rattle.rules.specs.Turns.{first_cause, unless, settled, taken, mail_from}
-use Rattle.rules.specs.Types.{Best, BoxState, Held, Kind, Mail, Out, Phase, Refusal, Setting}
+use Rattle.rules.specs.Types.{Best, BoxState, Kind, Mail, Out, Phase, Refusal, Setting}
 use Rattle.rules.specs.Types.{Turn, Verdict}
 
 -- "Note the peer's last."
@@ -47,12 +48,12 @@ improves last best m =
 
 -- "if the mail holds last+1, [and improves on the best], it becomes the best. Wherever it did not,
 -- the best is cleared if its number is not above last."
-unfoldable pub bettered : ℕ → Best → Mail → Held → Best
-bettered last best m (Held.Record r) =
+unfoldable pub bettered : ℕ → Best → Mail → Option ℕ → Best
+bettered last best m (Some r) =
     pick (improves last best m)
     (record { pn = m.unagreed; number = m.last + 1; value = r })
     (cleared last best)
-bettered last best m Held.Nothing = cleared last best
+bettered last best m None = cleared last best
 
 -- "mail pn above promised: promised becomes new(mail pn), phase SendCollect"
 unfoldable pub raised : BoxState → ℕ → Mail → BoxState
@@ -62,7 +63,7 @@ raised b me m =
     (with_best (cleared b.kept.last b.best) b))
 
 -- "Equal": the sender joins "the set of boxes that answered" (Q-1), and the best
-unfoldable pub counted : BoxState → ℕ → Mail → Held → BoxState
+unfoldable pub counted : BoxState → ℕ → Mail → Option ℕ → BoxState
 counted b sender m next =
     with_answered (joined b.answered sender)
     (with_best (bettered b.kept.last b.best m next) b)
@@ -71,7 +72,7 @@ counted b sender m next =
 unfoldable pub uncounted : BoxState → BoxState
 uncounted b = with_best (cleared b.kept.last b.best) b
 
-unfoldable pub replied : BoxState → ℕ → ℕ → Mail → Held → BoxState
+unfoldable pub replied : BoxState → ℕ → ℕ → Mail → Option ℕ → BoxState
 replied b me sender m next =
     pick (ltb b.kept.pn m.pn) (raised b me m)
     (pick (eqb m.pn b.kept.pn) (counted b sender m next)
@@ -89,7 +90,7 @@ last_verdict b s m =
 
 -- the Commits to lagging boxes carry own last and first as they are now, and the promised pn as it
 -- was before the raise
-unfoldable pub on_last : BoxState → Setting → ℕ → Mail → Held → Turn
+unfoldable pub on_last : BoxState → Setting → ℕ → Mail → Option ℕ → Turn
 on_last b s sender m next =
     settled b (last_verdict b s m)
     (taken (replied (told b sender m) s.me sender m next)

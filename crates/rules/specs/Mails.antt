@@ -1,5 +1,5 @@
 -- "Mail": what a box does with each kind. Last has a file of its own.
-use Rattle.std.specs.Prelude.{ℕ, ◌+◌, max, false, not, eqb}
+use Rattle.std.specs.Prelude.{ℕ, ◌+◌, max, false, not, eqb, Option, Some, None}
 use Rattle.rules.specs.Sizes.{even}
 use Rattle.rules.specs.Sets.{bit, joined}
 use Rattle.rules.specs.Numbers.{in_phase}
@@ -9,17 +9,17 @@ use Rattle.rules.specs.Parts.{under_of, span, higher, dropped, took_kept, took_b
 use Rattle.rules.specs.Parts.{cleared}
 use Rattle.rules.specs.Turns.{first_cause, unless, settled, taken, mail_of, mail_from}
 use Rattle.rules.specs.Last.{on_last}
-use Rattle.rules.specs.Types.{Book, BoxState, Held, Kept, Kind, Mail, Out, Phase, Refusal}
+use Rattle.rules.specs.Types.{Book, BoxState, Kept, Kind, Mail, Out, Phase, Refusal}
 use Rattle.rules.specs.Types.{Setting, State, Turn, Verdict}
 
 -- "stored pn if last+1 is held and the stored number is last+1, else 0"
-unfoldable pub unagreed_of : Kept → Held → ℕ
-unagreed_of k (Held.Record r) = under_of k
-unagreed_of k Held.Nothing = 0
+unfoldable pub unagreed_of : Kept → Option ℕ → ℕ
+unagreed_of k (Some r) = under_of k
+unagreed_of k None = 0
 
 -- "Collect (role: receiver leads). Recovering; promised pn becomes the larger; replies
 -- Last(promised pn, last, records held, [unagreed pn])." It carries "the sender's first" (Q-4).
-unfoldable pub on_collect : BoxState → ℕ → Mail → Held → Turn
+unfoldable pub on_collect : BoxState → ℕ → Mail → Option ℕ → Turn
 on_collect b sender m mine =
     settled b (first_cause b.leads false false false Verdict.Go)
     (taken
@@ -103,7 +103,7 @@ on_lease_ack b sender =
 
 -- each kind has its rule: `one` is the mail's first record (0: none), `next` what it holds at its
 -- last+1, `mine` what the box holds at its own
-unfoldable pub of_kind : Kind → BoxState → Setting → ℕ → Mail → ℕ → Held → Held → Turn
+unfoldable pub of_kind : Kind → BoxState → Setting → ℕ → Mail → ℕ → Option ℕ → Option ℕ → Turn
 of_kind Kind.Collect b s sender m one next mine = on_collect b sender m mine
 of_kind Kind.Last b s sender m one next mine = on_last b s sender m next
 of_kind Kind.Begin b s sender m one next mine = on_begin b s sender m one
@@ -113,7 +113,7 @@ of_kind Kind.Lease b s sender m one next mine = on_lease b sender m
 of_kind Kind.LeaseAck b s sender m one next mine = on_lease_ack b sender
 
 -- "All but Elect, Stop, Return and Lose need an even epoch."
-unfoldable pub on_mail : BoxState → Setting → ℕ → Mail → ℕ → Held → Held → Turn
+unfoldable pub on_mail : BoxState → Setting → ℕ → Mail → ℕ → Option ℕ → Option ℕ → Turn
 on_mail b s sender m one next mine =
     settled b (unless (even s.epoch) Refusal.Condition Verdict.Go)
     (of_kind m.kind b s sender m one next mine)

@@ -1,11 +1,11 @@
 -- What several rules share: "others", the record at last+1, records that are taken, the best that
 -- is cleared.
-use Rattle.std.specs.Prelude.{ℕ, ◌+◌, ◌-◌, Bool, true, false, ◌&&◌, List, [], ◌∷◌, leb, ltb, eqb}
+use Rattle.std.specs.Prelude.{ℕ, ◌+◌, ◌-◌, Bool, ◌&&◌, List, [], ◌∷◌, leb, ltb, eqb}
 use Rattle.rules.specs.Pick.{pick}
 use Rattle.rules.specs.Sizes.{most_number, unknown}
 use Rattle.rules.specs.Sets.{without}
 use Rattle.rules.specs.Fields.{lasting, keeping}
-use Rattle.rules.specs.Types.{Best, Book, Held, Kept, Setting}
+use Rattle.rules.specs.Types.{Best, Book, Kept, Setting}
 
 -- "Others" are the present boxes but the box itself.
 unfoldable pub others : Setting → ℕ
@@ -14,11 +14,6 @@ others s = without s.present s.me
 -- "Peers unknown"
 abbrev pub all_unknown : List ℕ
 all_unknown = unknown ∷ unknown ∷ unknown ∷ unknown ∷ unknown ∷ []
-
--- "last+1 held"
-unfoldable pub is_held : Held → Bool
-is_held (Held.Record r) = true
-is_held Held.Nothing = false
 
 -- "the stored pn if the stored number is last+1, else 0"
 unfoldable pub under_of : Kept → ℕ

@@ -1,6 +1,7 @@
 -- "Steps": what a box does by itself, for its own part, and what an election makes of a box. Each
 -- has its condition (refusal 3) and its turn. All of them need an even epoch.
-use Rattle.std.specs.Prelude.{ℕ, ◌+◌, Bool, not, ◌&&◌, ◌||◌, leb, ltb, eqb}
+use Rattle.std.specs.Prelude.{ℕ, ◌+◌, Bool, not, ◌&&◌, ◌||◌, leb, ltb, eqb, Option, Some, None}
+use Rattle.std.specs.Prelude.{is_some}
 use Rattle.std.specs.Int.Count.{ones}
 use Rattle.rules.specs.Pick.{pick}
 use Rattle.rules.specs.Sizes.{even, most_pn, record_of}
@@ -10,10 +11,10 @@ use Rattle.rules.specs.NewPn.{new_pn}
 use Rattle.rules.specs.Fields.{with_leads, with_state, with_phase, with_kept, with_best}
 use Rattle.rules.specs.Fields.{with_answered, with_accepts, with_waiting, with_agreeing}
 use Rattle.rules.specs.Fields.{with_heard, with_peers, promised, lasting, keeping, storing}
-use Rattle.rules.specs.Parts.{others, all_unknown, is_held, under_of, none, span, dropped}
+use Rattle.rules.specs.Parts.{others, all_unknown, under_of, none, span, dropped}
 use Rattle.rules.specs.Parts.{room_next}
 use Rattle.rules.specs.Turns.{unless, settled, done, mail_of, mail_from}
-use Rattle.rules.specs.Types.{Act, Best, Book, BoxState, Held, Kept, Kind, Out, Phase}
+use Rattle.rules.specs.Types.{Act, Best, Book, BoxState, Kept, Kind, Out, Phase}
 use Rattle.rules.specs.Types.{Refusal, Setting, State, Turn, Verdict}
 
 -- "Elect c: .. c alone is leader; every box becomes Recovering (Active if exactly one is present),
@@ -52,13 +53,13 @@ can_collect b s =
 
 -- "If last+1 is held it becomes the best unagreed, its pn the stored pn if the stored number is
 -- last+1, else 0; if not held, cleared."
-unfoldable pub best_held : Kept → Held → Best
-best_held k (Held.Record r) = record { pn = under_of k; number = k.last + 1; value = r }
-best_held k Held.Nothing = none
+unfoldable pub best_held : Kept → Option ℕ → Best
+best_held k (Some r) = record { pn = under_of k; number = k.last + 1; value = r }
+best_held k None = none
 
 -- "Peers unknown", of those that answered "the leader included" (Q-1). "Collect(pn, last) to
 -- others. Phase Collect."
-unfoldable pub collect : BoxState → Setting → Held → Turn
+unfoldable pub collect : BoxState → Setting → Option ℕ → Turn
 collect b s mine =
     settled b (unless (can_collect b s) Refusal.Condition Verdict.Go)
     (done
@@ -148,15 +149,15 @@ propose b s =
 
 -- "Agree c: leader, phase Begin, Updating or UpdatingPrevious, accept set includes all present,
 -- last+1 held."
-unfoldable pub can_agree : BoxState → Setting → Held → Bool
+unfoldable pub can_agree : BoxState → Setting → Option ℕ → Bool
 can_agree b s mine =
     even s.epoch && b.leads && in_phase b.phase Phase.Begin
     && (in_state b.state State.Updating || in_state b.state State.UpdatingPrevious)
-    && includes b.accepts s.present && is_held mine
+    && includes b.accepts s.present && is_some mine
 
 -- "last + 1; record being agreed 0; Commit(pn, last, records 1..last) to others; Refresh, phase
 -- Commit." Its records are those "from [first] on" (Q-4).
-unfoldable pub agree : BoxState → Setting → Held → Turn
+unfoldable pub agree : BoxState → Setting → Option ℕ → Turn
 agree b s mine =
     settled b (unless (can_agree b s mine) Refusal.Condition Verdict.Go)
     (done
@@ -202,7 +203,7 @@ trim b s k =
     (done (with_kept (keeping k b.kept) b) (Book.Drop (dropped k b.kept)) Out.Nothing)
 
 -- each step of a box has its rule; `mine` is what the box holds at its last+1
-unfoldable pub acted : Act → BoxState → Setting → Held → Turn
+unfoldable pub acted : Act → BoxState → Setting → Option ℕ → Turn
 acted Act.Recover b s mine = recover b s
 acted Act.Collect b s mine = collect b s mine
 acted Act.Ready b s mine = ready b s

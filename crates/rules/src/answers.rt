@@ -7,21 +7,11 @@ use crate::model::Answer;
 pub fn is_accepted(a: Answer) -> bool
     ensures { result ≡ is_accepted a }
 {
-    match a {
-        Answer::Done => true,
-        Answer::Taken => true,
-        Answer::Discarded(_) => false,
-        Answer::Refused(_) => false,
-    }
+    matches!(a, Answer::Done | Answer::Taken)
 }
 
 pub fn is_refusal(a: Answer) -> bool
     ensures { result ≡ is_refusal a }
 {
-    match a {
-        Answer::Done => false,
-        Answer::Taken => false,
-        Answer::Discarded(_) => false,
-        Answer::Refused(_) => true,
-    }
+    matches!(a, Answer::Refused(_))
 }

@@ -3,17 +3,14 @@
 ghost use Rattle.std.specs.Prelude.{◌≡◌};
 ghost use Rattle.rules.specs.Bounds.{bounded_box, bounded_mail, any_mail, any_act};
 
-use crate::model::{Act, Answer, BoxState, Held, Mail, Refusal, Setting, Turn};
+use crate::model::{Act, Answer, BoxState, Mail, Refusal, Setting, Turn};
+use crate::ranges;
 
 impl Mail {
     pub(crate) fn bounded(self) -> bool
         ensures { result ≡ bounded_mail self }
     {
-        let last = self.last;
-        if 1000000000 < last {
-            return false;
-        }
-        (self.pn <= 999999999) & (self.first <= last + 1)
+        ranges::are_bounded(self.pn, self.last, self.first)
     }
 }
 
@@ -21,11 +18,8 @@ impl BoxState {
     pub(crate) fn bounded(self, s: Setting) -> bool
         ensures { result ≡ bounded_box self s }
     {
-        let last = self.kept.last;
-        if 1000000000 < last {
-            return false;
-        }
-        (self.kept.pn <= 999999999) & (self.kept.first <= last + 1) & (s.me <= 5) & (s.j <= 4096)
+        let k = self.kept;
+        ranges::are_bounded(k.pn, k.last, k.first) & (s.me <= 5) & (s.j <= 4096)
     }
 
     // Any mail from a sender: `one` is its first record (0: none), `next` what it holds at its
@@ -36,8 +30,8 @@ impl BoxState {
         sender: u32,
         m: Mail,
         one: u64,
-        next: Held,
-        mine: Held,
+        next: Option<u64>,
+        mine: Option<u64>,
     ) -> Turn
         ensures { result ≡ any_mail self s sender m one next mine }
     {
@@ -51,7 +45,7 @@ impl BoxState {
     }
 
     // Any step of the box itself; `mine` is what this box holds at its last+1.
-    pub fn any_act(self, s: Setting, a: Act, mine: Held) -> Turn
+    pub fn any_act(self, s: Setting, a: Act, mine: Option<u64>) -> Turn
         ensures { result ≡ any_act self s a mine }
     {
         let fits = self.bounded(s);

@@ -1,6 +1,7 @@
 // What a leader that collects does with a Last.
 ghost use Rattle.std.specs.Prelude.{◌≡◌, ◌+◌, ◌≤◌};
-ghost use Rattle.rules.specs.Sizes.{most_boxes, most_number, most_pn};
+ghost use Rattle.rules.specs.Sizes.{most_boxes};
+ghost use Rattle.rules.specs.Bounds.{BoundedKept, BoundedSetting, BoundedMail};
 ghost use Rattle.rules.specs.Last.{
   noted,
   told,
@@ -16,23 +17,16 @@ ghost use Rattle.rules.specs.Last.{
   on_last,
 };
 
-use crate::model::{Best, BoxState, Held, Kind, Mail, Out, Phase, Refusal, Setting, Turn, Verdict};
-use crate::{numbers, sets, turns};
+use crate::model::{Best, BoxState, Kind, Mail, Out, Phase, Refusal, Setting, Turn, Verdict};
+use crate::{ranges, sets, turns};
 
 pub(crate) fn note(known: [u32; 5], sender: u32, l: u32) -> [u32; 5]
     ensures { result ≡ noted known sender l }
 {
     let mut peers = known;
     if (0 < sender) & (sender <= 5) {
-        if sender < 1 {
-            return peers;
-        }
-        if 5 < sender {
-            return peers;
-        }
         let i = (sender - 1) as usize;
         peers[i] = l;
-        return peers;
     }
     peers
 }
@@ -40,9 +34,10 @@ pub(crate) fn note(known: [u32; 5], sender: u32, l: u32) -> [u32; 5]
 pub(crate) fn if_behind(peer: u32, last: u32, v: u32) -> u32
     ensures { result ≡ behind peer last v }
 {
-    turns::pick_number((peer != 4294967295) & (peer < last), v, 0)
+    turns::pick((peer != ranges::UNKNOWN) & (peer < last), v, 0)
 }
 
+// The five peers written out, as in specs/Last: a loop would be longer by its invariant.
 pub(crate) fn laggards(peers: [u32; 5], last: u32, s: Setting) -> u32
     ensures { result ≡ lagging peers last s }
 {
@@ -56,18 +51,18 @@ pub(crate) fn laggards(peers: [u32; 5], last: u32, s: Setting) -> u32
 
 impl Best {
     pub(crate) fn improved_by(self, last: u32, m: Mail) -> bool
-        requires { m.last ≤ most_number }
+        requires { BoundedMail m }
         ensures { result ≡ improves last self m }
     {
         (last <= m.last) & (self.number <= m.last + 1) & (self.pn <= m.unagreed)
     }
 
     // The record that the mail holds at last+1 is taken apart, or it goes on to clearing.
-    pub(crate) fn better(self, last: u32, m: Mail, next: Held) -> Best
-        requires { m.last ≤ most_number }
+    pub(crate) fn better(self, last: u32, m: Mail, next: Option<u64>) -> Best
+        requires { BoundedMail m }
         ensures { result ≡ bettered last self m next }
     {
-        let Held::Record(r) = next else {
+        let Some(r) = next else {
             return self.clear(last);
         };
         let b = Best {
@@ -75,7 +70,7 @@ impl Best {
             number: m.last + 1,
             value: r,
         };
-        turns::pick_best(self.improved_by(last, m), b, self.clear(last))
+        turns::pick(self.improved_by(last, m), b, self.clear(last))
     }
 }
 
@@ -95,7 +90,7 @@ impl BoxState {
     }
 
     pub(crate) fn raise(self, me: u32, m: Mail) -> BoxState
-        requires pn_le_most_pn { m.pn ≤ most_pn }
+        requires mail { BoundedMail m }
         requires me_le_most_boxes { me ≤ most_boxes }
         ensures { result ≡ raised self me m }
     {
@@ -111,8 +106,8 @@ impl BoxState {
         }
     }
 
-    pub(crate) fn count(self, sender: u32, m: Mail, next: Held) -> BoxState
-        requires { m.last ≤ most_number }
+    pub(crate) fn count(self, sender: u32, m: Mail, next: Option<u64>) -> BoxState
+        requires { BoundedMail m }
         ensures { result ≡ counted self sender m next }
     {
         let answered = sets::with_box(self.answered, sender);
@@ -135,38 +130,38 @@ impl BoxState {
         BoxState { best: best, ..self }
     }
 
-    pub(crate) fn answer(self, me: u32, sender: u32, m: Mail, next: Held) -> BoxState
-        requires last_le_most_number { m.last ≤ most_number }
-        requires pn_le_most_pn { m.pn ≤ most_pn }
+    pub(crate) fn answer(self, me: u32, sender: u32, m: Mail, next: Option<u64>) -> BoxState
+        requires mail { BoundedMail m }
         requires me_le_most_boxes { me ≤ most_boxes }
         ensures { result ≡ replied self me sender m next }
     {
         let above = self.raise(me, m);
         let equal = self.count(sender, m, next);
         let below = self.pass();
-        let rest = turns::pick_box(m.pn == self.kept.pn, equal, below);
-        turns::pick_box(self.kept.pn < m.pn, above, rest)
+        let rest = turns::pick(m.pn == self.kept.pn, equal, below);
+        turns::pick(self.kept.pn < m.pn, above, rest)
     }
 
     pub(crate) fn judge_last(self, s: Setting, m: Mail) -> Verdict
-        requires pn_le_most_pn { m.pn ≤ most_pn }
-        requires me_le_most_boxes { s.me ≤ most_boxes }
+        requires setting { BoundedSetting s }
+        requires mail { BoundedMail m }
         ensures { result ≡ last_verdict self s m }
     {
-        let fits = sets::new_pn(m.pn, s.me) <= 999999999;
-        let p = self.phase;
-        let collects = numbers::in_phase(p, Phase::Collect);
+        let fits = sets::new_pn(m.pn, s.me) <= ranges::MOST_PN;
         let room = turns::unless((m.pn <= self.kept.pn) | fits, Refusal::NewPn, Verdict::Go);
-        turns::first_cause(!self.leads, !collects, false, false, room)
+        turns::first_cause(
+            !self.leads,
+            self.phase != Phase::Collect,
+            false,
+            false,
+            room,
+        )
     }
 
-    pub(crate) fn on_last(self, s: Setting, sender: u32, m: Mail, next: Held) -> Turn
-        requires last_le_most_number { self.kept.last ≤ most_number }
-        requires first_bound { self.kept.first ≤ self.kept.last + 1 }
-        requires last_le_most_number_2 { m.last ≤ most_number }
-        requires first_bound_2 { m.first ≤ m.last + 1 }
-        requires pn_le_most_pn { m.pn ≤ most_pn }
-        requires me_le_most_boxes { s.me ≤ most_boxes }
+    pub(crate) fn on_last(self, s: Setting, sender: u32, m: Mail, next: Option<u64>) -> Turn
+        requires kept { BoundedKept self.kept }
+        requires setting { BoundedSetting s }
+        requires mail { BoundedMail m }
         ensures { result ≡ on_last self s sender m next }
     {
         let k = self.kept;

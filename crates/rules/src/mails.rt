@@ -1,6 +1,6 @@
 // What a box does with each kind of mail but Last, and with any mail.
-ghost use Rattle.std.specs.Prelude.{◌≡◌, ◌+◌, ◌≤◌};
-ghost use Rattle.rules.specs.Sizes.{most_boxes, most_loads, most_number, most_pn};
+ghost use Rattle.std.specs.Prelude.{◌≡◌, ◌+◌};
+ghost use Rattle.rules.specs.Bounds.{BoundedKept, BoundedSetting, BoundedMail};
 ghost use Rattle.rules.specs.Mails.{
   unagreed_of,
   on_collect,
@@ -17,30 +17,30 @@ ghost use Rattle.rules.specs.Mails.{
 };
 
 use crate::model::{
-    Book, BoxState, Held, Kept, Kind, Mail, Out, Phase, Refusal, Setting, State, Turn, Verdict,
+    Book, BoxState, Kept, Kind, Mail, Out, Phase, Refusal, Setting, State, Turn, Verdict,
 };
-use crate::{numbers, parts, sets, turns};
+use crate::{parts, sets, turns};
 
 impl Kept {
-    pub(crate) fn unagreed(self, mine: Held) -> u32
-        requires { self.last ≤ most_number }
+    pub(crate) fn unagreed(self, mine: Option<u64>) -> u32
+        requires { BoundedKept self }
         ensures { result ≡ unagreed_of self mine }
     {
         match mine {
-            Held::Record(_) => self.under(),
-            Held::Nothing => 0,
+            Some(_) => self.under(),
+            None => 0,
         }
     }
 }
 
 impl BoxState {
-    pub(crate) fn on_collect(self, sender: u32, m: Mail, mine: Held) -> Turn
-        requires { self.kept.last ≤ most_number }
+    pub(crate) fn on_collect(self, sender: u32, m: Mail, mine: Option<u64>) -> Turn
+        requires { BoundedKept self.kept }
         ensures { result ≡ on_collect self sender m mine }
     {
         let k = self.kept;
         let unagreed = k.unagreed(mine);
-        let pn = parts::larger(k.pn, m.pn);
+        let pn = k.pn.max(m.pn);
         let kept = k.promise(pn);
         let v = turns::first_cause(self.leads, false, false, false, Verdict::Go);
         let b = BoxState {
@@ -54,11 +54,9 @@ impl BoxState {
     }
 
     pub(crate) fn judge_begin(self, s: Setting, m: Mail) -> Verdict
-        requires last_le_most_number { self.kept.last ≤ most_number }
-        requires first_bound { self.kept.first ≤ self.kept.last + 1 }
-        requires last_le_most_number_2 { m.last ≤ most_number }
-        requires first_bound_2 { m.first ≤ m.last + 1 }
-        requires j_le_most_loads { s.j ≤ most_loads }
+        requires kept { BoundedKept self.kept }
+        requires setting { BoundedSetting s }
+        requires mail { BoundedMail m }
         ensures { result ≡ begin_verdict self s m }
     {
         let k = self.kept;
@@ -73,11 +71,9 @@ impl BoxState {
     }
 
     pub(crate) fn on_begin(self, s: Setting, sender: u32, m: Mail, r: u64) -> Turn
-        requires last_le_most_number { self.kept.last ≤ most_number }
-        requires first_bound { self.kept.first ≤ self.kept.last + 1 }
-        requires last_le_most_number_2 { m.last ≤ most_number }
-        requires first_bound_2 { m.first ≤ m.last + 1 }
-        requires j_le_most_loads { s.j ≤ most_loads }
+        requires kept { BoundedKept self.kept }
+        requires setting { BoundedSetting s }
+        requires mail { BoundedMail m }
         ensures { result ≡ on_begin self s sender m r }
     {
         let k = self.kept;
@@ -101,10 +97,9 @@ impl BoxState {
     pub(crate) fn judge_accept(self, m: Mail) -> Verdict
         ensures { result ≡ accept_verdict self m }
     {
-        let p = self.phase;
         turns::first_cause(
             !self.leads,
-            !numbers::in_phase(p, Phase::Begin),
+            self.phase != Phase::Begin,
             self.kept.pn != m.pn,
             self.kept.last != m.last,
             Verdict::Go,
@@ -123,10 +118,8 @@ impl BoxState {
     }
 
     pub(crate) fn on_commit(self, m: Mail) -> Turn
-        requires last_le_most_number { self.kept.last ≤ most_number }
-        requires first_bound { self.kept.first ≤ self.kept.last + 1 }
-        requires last_le_most_number_2 { m.last ≤ most_number }
-        requires first_bound_2 { m.first ≤ m.last + 1 }
+        requires kept { BoundedKept self.kept }
+        requires mail { BoundedMail m }
         ensures { result ≡ on_commit self m }
     {
         let k = self.kept;
@@ -164,10 +157,9 @@ impl BoxState {
     pub(crate) fn judge_lease_ack(self) -> Verdict
         ensures { result ≡ lease_ack_verdict self }
     {
-        let p = self.phase;
         turns::first_cause(
             !self.leads,
-            !numbers::in_phase(p, Phase::Lease),
+            self.phase != Phase::Lease,
             false,
             false,
             Verdict::Go,
@@ -185,6 +177,7 @@ impl BoxState {
         self.settle(v, b.takes(Book::Keep, Out::Nothing))
     }
 
+    // A match and no table: each kind has a method of its own, with what its rule needs.
     pub(crate) fn of_kind(
         self,
         kind: Kind,
@@ -192,16 +185,12 @@ impl BoxState {
         sender: u32,
         m: Mail,
         one: u64,
-        next: Held,
-        mine: Held,
+        next: Option<u64>,
+        mine: Option<u64>,
     ) -> Turn
-        requires last_le_most_number { self.kept.last ≤ most_number }
-        requires first_bound { self.kept.first ≤ self.kept.last + 1 }
-        requires last_le_most_number_2 { m.last ≤ most_number }
-        requires first_bound_2 { m.first ≤ m.last + 1 }
-        requires pn_le_most_pn { m.pn ≤ most_pn }
-        requires me_le_most_boxes { s.me ≤ most_boxes }
-        requires j_le_most_loads { s.j ≤ most_loads }
+        requires kept { BoundedKept self.kept }
+        requires setting { BoundedSetting s }
+        requires mail { BoundedMail m }
         ensures { result ≡ of_kind kind self s sender m one next mine }
     {
         match kind {
@@ -221,16 +210,12 @@ impl BoxState {
         sender: u32,
         m: Mail,
         one: u64,
-        next: Held,
-        mine: Held,
+        next: Option<u64>,
+        mine: Option<u64>,
     ) -> Turn
-        requires last_le_most_number { self.kept.last ≤ most_number }
-        requires first_bound { self.kept.first ≤ self.kept.last + 1 }
-        requires last_le_most_number_2 { m.last ≤ most_number }
-        requires first_bound_2 { m.first ≤ m.last + 1 }
-        requires pn_le_most_pn { m.pn ≤ most_pn }
-        requires me_le_most_boxes { s.me ≤ most_boxes }
-        requires j_le_most_loads { s.j ≤ most_loads }
+        requires kept { BoundedKept self.kept }
+        requires setting { BoundedSetting s }
+        requires mail { BoundedMail m }
         ensures { result ≡ on_mail self s sender m one next mine }
     {
         let k = m.kind;

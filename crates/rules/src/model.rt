@@ -1,66 +1,68 @@
 // The types of the paper: a box, a mail, what a box knows of its site, a call, and what they
 // answer.
 
-#[derive(Clone, Copy)]
+#[derive(Clone, Copy, PartialEq, Eq)]
 pub enum State {
-    Recovering,
-    Active,
-    Updating,
-    UpdatingPrevious,
-    Refresh,
+    Recovering = 0,
+    Active = 1,
+    Updating = 2,
+    UpdatingPrevious = 3,
+    Refresh = 4,
 }
 
-#[derive(Clone, Copy)]
+#[derive(Clone, Copy, PartialEq, Eq)]
 pub enum Phase {
-    Election,
-    SendCollect,
-    Collect,
-    Lease,
-    Begin,
-    Commit,
-    LeaseDone,
+    Election = 0,
+    SendCollect = 1,
+    Collect = 2,
+    Lease = 3,
+    Begin = 4,
+    Commit = 5,
+    LeaseDone = 6,
 }
 
-#[derive(Clone, Copy)]
+#[derive(Clone, Copy, PartialEq, Eq)]
 pub enum Kind {
-    Collect,
-    Last,
-    Begin,
-    Accept,
-    Commit,
-    Lease,
-    LeaseAck,
+    Collect = 1,
+    Last = 2,
+    Begin = 3,
+    Accept = 4,
+    Commit = 5,
+    Lease = 6,
+    LeaseAck = 7,
 }
 
 // Why a mail is discarded.
-#[derive(Clone, Copy)]
+#[derive(Clone, Copy, PartialEq, Eq)]
 pub enum Cause {
-    Role,
-    Phase,
-    Number,
-    Place,
+    Role = 1,
+    Phase = 2,
+    Number = 3,
+    Place = 4,
 }
 
 // Why a call is refused, in the order of the paper's table: 13, 1, 2, 10, 3, 4, 5, 6, 7, 8, 12, 14,
 // 11. (9 went with Q-10.)
-#[derive(Clone, Copy)]
+#[derive(Clone, Copy, PartialEq, Eq)]
 pub enum Refusal {
-    Sizes,
-    Form,
-    Box,
-    Frame,
-    Condition,
-    Majority,
-    Epoch,
-    NewPn,
-    Book,
-    Link,
-    Buffer,
-    Untrue,
-    Line,
+    Sizes = 13,
+    Form = 1,
+    Box = 2,
+    Frame = 10,
+    Condition = 3,
+    Majority = 4,
+    Epoch = 5,
+    NewPn = 6,
+    Book = 7,
+    Link = 8,
+    Buffer = 12,
+    Untrue = 14,
+    Line = 11,
 }
 
-#[derive(Clone, Copy)]
+// Four kinds and no Result: two are accepted, each with a number of its own, and two have their
+// causes.
+#[derive(Clone, Copy, PartialEq, Eq)]
 pub enum Answer {
     Done,
     Taken,
@@ -70,22 +72,15 @@ pub enum Answer {
 
 // What a box finds before anything is done: it goes on, or it stops for the first cause that
 // applies.
-#[derive(Clone, Copy)]
+#[derive(Clone, Copy, PartialEq, Eq)]
 pub enum Verdict {
     Go,
     Discard(Cause),
     Refuse(Refusal),
 }
 
-// The record at last+1 of a book or a mail, if it is held.
-#[derive(Clone, Copy)]
-pub enum Held {
-    Record(u64),
-    Nothing,
-}
-
 // The pn and the number of the record last taken by Begin.
-#[derive(Clone, Copy)]
+#[derive(Clone, Copy, PartialEq, Eq)]
 pub struct Stored {
     pub pn: u32,
     pub number: u32,
@@ -93,7 +88,7 @@ pub struct Stored {
 
 // What outlives a stop, but for the records: promised pn, last agreed number, first kept number,
 // stored pn and number.
-#[derive(Clone, Copy)]
+#[derive(Clone, Copy, PartialEq, Eq)]
 pub struct Kept {
     pub pn: u32,
     pub last: u32,
@@ -102,7 +97,7 @@ pub struct Kept {
 }
 
 // The best unagreed pn, number and record.
-#[derive(Clone, Copy)]
+#[derive(Clone, Copy, PartialEq, Eq)]
 pub struct Best {
     pub pn: u32,
     pub number: u32,
@@ -110,7 +105,7 @@ pub struct Best {
 }
 
 // A box, but for its records. A peer's last stands at its number less 1.
-#[derive(Clone, Copy)]
+#[derive(Clone, Copy, PartialEq, Eq)]
 pub struct BoxState {
     pub leads: bool,
     pub state: State,
@@ -126,7 +121,7 @@ pub struct BoxState {
 }
 
 // A mail, but for its records; `first` is 0 in the kinds that carry none.
-#[derive(Clone, Copy)]
+#[derive(Clone, Copy, PartialEq, Eq)]
 pub struct Mail {
     pub kind: Kind,
     pub pn: u32,
@@ -136,7 +131,7 @@ pub struct Mail {
 }
 
 // What a box knows of its site: the sizes, the epoch, the present set and its own number.
-#[derive(Clone, Copy)]
+#[derive(Clone, Copy, PartialEq, Eq)]
 pub struct Setting {
     pub n: u32,
     pub j: u32,
@@ -147,7 +142,7 @@ pub struct Setting {
 }
 
 // A step that a box takes by itself: those of a leader, and Trim.
-#[derive(Clone, Copy)]
+#[derive(Clone, Copy, PartialEq, Eq)]
 pub enum Act {
     Recover,
     Collect,
@@ -163,7 +158,7 @@ pub enum Act {
 // What becomes of a box's records. Drop(d): the first d leave. Put(d, a, r): of the first a all but
 // d stay, then r. Take(d, a, b, e): of the first a all but d stay, then the mail's but b of its
 // first e.
-#[derive(Clone, Copy)]
+#[derive(Clone, Copy, PartialEq, Eq)]
 pub enum Book {
     Keep,
     Drop(u32),
@@ -172,14 +167,15 @@ pub enum Book {
 }
 
 // What is sent: nothing, or one mail to each box of a set, which may be empty.
-#[derive(Clone, Copy)]
+// No Option of a pair: `To(set, mail)` says which is which, in fewer words than a struct.
+#[derive(Clone, Copy, PartialEq, Eq)]
 pub enum Out {
     Nothing,
     To(u32, Mail),
 }
 
 // What comes of an event at a box.
-#[derive(Clone, Copy)]
+#[derive(Clone, Copy, PartialEq, Eq)]
 pub struct Turn {
     pub answer: Answer,
     pub next: BoxState,
@@ -187,15 +183,8 @@ pub struct Turn {
     pub out: Out,
 }
 
-// The present boxes that have not answered a lease.
-#[derive(Clone, Copy)]
-pub enum Unheard {
-    Boxes(u32),
-    Refused(Refusal),
-}
-
 // The sixteen calls, with box numbers, frame numbers and load numbers.
-#[derive(Clone, Copy)]
+#[derive(Clone, Copy, PartialEq, Eq)]
 pub enum Call {
     Elect(u32),
     Recover(u32),

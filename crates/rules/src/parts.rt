@@ -1,14 +1,15 @@
 // What several rules share: others, what outlives a stop, records that are taken, the best that is
 // cleared.
-ghost use Rattle.std.specs.Prelude.{◌≡◌, ◌+◌, ◌-◌, ◌≤◌, max};
+ghost use Rattle.std.specs.Prelude.{◌≡◌, ◌+◌, ◌-◌, ◌≤◌};
 ghost use Rattle.rules.specs.Sizes.{most_loads, most_number};
+ghost use Rattle.rules.specs.Bounds.{BoundedKept};
 ghost use Rattle.rules.specs.Fields.{promised, lasting, keeping, storing};
-ghost use Rattle.rules.specs.Parts.{others, is_held, under_of, span, higher, dropped};
+ghost use Rattle.rules.specs.Parts.{others, under_of, span, higher, dropped};
 ghost use Rattle.rules.specs.Parts.{took_kept, took_book, room_next};
 ghost use Rattle.rules.specs.Parts.{none, cleared};
 
-use crate::model::{Best, Book, Held, Kept, Setting, Stored};
-use crate::{sets, turns};
+use crate::model::{Best, Book, Kept, Setting, Stored};
+use crate::{ranges, sets, turns};
 
 impl Setting {
     pub(crate) fn others(self) -> u32
@@ -18,22 +19,8 @@ impl Setting {
     }
 }
 
-pub(crate) fn is_held(h: Held) -> bool
-    ensures { result ≡ is_held h }
-{
-    match h {
-        Held::Record(_) => true,
-        Held::Nothing => false,
-    }
-}
-
-pub(crate) fn larger(a: u32, b: u32) -> u32
-    ensures { result ≡ max a b }
-{
-    if a < b { b } else { a }
-}
-
 // Its own, or theirs where that is higher.
+// No `max`: the clause has the paper's word, which many proofs cite.
 pub(crate) fn higher(own: u32, theirs: u32) -> u32
     ensures { (result ≡ higher own theirs) × (own ≤ result) }
 {
@@ -53,9 +40,10 @@ pub(crate) fn room_next(j: u32, first: u32, last: u32) -> bool
     requires { (j ≤ most_loads) × (first ≤ most_number + 1) × (last ≤ most_number) }
     ensures { result ≡ room_next j first last }
 {
-    (last + 2 <= j + first) & (last < 1000000000)
+    (last + 2 <= j + first) & (last < ranges::MOST_NUMBER)
 }
 
+// A method for each field that a rule sets: each has a definition of the paper's name.
 impl Kept {
     pub(crate) fn promise(self, q: u32) -> Kept
         ensures { result ≡ promised q self }
@@ -103,7 +91,7 @@ impl Kept {
 
     // What becomes of the book where the sender keeps from f to l.
     pub(crate) fn take_book(self, f: u32, l: u32) -> Book
-        requires last_le_most_number { (self.last ≤ most_number) × (self.first ≤ self.last + 1) }
+        requires kept { BoundedKept self }
         requires l_le_most_number { (l ≤ most_number) × (f ≤ l + 1) }
         ensures { result ≡ took_book f l self }
     {
@@ -121,10 +109,10 @@ impl Kept {
     }
 
     pub(crate) fn under(self) -> u32
-        requires { self.last ≤ most_number }
+        requires { BoundedKept self }
         ensures { result ≡ under_of self }
     {
-        turns::pick_number(self.stored.number == self.last + 1, self.stored.pn, 0)
+        turns::pick(self.stored.number == self.last + 1, self.stored.pn, 0)
     }
 }
 
@@ -142,6 +130,6 @@ impl Best {
     pub(crate) fn clear(self, last: u32) -> Best
         ensures { result ≡ cleared last self }
     {
-        turns::pick_best(self.number <= last, Best::none(), self)
+        turns::pick(self.number <= last, Best::none(), self)
     }
 }

@@ -2,6 +2,26 @@
 ghost use Rattle.std.specs.Prelude.{◌≡◌};
 ghost use Rattle.rules.specs.Sizes.{sizes_form};
 ghost use Rattle.rules.specs.Site.{is_box, is_link};
+ghost use Rattle.rules.specs.Bounds.{bounded};
+
+// Load numbers, and by form every number field and last.
+pub const MOST_NUMBER: u32 = 1000000000;
+
+// Proposal numbers.
+pub const MOST_PN: u32 = 999999999;
+
+// The last of a peer of which nothing is known.
+pub const UNKNOWN: u32 = u32::MAX;
+
+// A record is left * FRAME + right.
+pub const FRAME: u64 = 4294967296;
+
+// The numbers of what a box keeps, or of a mail; `last` may be any, so the sum is a wider one.
+pub(crate) fn are_bounded(pn: u32, last: u32, first: u32) -> bool
+    ensures { result ≡ bounded pn last first }
+{
+    (pn <= MOST_PN) & (last <= MOST_NUMBER) & (first as u64 <= last as u64 + 1)
+}
 
 pub fn are_sizes(n: u64, j: u64, l: u64) -> bool
     ensures { result ≡ sizes_form n j l }

@@ -8,26 +8,19 @@ ghost use Rattle.rules.specs.NewPn.{new_pn};
 use crate::turns;
 
 // Box k alone: 0 for a number that is no box's.
+// A match and no shift: it is total, and no box has a number above 5.
 pub fn bit_of(k: u32) -> u32
     ensures value { result ≡ bit k }
     ensures upper_bound { result ≤ 16 }
 {
-    if k == 1 {
-        return 1;
+    match k {
+        1 => 1,
+        2 => 2,
+        3 => 4,
+        4 => 8,
+        5 => 16,
+        _ => 0,
     }
-    if k == 2 {
-        return 2;
-    }
-    if k == 3 {
-        return 4;
-    }
-    if k == 4 {
-        return 8;
-    }
-    if k == 5 {
-        return 16;
-    }
-    0
 }
 
 pub fn with_box(w: u32, k: u32) -> u32
@@ -53,22 +46,10 @@ pub fn has(w: u32, k: u32) -> bool
     requires { k ≤ most_boxes }
     ensures { result ≡ has w k }
 {
-    if k == 1 {
-        return w % 2 == 1;
+    if k == 0 {
+        return false;
     }
-    if k == 2 {
-        return w / 2 % 2 == 1;
-    }
-    if k == 3 {
-        return w / 2 / 2 % 2 == 1;
-    }
-    if k == 4 {
-        return w / 2 / 2 / 2 % 2 == 1;
-    }
-    if k == 5 {
-        return w / 2 / 2 / 2 / 2 % 2 == 1;
-    }
-    false
+    (w >> (k - 1)) % 2 == 1
 }
 
 // How many boxes a set has.
@@ -93,5 +74,5 @@ pub(crate) fn new_pn(old: u32, rank: u32) -> u32
     let hundreds = old / 100;
     let here = hundreds * 100 + rank;
     let next = (hundreds + 1) * 100 + rank;
-    turns::pick_number(old % 100 < rank, here, next)
+    turns::pick(old % 100 < rank, here, next)
 }

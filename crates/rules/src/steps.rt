@@ -1,6 +1,6 @@
 // The steps that a box takes by itself, for its own part, and what an election makes of a box.
-ghost use Rattle.std.specs.Prelude.{◌≡◌, ◌+◌, ◌≤◌};
-ghost use Rattle.rules.specs.Sizes.{most_boxes, most_loads, most_number, most_pn};
+ghost use Rattle.std.specs.Prelude.{◌≡◌, ◌+◌};
+ghost use Rattle.rules.specs.Bounds.{BoundedKept, BoundedSetting};
 ghost use Rattle.rules.specs.Steps.{
   elected,
   can_recover,
@@ -29,16 +29,16 @@ ghost use Rattle.rules.specs.Steps.{
 };
 
 use crate::model::{
-    Act, Best, Book, BoxState, Held, Kept, Kind, Out, Phase, Refusal, Setting, State, Turn, Verdict,
+    Act, Best, Book, BoxState, Kept, Kind, Out, Phase, Refusal, Setting, State, Turn, Verdict,
 };
-use crate::{numbers, parts, sets, turns};
+use crate::{parts, ranges, sets, turns};
 
 impl Kept {
-    pub(crate) fn best_held(self, mine: Held) -> Best
-        requires { self.last ≤ most_number }
+    pub(crate) fn best_held(self, mine: Option<u64>) -> Best
+        requires { BoundedKept self }
         ensures { result ≡ best_held self mine }
     {
-        let Held::Record(r) = mine else {
+        let Some(r) = mine else {
             return Best::none();
         };
         Best {
@@ -57,7 +57,7 @@ impl BoxState {
         let alone = sets::count(s.present) == 1;
         BoxState {
             leads: s.me == c,
-            state: turns::pick_state(alone, State::Active, State::Recovering),
+            state: turns::pick(alone, State::Active, State::Recovering),
             phase: Phase::Election,
             waiting: 0,
             agreeing: 0,
@@ -68,24 +68,22 @@ impl BoxState {
     pub(crate) fn can_recover(self, s: Setting) -> bool
         ensures { result ≡ can_recover self s }
     {
-        let p = self.phase;
-        let state = self.state;
         sets::is_even(s.epoch)
             & self.leads
-            & numbers::in_phase(p, Phase::Election)
-            & numbers::in_state(state, State::Recovering)
+            & (self.phase == Phase::Election)
+            & (self.state == State::Recovering)
             & (1 < sets::count(s.present))
     }
 
     pub(crate) fn recover(self, s: Setting) -> Turn
-        requires pn_le_most_pn { self.kept.pn ≤ most_pn }
-        requires me_le_most_boxes { s.me ≤ most_boxes }
+        requires kept { BoundedKept self.kept }
+        requires setting { BoundedSetting s }
         ensures { result ≡ recover self s }
     {
         let k = self.kept;
         let pn = sets::new_pn(k.pn, s.me);
         let kept = k.promise(pn);
-        let w = turns::unless(pn <= 999999999, Refusal::NewPn, Verdict::Go);
+        let w = turns::unless(pn <= ranges::MOST_PN, Refusal::NewPn, Verdict::Go);
         let v = turns::unless(self.can_recover(s), Refusal::Condition, w);
         let b = BoxState {
             kept: kept,
@@ -98,22 +96,20 @@ impl BoxState {
     pub(crate) fn can_collect(self, s: Setting) -> bool
         ensures { result ≡ can_collect self s }
     {
-        let p = self.phase;
-        let state = self.state;
         sets::is_even(s.epoch)
             & self.leads
-            & numbers::in_state(state, State::Recovering)
-            & numbers::in_phase(p, Phase::SendCollect)
+            & (self.state == State::Recovering)
+            & (self.phase == Phase::SendCollect)
     }
 
-    pub(crate) fn collect(self, s: Setting, mine: Held) -> Turn
-        requires { self.kept.last ≤ most_number }
+    pub(crate) fn collect(self, s: Setting, mine: Option<u64>) -> Turn
+        requires { BoundedKept self.kept }
         ensures { result ≡ collect self s mine }
     {
         let k = self.kept;
         let best = k.best_held(mine);
         let v = turns::unless(self.can_collect(s), Refusal::Condition, Verdict::Go);
-        let peers = [4294967295; 5];
+        let peers = [ranges::UNKNOWN; 5];
         let b = BoxState {
             peers: peers,
             answered: sets::bit_of(s.me),
@@ -126,8 +122,7 @@ impl BoxState {
     }
 
     pub(crate) fn start(self, s: Setting, r: u64) -> Turn
-        requires last_le_most_number { self.kept.last ≤ most_number }
-        requires first_bound { self.kept.first ≤ self.kept.last + 1 }
+        requires { BoundedKept self.kept }
         ensures { result ≡ started self s r }
     {
         let k = self.kept;
@@ -161,29 +156,27 @@ impl BoxState {
     pub(crate) fn can_ready(self, s: Setting) -> bool
         ensures { result ≡ can_ready self s }
     {
-        let p = self.phase;
         sets::is_even(s.epoch)
             & self.leads
-            & numbers::in_phase(p, Phase::Collect)
+            & (self.phase == Phase::Collect)
             & (self.answered == s.present)
     }
 
     pub(crate) fn has_previous(self) -> bool
-        requires { self.kept.last ≤ most_number }
+        requires { BoundedKept self.kept }
         ensures { result ≡ has_previous self }
     {
         (self.best.number == self.kept.last + 1) & (self.best.value != 0)
     }
 
     pub(crate) fn ready(self, s: Setting) -> Turn
-        requires last_le_most_number { self.kept.last ≤ most_number }
-        requires first_bound { self.kept.first ≤ self.kept.last + 1 }
-        requires j_le_most_loads { s.j ≤ most_loads }
+        requires kept { BoundedKept self.kept }
+        requires setting { BoundedSetting s }
         ensures { result ≡ ready self s }
     {
         let previous = self.has_previous();
         let room = parts::room_next(s.j, self.kept.first, self.kept.last);
-        let peers = [4294967295; 5];
+        let peers = [ranges::UNKNOWN; 5];
         let b = BoxState {
             peers: peers,
             ..self
@@ -192,7 +185,7 @@ impl BoxState {
             state: State::UpdatingPrevious,
             ..b
         };
-        let t = turns::pick_turn(previous, u.start(s, self.best.value), b.lease(s));
+        let t = turns::pick(previous, u.start(s, self.best.value), b.lease(s));
         let w = turns::unless(!previous | room, Refusal::Book, Verdict::Go);
         let v = turns::unless(self.can_ready(s), Refusal::Condition, w);
         self.settle(v, t)
@@ -201,17 +194,13 @@ impl BoxState {
     pub(crate) fn can_offer(self, s: Setting) -> bool
         ensures { result ≡ can_offer self s }
     {
-        let state = self.state;
-        sets::is_even(s.epoch)
-            & self.leads
-            & numbers::in_state(state, State::Active)
-            & (self.waiting == 0)
+        sets::is_even(s.epoch) & self.leads & (self.state == State::Active) & (self.waiting == 0)
     }
 
     pub(crate) fn offer(self, s: Setting, left: u32, right: u32) -> Turn
         ensures { result ≡ offer self s left right }
     {
-        let r = left as u64 * 4294967296 + right as u64;
+        let r = left as u64 * ranges::FRAME + right as u64;
         let b = BoxState { waiting: r, ..self };
         let w = turns::unless(self.can_offer(s), Refusal::Condition, Verdict::Go);
         let v = turns::unless((0 < left) & (0 < right), Refusal::Frame, w);
@@ -221,22 +210,19 @@ impl BoxState {
     pub(crate) fn can_propose(self, s: Setting) -> bool
         ensures { result ≡ can_propose self s }
     {
-        let p = self.phase;
-        let state = self.state;
-        let waits = numbers::in_phase(p, Phase::Lease)
-            | numbers::in_phase(p, Phase::LeaseDone)
-            | numbers::in_phase(p, Phase::Election);
+        let waits = (self.phase == Phase::Lease)
+            | (self.phase == Phase::LeaseDone)
+            | (self.phase == Phase::Election);
         sets::is_even(s.epoch)
             & self.leads
-            & numbers::in_state(state, State::Active)
+            & (self.state == State::Active)
             & waits
             & (self.waiting != 0)
     }
 
     pub(crate) fn propose(self, s: Setting) -> Turn
-        requires last_le_most_number { self.kept.last ≤ most_number }
-        requires first_bound { self.kept.first ≤ self.kept.last + 1 }
-        requires j_le_most_loads { s.j ≤ most_loads }
+        requires kept { BoundedKept self.kept }
+        requires setting { BoundedSetting s }
         ensures { result ≡ propose self s }
     {
         let b = BoxState {
@@ -251,23 +237,20 @@ impl BoxState {
         self.settle(v, t)
     }
 
-    pub(crate) fn can_agree(self, s: Setting, mine: Held) -> bool
+    pub(crate) fn can_agree(self, s: Setting, mine: Option<u64>) -> bool
         ensures { result ≡ can_agree self s mine }
     {
-        let p = self.phase;
-        let state = self.state;
-        let updating = numbers::in_state(state, State::Updating)
-            | numbers::in_state(state, State::UpdatingPrevious);
+        let updating = (self.state == State::Updating) | (self.state == State::UpdatingPrevious);
         sets::is_even(s.epoch)
             & self.leads
-            & numbers::in_phase(p, Phase::Begin)
+            & (self.phase == Phase::Begin)
             & updating
             & sets::includes_all(self.accepts, s.present)
-            & parts::is_held(mine)
+            & mine.is_some()
     }
 
-    pub(crate) fn agree(self, s: Setting, mine: Held) -> Turn
-        requires { self.kept.last ≤ most_number }
+    pub(crate) fn agree(self, s: Setting, mine: Option<u64>) -> Turn
+        requires { BoundedKept self.kept }
         ensures { result ≡ agree self s mine }
     {
         let k = self.kept;
@@ -289,12 +272,10 @@ impl BoxState {
     pub(crate) fn can_finish(self, s: Setting) -> bool
         ensures { result ≡ can_finish self s }
     {
-        let p = self.phase;
-        let state = self.state;
         sets::is_even(s.epoch)
             & self.leads
-            & numbers::in_state(state, State::Refresh)
-            & numbers::in_phase(p, Phase::Commit)
+            & (self.state == State::Refresh)
+            & (self.phase == Phase::Commit)
     }
 
     pub(crate) fn finish(self, s: Setting) -> Turn
@@ -307,10 +288,9 @@ impl BoxState {
     pub(crate) fn can_heard(self, s: Setting) -> bool
         ensures { result ≡ can_heard self s }
     {
-        let p = self.phase;
         sets::is_even(s.epoch)
             & self.leads
-            & numbers::in_phase(p, Phase::Lease)
+            & (self.phase == Phase::Lease)
             & sets::includes_all(self.heard, s.present)
     }
 
@@ -326,7 +306,7 @@ impl BoxState {
     }
 
     pub(crate) fn can_trim(self, s: Setting, k: u32) -> bool
-        requires { s.me ≤ most_boxes }
+        requires { BoundedSetting s }
         ensures { result ≡ can_trim self s k }
     {
         sets::is_even(s.epoch)
@@ -336,7 +316,7 @@ impl BoxState {
     }
 
     pub(crate) fn trim(self, s: Setting, k: u32) -> Turn
-        requires { s.me ≤ most_boxes }
+        requires { BoundedSetting s }
         ensures { result ≡ trim self s k }
     {
         let own = self.kept;
@@ -347,12 +327,10 @@ impl BoxState {
         self.settle(v, b.does(Book::Drop(own.dropped(k)), Out::Nothing))
     }
 
-    pub(crate) fn act(self, a: Act, s: Setting, mine: Held) -> Turn
-        requires pn_le_most_pn { self.kept.pn ≤ most_pn }
-        requires last_le_most_number { self.kept.last ≤ most_number }
-        requires first_bound { self.kept.first ≤ self.kept.last + 1 }
-        requires me_le_most_boxes { s.me ≤ most_boxes }
-        requires j_le_most_loads { s.j ≤ most_loads }
+    // A match and no table: each step has a method of its own, with what its rule needs.
+    pub(crate) fn act(self, a: Act, s: Setting, mine: Option<u64>) -> Turn
+        requires kept { BoundedKept self.kept }
+        requires setting { BoundedSetting s }
         ensures { result ≡ acted a self s mine }
     {
         match a {

@@ -5,9 +5,7 @@ ghost use Rattle.rules.specs.Pick.{pick};
 ghost use Rattle.rules.specs.Turns.{first_cause, unless, still, settled, taken, done};
 ghost use Rattle.rules.specs.Turns.{mail_of, mail_from};
 
-use crate::model::{
-    Answer, Best, Book, BoxState, Cause, Kind, Mail, Out, Refusal, State, Turn, Verdict,
-};
+use crate::model::{Answer, Book, BoxState, Cause, Kind, Mail, Out, Refusal, Turn, Verdict};
 
 // The first that applies of the four causes, and else what v says.
 pub(crate) fn first_cause(role: bool, phase: bool, number: bool, place: bool, v: Verdict) -> Verdict
@@ -58,6 +56,7 @@ impl BoxState {
         }
     }
 
+    // Two words of the paper: a mail is taken, a step is done.
     pub(crate) fn takes(self, k: Book, o: Out) -> Turn
         ensures { result ≡ taken self k o }
     {
@@ -101,31 +100,8 @@ pub(crate) fn mail_of(kind: Kind, pn: u32, last: u32, unagreed: u32) -> Mail
     mail_from(0, kind, pn, last, unagreed)
 }
 
-pub(crate) fn pick_number(t: bool, a: u32, b: u32) -> u32
-    ensures { result ≡ pick t a b }
-{
-    if t { a } else { b }
-}
-
-pub(crate) fn pick_state(t: bool, a: State, b: State) -> State
-    ensures { result ≡ pick t a b }
-{
-    if t { a } else { b }
-}
-
-pub(crate) fn pick_best(t: bool, a: Best, b: Best) -> Best
-    ensures { result ≡ pick t a b }
-{
-    if t { a } else { b }
-}
-
-pub(crate) fn pick_box(t: bool, a: BoxState, b: BoxState) -> BoxState
-    ensures { result ≡ pick t a b }
-{
-    if t { a } else { b }
-}
-
-pub(crate) fn pick_turn(t: bool, a: Turn, b: Turn) -> Turn
+// One of two that are both there.
+pub(crate) fn pick<T: Copy>(t: bool, a: T, b: T) -> T
     ensures { result ≡ pick t a b }
 {
     if t { a } else { b }

@@ -2,25 +2,24 @@
 ghost use Rattle.std.specs.Prelude.{◌≡◌};
 ghost use Rattle.rules.specs.Unheard.{lease_is_out, unheard_by};
 
-use crate::model::{BoxState, Phase, Refusal, Setting, Unheard};
-use crate::{numbers, sets};
+use crate::model::{BoxState, Phase, Refusal, Setting};
+use crate::sets;
 
 impl BoxState {
     pub(crate) fn lease_is_out(self, s: Setting) -> bool
         ensures { result ≡ lease_is_out self s }
     {
-        let p = self.phase;
-        let out = numbers::in_phase(p, Phase::Lease) | numbers::in_phase(p, Phase::LeaseDone);
+        let out = (self.phase == Phase::Lease) | (self.phase == Phase::LeaseDone);
         sets::is_even(s.epoch) & self.leads & out
     }
 
-    pub fn unheard(self, s: Setting) -> Unheard
+    pub fn unheard(self, s: Setting) -> Result<u32, Refusal>
         ensures { result ≡ unheard_by self s }
     {
         let out = self.lease_is_out(s);
         if out {
-            return Unheard::Boxes(s.present ^ (s.present & self.heard));
+            return Ok(s.present ^ (s.present & self.heard));
         }
-        Unheard::Refused(Refusal::Condition)
+        Err(Refusal::Condition)
     }
 }

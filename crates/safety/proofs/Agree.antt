@@ -6,16 +6,17 @@ use mathlib.Core.List.{List, [], ◌∷◌, ◌++◌}
 use native.Mathlib.Omega.{arith}
 use lib.ListN.{length, get_or, take, length-append, get_or-append}
 use lib.Seq.{get_or-take, get_or_at, length-take-le}
+use Rattle.std.specs.Prelude.{Option, is_some}
 use Rattle.rules.specs.Sizes.{most_boxes}
 use Rattle.rules.specs.Sets.{has, without}
 use Rattle.rules.specs.Fields.{with_state, with_phase, with_kept, with_agreeing, lasting}
-use Rattle.rules.specs.Parts.{others, is_held, span}
+use Rattle.rules.specs.Parts.{others, span}
 use Rattle.rules.specs.Turns.{mail_from}
 use Rattle.rules.specs.Steps.{agree, acted}
 use Rattle.rules.specs.Box.{Box, mine, written, enclosed}
 use Rattle.rules.specs.Site.{Site, setting, posted, upd}
 use Rattle.rules.specs.Step.{step}
-use Rattle.laws.proofs.Types.{Call, Held, Kind, Out, Phase, State}
+use Rattle.laws.proofs.Types.{Call, Kind, Out, Phase, State}
 use Rattle.laws.proofs.Logic.{Or, left, right, In, both-no, eqb_same, same?}
 use Rattle.laws.proofs.SetLaws.{set_in, without_in, includes_in}
 use Rattle.laws.proofs.FormLaws.{Formed, form-says}
@@ -68,9 +69,8 @@ module _ (s : Site) (i : Inv s) (c : ℕ) (c_in : In c s.n) (f : Formed s)
   own = i.core.boxes c c_in
 
   held : HeldNext st
-  unfolding is_held
   held =
-      held_elim (λ (h : Held). is_held h ≡ true → HeldNext st)
+      held_elim (λ (h : Option ℕ). is_some h ≡ true → HeldNext st)
       (s.box c).records (span st.first st.last)
       (λ l t. l) (λ l t. absurd (both-no t refl)) o.held
 

@@ -7,10 +7,11 @@ use native.Mathlib.Omega.{arith}
 use lib.Dec.{leb}
 use lib.ListN.{length, get_or}
 use borrow.Author.Tests.{leb-true, leb-false, le-leb}
+use Rattle.std.specs.Prelude.{Option}
 use Rattle.rules.specs.Parts.{span, cleared}
 use Rattle.rules.specs.Last.{improves, bettered}
 use Rattle.rules.specs.Box.{held_at, record_at}
-use Rattle.laws.proofs.Types.{Best, Held, Mail}
+use Rattle.laws.proofs.Types.{Best, Mail}
 use Rattle.laws.proofs.Logic.{Or, left, right, decide, both-no, and_yes, pick_elim}
 use Rattle.laws.proofs.View.{held_elim}
 use Rattle.safety.proofs.Inv.{Agreement}
@@ -74,7 +75,7 @@ module _ (g : Agreement) where
         → BestOk last' (bettered last' t m (held_at rs next))
     unfolding bettered
     best-chosen is_same is-old =
-        held_elim (λ (h : Held). BestOk last' (bettered last' t m h)) rs next
+        held_elim (λ (h : Option ℕ). BestOk last' (bettered last' t m h)) rs next
         (λ n. pick_elim (BestOk last') (improves last' t m)
         (λ e. record {
           same = λ j f h i. let jl : j ≡ m.last = omega arith in
@@ -92,7 +93,7 @@ module _ (g : Agreement) where
         → Found (bettered last' t m (held_at rs next))
     unfolding bettered improves
     found-chosen lt (left f) =
-        held_elim (λ (h : Held). Found (bettered last' t m h)) rs next
+        held_elim (λ (h : Option ℕ). Found (bettered last' t m h)) rs next
         (λ n. pick_elim Found (improves last' t m)
         (λ e. let h = improved e in record {
           number = omega (arith, h.1, f.number, ll, lt);
@@ -101,7 +102,7 @@ module _ (g : Agreement) where
         (λ e. found-cleared last' t lt f))
         (λ n. found-cleared last' t lt f)
     found-chosen lt (right v) =
-        held_elim (λ (h : Held). Found (bettered last' t m h)) rs next
+        held_elim (λ (h : Option ℕ). Found (bettered last' t m h)) rs next
         (λ n. pick_elim Found (improves last' t m)
         (λ e. record { number = omega (arith, v.0); pn = v.2 })
         (λ e. found-cleared last' t lt (higher e (decide (leb t.pn m.unagreed)))))

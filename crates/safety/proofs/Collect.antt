@@ -7,6 +7,7 @@ use native.Mathlib.Omega.{arith}
 use lib.Dec.{eqb}
 use lib.ListN.{length}
 use borrow.Author.Tests.{eq-eqb}
+use Rattle.std.specs.Prelude.{Option}
 use Rattle.rules.specs.Pick.{pick_true}
 use Rattle.rules.specs.Sizes.{most_boxes}
 use Rattle.rules.specs.Sets.{has, bit, without}
@@ -17,7 +18,7 @@ use Rattle.rules.specs.Steps.{best_held, collect, acted}
 use Rattle.rules.specs.Box.{Box, Letter, mine, written, enclosed}
 use Rattle.rules.specs.Site.{Site, setting, posted, upd}
 use Rattle.rules.specs.Step.{step}
-use Rattle.laws.proofs.Types.{Call, Held, Kind, Out, Phase}
+use Rattle.laws.proofs.Types.{Call, Kind, Out, Phase}
 use Rattle.laws.proofs.Logic.{In, eqb_same}
 use Rattle.laws.proofs.SetLaws.{bit_is, without_in}
 use Rattle.laws.proofs.Conditions.{Leading, Is, go-unless, can-collect}
@@ -101,7 +102,7 @@ module _ (s : Site) (i : Inv s) (c : ℕ) (c_in : In c s.n)
   best-ok : BestOk i.agreed st.last (best_held (s.box c).head.kept (mine (s.box c)))
   unfolding best_held
   best-ok =
-      held_elim (λ (q : Held). BestOk i.agreed st.last (best_held (s.box c).head.kept q))
+      held_elim (λ (q : Option ℕ). BestOk i.agreed st.last (best_held (s.box c).head.kept q))
       (s.box c).records (span st.first st.last)
       (λ k. record {
         same = λ j f h u. let jl : j ≡ st.last = omega arith in
@@ -119,7 +120,7 @@ module _ (s : Site) (i : Inv s) (c : ℕ) (c_in : In c s.n)
       → Found i.agreed (best_held (s.box c).head.kept (mine (s.box c)))
   unfolding best_held
   found m l = let v = own.vote m l in
-      held_elim (λ (q : Held). Found i.agreed (best_held (s.box c).head.kept q))
+      held_elim (λ (q : Option ℕ). Found i.agreed (best_held (s.box c).head.kept q))
       (s.box c).records (span st.first st.last)
       (λ e. record { number = omega (arith, v.0); pn = omega (arith, v.2, under-is e) })
       (λ e. absurd (omega (arith, v.1, e)))

@@ -3,6 +3,7 @@ use Prim.Native.Nat.{ℕ}
 use mathlib.Core.Path.{◌≡◌, refl}
 use lib.Dec.{eqb, ltb}
 use lib.ListN.{get_or}
+use Rattle.std.specs.Prelude.{Option}
 use Rattle.rules.specs.Last.{told, raised, counted, uncounted, replied, on_last}
 use Rattle.rules.specs.Mails.{on_collect, on_begin, on_accept, on_commit, on_lease, on_lease_ack}
 use Rattle.rules.specs.Mails.{of_kind}
@@ -12,7 +13,7 @@ use Rattle.rules.specs.Steps.{trim, acted}
 use Rattle.rules.specs.Box.{Box, Letter, Event, own, mail, next_of, mine, turn_of}
 use Rattle.rules.specs.Site.{Site}
 use Rattle.rules.specs.Turns.{settled}
-use Rattle.laws.proofs.Types.{Act, BoxState, Call, Held, Kind, Setting, Turn, Verdict}
+use Rattle.laws.proofs.Types.{Act, BoxState, Call, Kind, Setting, Turn, Verdict}
 use Rattle.laws.proofs.Logic.{pick_elim}
 use Rattle.laws.proofs.View.{Links}
 use Rattle.laws.proofs.StepLaws.{by-verdict, Plays, recovers, collects, readies, offers, proposes}
@@ -73,7 +74,7 @@ module _ (s : Setting) (x : Box) where
   abbrev Same : Turn → Type 0
   Same t = SameDesk x.head t.next
 
-  desk-replied : (b : BoxState) (a : ℕ) (y : Letter) (q : Held) → SameDesk x.head b
+  desk-replied : (b : BoxState) (a : ℕ) (y : Letter) (q : Option ℕ) → SameDesk x.head b
       → SameDesk x.head (replied b s.me a y.head q)
   unfolding replied raised counted uncounted
   desk-replied b a y q h =

@@ -7,6 +7,7 @@ use mathlib.Core.List.{List, ◌∷◌, ◌++◌, append-nil}
 use native.Mathlib.Omega.{arith}
 use lib.Dec.{eqb}
 use lib.ListN.{get_or}
+use Rattle.std.specs.Prelude.{Option}
 use Rattle.rules.specs.Sizes.{most_boxes}
 use Rattle.rules.specs.Sets.{bit, includes, has}
 use Rattle.rules.specs.Numbers.{phase_number}
@@ -20,7 +21,7 @@ use Rattle.rules.specs.Steps.{recover, collect, started, leased, has_previous, r
 use Rattle.rules.specs.Steps.{propose}
 use Rattle.rules.specs.Steps.{agree, finish, lease_heard, trim, acted}
 use Rattle.rules.specs.Box.{Box, Letter, next_of, mine}
-use Rattle.laws.proofs.Types.{Act, Answer, BoxState, Held, Kind, Out, Setting, Turn}
+use Rattle.laws.proofs.Types.{Act, Answer, BoxState, Kind, Out, Setting, Turn}
 use Rattle.laws.proofs.Logic.{Or, left, right, In, decide, both-no, pick_elim, All, nil, All-head}
 use Rattle.laws.proofs.Logic.{All-append, All-map}
 use Rattle.laws.proofs.SetLaws.{bit_is, joined_in, without_in, includes_in}
@@ -234,7 +235,7 @@ module _ (s : Setting) (b : ℕ) (G : Type 0) (x : Box) (way : List Letter)
   -- a mail y from box a: if a is b, it stood at the head of the way
   module _ (a : ℕ) (y : Letter) (from : In a most_boxes)
       (head : b ≡ a → x.head.leads ≡ true → Hears s.present b G x.head (y ∷ way)) where
-    lead-replied : (h : BoxState) → stage_of h ≡ 0 → (q : Held)
+    lead-replied : (h : BoxState) → stage_of h ≡ 0 → (q : Option ℕ)
         → stage_of (replied h s.me a y.head q) ≡ 0
     unfolding replied raised counted uncounted
     lead-replied h e q =

@@ -7,6 +7,7 @@ use native.Mathlib.Omega.{arith}
 use lib.Dec.{eqb, leb, ltb}
 use lib.ListN.{length, get_or, take, length-take, length-drop}
 use lib.Seq.{get_or-take}
+use Rattle.std.specs.Prelude.{Option}
 use Rattle.rules.specs.Parts.{span, none, took_kept, cleared}
 use Rattle.rules.specs.Last.{improves, bettered, told, raised, counted, uncounted, replied}
 use Rattle.rules.specs.Last.{on_last}
@@ -20,7 +21,7 @@ use Rattle.rules.specs.Box.{enclosed, letter_of, turn_of, turned, brought}
 use Rattle.rules.specs.Site.{Site, setting, is_box, relinked, popped, twice, doubled, played}
 use Rattle.rules.specs.Step.{elect}
 use Rattle.rules.specs.Turns.{still}
-use Rattle.laws.proofs.Types.{Act, Answer, Best, BoxState, Call, Held, Kind, Mail, Out, Setting}
+use Rattle.laws.proofs.Types.{Act, Answer, Best, BoxState, Call, Kind, Mail, Out, Setting}
 use Rattle.laws.proofs.Types.{Turn}
 use Rattle.laws.proofs.Logic.{Or, left, right, In, below?, cond_elim, pick_elim, All, nil}
 use Rattle.laws.proofs.Logic.{All-head, All-tail, All-twice, All-map}
@@ -129,7 +130,7 @@ module _ (G : ℕ → ℕ → Type 0) where
   best-replied x c a y h sent g =
       pick_elim (λ (z : BoxState). BestG z.best) (ltb x.kept.pn y.head.pn) (λ e. clear)
       (λ e. pick_elim (λ (z : BoxState). BestG z.best) (eqb y.head.pn x.kept.pn)
-      (λ f. held_elim (λ (q : Held). BestG (bettered x.kept.last x.best y.head q))
+      (λ f. held_elim (λ (q : Option ℕ). BestG (bettered x.kept.last x.best y.head q))
       y.records (span y.head.first y.head.last)
       (λ n. pick_elim BestG (improves x.kept.last x.best y.head)
       (λ i m. g (y.head.last + 1) sent.top n)
@@ -140,7 +141,7 @@ module _ (G : ℕ → ℕ → Type 0) where
       clear : BestG (cleared x.kept.last x.best)
       clear = best-clear x.kept.last x.best h
 
-  first-replied : (x : BoxState) (c a : ℕ) (m : Mail) (q : Held)
+  first-replied : (x : BoxState) (c a : ℕ) (m : Mail) (q : Option ℕ)
       → (replied x c a m q).kept.first ≡ x.kept.first
   unfolding replied raised counted uncounted
   first-replied x c a m q =
@@ -212,7 +213,7 @@ module _ (G : ℕ → ℕ → Type 0) where
           box = record {
             records = h.records;
             best =
-                held_elim (λ (q : Held). BestG (best_held x.head.kept q)) x.records
+                held_elim (λ (q : Option ℕ). BestG (best_held x.head.kept q)) x.records
                 (span x.head.kept.first x.head.kept.last)
                 (λ n m. h.records (x.head.kept.last + 1) shape.top n)
                 (λ n. best_none);

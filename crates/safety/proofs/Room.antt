@@ -8,6 +8,7 @@ use native.Mathlib.Omega.{arith}
 use lib.Dec.{eqb, leb, ltb}
 use lib.ListN.{length, get_or}
 use borrow.Author.Tests.{leb-true, leb-false}
+use Rattle.std.specs.Prelude.{Option}
 use Rattle.rules.specs.Numbers.{phase_number}
 use Rattle.rules.specs.Parts.{span, took_kept, cleared}
 use Rattle.rules.specs.Turns.{still}
@@ -23,7 +24,7 @@ use Rattle.rules.specs.Box.{turn_of}
 use Rattle.rules.specs.Box.{turned, brought}
 use Rattle.rules.specs.Site.{Site, setting, is_box, relinked, twice, fresh, fresh_head, played}
 use Rattle.rules.specs.Step.{elect, presented, step, run}
-use Rattle.laws.proofs.Types.{Act, Answer, Best, BoxState, Call, Held, Kind, Mail, Out, Setting}
+use Rattle.laws.proofs.Types.{Act, Answer, Best, BoxState, Call, Kind, Mail, Out, Setting}
 use Rattle.laws.proofs.Types.{Turn}
 use Rattle.laws.proofs.Logic.{and_yes, cond_elim, pick_elim, All, nil, All-tail, All-twice}
 use Rattle.laws.proofs.FormLaws.{HeldCount, FormedKind}
@@ -69,7 +70,7 @@ module _ (J : ℕ) where
         → BestRoom f' l' (bettered l' t m (held_at rs (span m.first m.last)))
     unfolding bettered improves
     room-bettered m rs held from to =
-        held_elim (λ (q : Held). BestRoom f' l' (bettered l' t m q)) rs
+        held_elim (λ (q : Option ℕ). BestRoom f' l' (bettered l' t m q)) rs
         (span m.first m.last)
         (λ n. pick_elim (BestRoom f' l') (improves l' t m)
         (λ e. better n (and_yes (leb l' m.last && leb t.number (m.last + 1)) _ e).0)
@@ -143,7 +144,7 @@ module _ (s : Setting) (x : Box) (h : BoxRoom s.j x.head)
         (λ go. record {
           box = λ e.
               held_elim
-              (λ (q : Held).
+              (λ (q : Option ℕ).
               BestRoom s.j x.head.kept.first x.head.kept.last
               (best_held x.head.kept q))
               x.records (span x.head.kept.first x.head.kept.last)

@@ -7,6 +7,7 @@ use native.Mathlib.Omega.{arith}
 use lib.Dec.{eqb}
 use lib.ListN.{get_or}
 use borrow.Author.Tests.{le-leb, lt-ltb, not-false}
+use Rattle.std.specs.Prelude.{Option}
 use Rattle.rules.specs.Numbers.{phase_number, refusal_number}
 use Rattle.rules.specs.Parts.{higher, room_next}
 use Rattle.rules.specs.Turns.{first_cause, unless, settled}
@@ -20,7 +21,7 @@ use Rattle.rules.specs.Site.{Site, Outcome, is_box, is_link, setting, room, popp
 use Rattle.rules.specs.Form.{form}
 use Rattle.rules.specs.Needs.{ruled}
 use Rattle.rules.specs.Step.{by_answer, by_turn, delivered, step, run}
-use Rattle.laws.proofs.Types.{Answer, BoxState, Call, Held, Kind, Refusal, Setting, Turn, Verdict}
+use Rattle.laws.proofs.Types.{Answer, BoxState, Call, Kind, Refusal, Setting, Turn, Verdict}
 use Rattle.laws.proofs.Logic.{both-no, eqb_yes, and_both, or_no, cond_elim, pick_elim, All}
 use Rattle.laws.proofs.Logic.{All-head}
 use Rattle.laws.proofs.Conditions.{Room, can-ready, has-previous}
@@ -106,7 +107,7 @@ module _ (s : Setting) (b : BoxState) where
           let q = has-previous b (not-false _ n.0) in
           both-no (room-made ((h p).next q.0)) n.1
 
-  module _ (a : ℕ) (y : Letter) (one : ℕ) (next mine : Held) where
+  module _ (a : ℕ) (y : Letter) (one : ℕ) (next mine : Option ℕ) where
     -- a Begin is taken at its own last, with at least its own first
     other-kind : (k : Kind) → MailRoom s.j (read_as k y)
         → no_room (of_kind k b s a y.head one next mine).answer ≡ false

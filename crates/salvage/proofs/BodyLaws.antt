@@ -15,7 +15,7 @@ use Rattle.image.specs.Image.{numbers_from}
 use Rattle.image.proofs.OrderLaws.{from_snoc}
 use Rattle.print.specs.Text.{Wrote}
 use Rattle.print.proofs.WriteLaws.{nothing, then, spelled, at_most}
-use Rattle.found.specs.declared.Found.{Found}
+use Rattle.found.specs.Found.{Found}
 use Rattle.found.specs.Found.{is_kept, box_found}
 use Rattle.salvage.specs.Table.{box_body_of}
 use Rattle.salvage.specs.Tally.{flagged}

@@ -14,7 +14,8 @@ use Rattle.words.proofs.PartLaws.{part-splice}
 use Rattle.rules.specs.Every.{all}
 use Rattle.rules.specs.Sizes.{most_boxes, unknown}
 use Rattle.rules.proofs.BoundLaws.{first-of}
-use Rattle.values.specs.declared.Fault.{Fault}
+use Rattle.std.specs.Prelude.{Option, Some, None, Ok}
+use Rattle.values.specs.declared.Field.{Field}
 use Rattle.values.specs.Counts.{held_count, agreed_count, full_count}
 use Rattle.values.proofs.FaultLaws.{then-passed}
 use Rattle.values.proofs.CountLaws.{either-of, count-says, full-says}
@@ -22,7 +23,6 @@ use Rattle.row.specs.Row.{first_at, last_at, count_at}
 use Rattle.row.specs.Faults.{head_fault, number_tests, value_tests, peer_tests, count_test}
 use Rattle.image.specs.Longest.{box_head_long, table_bytes}
 use Rattle.bodies.specs.Contents.{count_of, begin_of, long_of}
-use Rattle.found.specs.declared.Found.{Found}
 use Rattle.found.specs.declared.Spot.{Spot}
 use Rattle.found.specs.Stands.{word_at, words_at, groups_in}
 use Rattle.found.specs.Found.{is_kept, leading, first_in, box_words_in, records_found, held_found}
@@ -108,18 +108,18 @@ module _ (n J b : ℕ) (body : List ℕ) where
   abbrev count : ℕ
   count = word_at 4 body (at - 4)
 
-  abbrev fault : Fault
+  abbrev fault : Option Field
   fault = head_fault n J b (box_words_in n body)
 
   pub record BoxKept : Type 0 where
-    pub whole : fault ≡ Fault.None
+    pub whole : fault ≡ None
     pub proper : count ≤ leading (words_at 8 count body at)
     pub long : at + 8 * count ≡ length body
 
-  head-kept : (f : Fault) → is_kept (head_found f (held_found body at)) ≡ true
-      → (f ≡ Fault.None) × (is_kept (held_found body at) ≡ true)
-  head-kept Fault.None e = (refl, e)
-  head-kept (Fault.At x) e = absurd (false≢true e)
+  head-kept : (f : Option Field) → is_kept (head_found f (held_found body at)) ≡ true
+      → (f ≡ None) × (is_kept (held_found body at) ≡ true)
+  head-kept None e = (refl, e)
+  head-kept (Some x) e = absurd (false≢true e)
 
   pub box-kept : is_kept (box_found n J b body) ≡ true → BoxKept
   unfolding box_found held_found records_found
@@ -127,7 +127,7 @@ module _ (n J b : ℕ) (body : List ℕ) where
       let h = head-kept fault e in
       let m = leading (words_at 8 count body at) in
       let r = unless-kept (leb count m) (Spot.Record (first_in body + m)) _ h.1 in
-      let l = unless-kept (eqb (at + 8 * count) (length body)) Spot.Rest Found.Kept r.1 in
+      let l = unless-kept (eqb (at + 8 * count) (length body)) Spot.Rest (Ok tt) r.1 in
       record {
         whole = h.0;
         proper = leb-true count m r.0;
@@ -142,7 +142,7 @@ module _ (n J b : ℕ) (body : List ℕ) where
       let a = then-passed (number_tests w) _ k.whole in
       let c = then-passed (value_tests n w) _ a.1 in
       let d = then-passed (peer_tests n b w) _ c.1 in
-      let f = then-passed (count_test J w) Fault.None d.1 in
+      let f = then-passed (count_test J w) None d.1 in
       let t : held_count J (get_or w first_at 0) (get_or w last_at 0) (get_or w count_at 0) ≡ true =
       first-of (held_count J (get_or w first_at 0) (get_or w last_at 0) (get_or w count_at 0)) _
       f.0 in

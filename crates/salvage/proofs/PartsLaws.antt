@@ -14,7 +14,7 @@ use Rattle.print.specs.Bytes.{bytes}
 use Rattle.print.specs.Text.{Wrote}
 use Rattle.print.proofs.WriteLaws.{then, spelled, at_most}
 use Rattle.bodies.specs.Contents.{count_of, body_of}
-use Rattle.found.specs.declared.Found.{Found}
+use Rattle.found.specs.Found.{Found}
 use Rattle.found.specs.Found.{general_found, box_found, mail_found, loads_of, mails_of}
 use Rattle.salvage.specs.declared.Told.{Told}
 use Rattle.salvage.specs.Table.{sound, boxes_in, general_of, box_body_of, mail_body_of}

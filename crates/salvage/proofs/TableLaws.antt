@@ -9,12 +9,12 @@ use lib.ListN.{length}
 use denote.Ref.{Bor}
 use borrow.Author.Tests.{leb-true, eqb-true, eqb-false, le-leb, lt-leb, eq-eqb, ne_eqb}
 use Rattle.words.specs.Rows.{part}
-use Rattle.le.specs.Le.{Number}
 use Rattle.rules.specs.Pick.{pick_true}
 use Rattle.rules.specs.Sizes.{within}
 use Rattle.rules.proofs.BoundLaws.{first-of, second-of}
 use Rattle.image.specs.Longest.{table_bytes}
-use Rattle.bodies.specs.declared.Named.{Named}
+use Rattle.std.specs.Prelude.{Ok}
+use Rattle.bodies.specs.Contents.{Named, part_from}
 use Rattle.bodies.specs.Contents.{table_number, count_of, begin_of, long_of, body_of, most_bodies}
 use Rattle.bodies.specs.Contents.{has_body, named}
 use Rattle.bodies.specs.Handed.{Handed}
@@ -177,7 +177,7 @@ pub body-handed : (x r : Bor (List ℕ)) (k : ℕ) → sound x.now ≡ true → 
 unfolding named
 body-handed x r k sure l h w =
     let im = x.now in
-    let is : named im k ≡ Named.Part (begin_of im k) (long_of im k) =
+    let is : named im k ≡ Ok (part_from (begin_of im k) (long_of im k)) =
     pick_true (has_body im k) _ _ (has-body im sure k l h) in
     let part = subst (λ (a : Named). Handed x a r) is w in
     part.bytes
@@ -237,9 +237,3 @@ too_short im h = go (sound im) refl
         let l = s.least in
         let t = s.table in
         absurd (let none : ⊥ = omega arith in none)
-
--- a number of the table, as it is read
-pub number-told : (im : List ℕ) (i : ℕ) {x r : ℕ} → Number 4 (part im (4 * i) 4) x → r ≡ x
-    → (r ≡ table_number im i) × (r < 4294967296)
-unfolding table_number
-number-told im i e s = let b = e.below in (s ∙ e.read, omega arith)

@@ -17,7 +17,7 @@ use Rattle.print.specs.Text.{Wrote}
 use Rattle.print.proofs.DecimalLaws.{one_or_more, one-digit, more-digits, tenth_below}
 use Rattle.print.proofs.WriteLaws.{nothing, spelled, at_most}
 use Rattle.found.specs.declared.Spot.{Spot}
-use Rattle.found.specs.declared.Found.{Found}
+use Rattle.found.specs.Found.{Found}
 use Rattle.salvage.specs.declared.loads.Tally.{Tally}
 use Rattle.salvage.specs.Loads.{record_text, differs_text}
 use Rattle.salvage.specs.Tally.{tally_text}

@@ -12,7 +12,8 @@ use Rattle.bodies.specs.Contents.{count_of}
 use Rattle.print.specs.Bytes.{bytes}
 use Rattle.print.specs.Decimal.{decimal}
 use Rattle.found.specs.declared.Spot.{Spot}
-use Rattle.found.specs.declared.Found.{Found}
+use Rattle.std.specs.Prelude.{Ok, Err}
+use Rattle.found.specs.Found.{Found}
 use Rattle.salvage.specs.declared.Told.{Told}
 use Rattle.found.specs.Found.{is_kept, general_found, box_found, mail_found, loads_of, mails_of}
 use Rattle.salvage.specs.Table.{sound, boxes_in, general_of, box_body_of, mail_body_of}
@@ -62,8 +63,8 @@ spot_text (Spot.MailRecord a b i k) = mail_text a b i ++ (bytes "record" ++ deci
 spot_text Spot.Rest = bytes "rest"
 
 abbrev pub found_text : Found → List ℕ
-found_text Found.Kept = bytes " kept\n"
-found_text (Found.Aside s) = bytes " set aside " ++ (spot_text s ++ (10 ∷ []))
+found_text (Ok u) = bytes " kept\n"
+found_text (Err s) = bytes " set aside " ++ (spot_text s ++ (10 ∷ []))
 
 -- `body I` and what it is
 abbrev pub general_line : Found → List ℕ

@@ -20,20 +20,20 @@ ghost use Rattle.salvage.specs.Put.{
 use crate::loads::PAST;
 use crate::table::body;
 use crate::{loads, table, text};
-use found::Found;
+use found::Spot;
 
 // 1 where a body is kept.
-fn flag(f: Found) -> u64
+fn flag(f: Result<(), Spot>) -> u64
     ensures { result ≡ cond (is_kept f) 1 0 }
 {
     match f {
-        Found::Kept => 1,
-        Found::Aside(_) => 0,
+        Ok(_) => 1,
+        Err(_) => 0,
     }
 }
 
 // What box b is.
-fn look(image: &[u8], n: u32, j: u32, b: u32) -> Found
+fn look(image: &[u8], n: u32, j: u32, b: u32) -> Result<(), Spot>
     requires { Sound image.now n × (1 ≤ b) × (b ≤ n) }
     ensures { result ≡ box_found n j b (box_body_of image.now b) }
 {
@@ -48,12 +48,10 @@ fn put_boxes(image: &[u8], n: u32, j: u32, kept: &mut [u64], out: &mut [u8], at:
         at result }
 {
     let mut p = at;
-    let mut i: u32 = 0;
-    while i < n {
+    for i in 0..n {
         let f = look(image, n, j, i + 1);
         kept[i as usize] = flag(f);
         p = text::put_box(out, p, i as u64 + 1, f);
-        i += 1;
     }
     p
 }
@@ -92,6 +90,7 @@ fn put_loads(image: &[u8], n: usize, kept: &[u64], out: &mut [u8], at: usize) ->
         (loads_text (flagged kept.now) image.now n most_number 1) }
 {
     let mut p = at;
+    // No `for`: the next k is the one behind the number that was found.
     let mut k: u64 = 1;
     while k < PAST {
         let q = loads::next_number(image, kept, n, k);

@@ -13,7 +13,7 @@ mod text;
 pub const MOST_TEXT: usize = 331776;
 
 // How long the block is, at the front of the buffer; that it is a refusal; or that the buffer is
-// too short.
+// too short. No Result: two of the three answers are a text to hand on.
 #[derive(Clone, Copy)]
 pub enum Told {
     Block(usize),

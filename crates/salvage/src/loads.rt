@@ -21,7 +21,7 @@ use words::size;
 pub const PAST: u64 = 1000000001;
 
 // Of the boxes seen so far: the record that the first of them keeps, how many keep one, and whether
-// two differ.
+// two differ. No Option for the record: the count, which is told too, says if there is one.
 #[derive(Clone, Copy)]
 pub struct Tally {
     pub value: u64,
@@ -84,11 +84,9 @@ pub(crate) fn kept_by(image: &[u8], kept: &[u64], n: usize, k: u64) -> Tally
         many: 0,
         differs: false,
     };
-    let mut i = 0;
-    while i < n {
+    for i in 0..n {
         let r = kept_in(kept[i] == 1, n, body(image, (i + 2) as u32), k);
         t = add(t, r);
-        i += 1;
     }
     t
 }
@@ -112,14 +110,6 @@ fn next_in(readable: bool, body: &[u8], k: u64) -> u64
     k
 }
 
-// The lesser of two numbers, neither below k.
-fn least(a: u64, b: u64, k: u64) -> u64
-    requires { (k ≤ a) × (k ≤ b) }
-    ensures { (result ≤ a) × (result ≤ b) × (k ≤ result) }
-{
-    if a < b { a } else { b }
-}
-
 // The first number from k on that one of the boxes may keep.
 pub(crate) fn next_number(image: &[u8], kept: &[u64], n: usize, k: u64) -> u64
     requires image_value { (sound image.now ≡ true) × (n ≡ boxes_in image.now) }
@@ -129,11 +119,9 @@ pub(crate) fn next_number(image: &[u8], kept: &[u64], n: usize, k: u64) -> u64
     ensures upper_bound { result ≤ most_number + 1 }
 {
     let mut m = PAST;
-    let mut i = 0;
-    while i < n {
+    for i in 0..n {
         let q = next_in(kept[i] == 1, body(image, (i + 2) as u32), k);
-        m = least(m, q, k);
-        i += 1;
+        m = m.min(q);
     }
     m
 }

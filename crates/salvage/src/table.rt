@@ -1,25 +1,16 @@
 // The table of contents: whether it is sound, and the bodies that it then names.
 ghost use Rattle.std.specs.Prelude.{◌≡◌, true, ◌+◌, ◌*◌, ◌≤◌, ◌<◌, length};
 ghost use Rattle.image.specs.Longest.{table_bytes};
-ghost use Rattle.bodies.specs.Contents.{count_of, body_of, most_bodies, table_number};
+ghost use Rattle.bodies.specs.Contents.{count_of, body_of, most_bodies};
 ghost use Rattle.salvage.specs.Table.{sound, sound_table, follow};
 
 use bodies::contents;
-use words::size;
+use bodies::contents::table_number;
 
 // The most bytes of an image, and the most bodies.
 const MOST_BYTES: usize = 65536;
 
 const MOST_BODIES: usize = 7;
-
-// Number i of the table, counted from 0.
-fn table_number(image: &[u8], i: usize) -> usize
-    requires { (4 * i + 4 ≤ length image.now) × (i < 16) }
-    ensures value { result ≡ table_number image.now i }
-    ensures upper_bound { result < 4294967296 }
-{
-    size(le::get_at(image, 4 * i, 4))
-}
 
 // The bodies follow each other from `at` on, and the last ends with the image.
 fn is_in_order(image: &[u8], count: usize, at: usize) -> bool
@@ -27,15 +18,13 @@ fn is_in_order(image: &[u8], count: usize, at: usize) -> bool
     ensures { result ≡ follow image.now count 1 at }
 {
     let mut p = at;
-    let mut i = 0;
-    while i < count {
+    for i in 0..count {
         let begin = table_number(image, 2 * i + 1);
         let long = table_number(image, 2 * i + 2);
         if begin != p {
             return false;
         }
         p += long;
-        i += 1;
     }
     p == image.len()
 }

@@ -4,7 +4,6 @@ ghost use Rattle.rules.specs.Sizes.{most_boxes, most_number};
 ghost use Rattle.print.specs.Bytes.{bytes};
 ghost use Rattle.print.specs.Decimal.{decimal};
 ghost use Rattle.print.specs.Text.{Wrote};
-ghost use Rattle.found.specs.declared.Found.{Found};
 ghost use Rattle.salvage.specs.Loads.{record_text, differs_text};
 ghost use Rattle.salvage.specs.Tally.{tally_text};
 ghost use Rattle.salvage.specs.Block.{
@@ -19,7 +18,7 @@ ghost use Rattle.salvage.specs.Block.{
 };
 
 use crate::loads::Tally;
-use found::{Found, Spot};
+use found::Spot;
 use print::{put_byte, put_bytes, put_decimal};
 use values::Field;
 
@@ -137,24 +136,24 @@ fn put_spot(out: &mut [u8], at: usize, s: Spot) -> usize
 
 fn put_aside(out: &mut [u8], at: usize, s: Spot) -> usize
     requires { at + 105 ≤ length out.old }
-    ensures { Wrote 105 out.old out.new at result (found_text (Found.Aside s)) }
+    ensures { Wrote 105 out.old out.new at result (found_text (Err s)) }
 {
     let p = put_bytes(out, at, b" set aside ");
     let p = put_spot(out, p, s);
     put_byte(out, p, 10)
 }
 
-fn put_found(out: &mut [u8], at: usize, f: Found) -> usize
+fn put_found(out: &mut [u8], at: usize, f: Result<(), Spot>) -> usize
     requires { at + 105 ≤ length out.old }
     ensures { Wrote 105 out.old out.new at result (found_text f) }
 {
     match f {
-        Found::Kept => put_bytes(out, at, b" kept\n"),
-        Found::Aside(s) => put_aside(out, at, s),
+        Ok(_) => put_bytes(out, at, b" kept\n"),
+        Err(s) => put_aside(out, at, s),
     }
 }
 
-pub(crate) fn put_general(out: &mut [u8], at: usize, f: Found) -> usize
+pub(crate) fn put_general(out: &mut [u8], at: usize, f: Result<(), Spot>) -> usize
     requires { at + 160 ≤ length out.old }
     ensures { Wrote 160 out.old out.new at result (general_line f) }
 {
@@ -163,7 +162,7 @@ pub(crate) fn put_general(out: &mut [u8], at: usize, f: Found) -> usize
 }
 
 // Box b.
-pub(crate) fn put_box(out: &mut [u8], at: usize, b: u64, f: Found) -> usize
+pub(crate) fn put_box(out: &mut [u8], at: usize, b: u64, f: Result<(), Spot>) -> usize
     requires { (at + 160 ≤ length out.old) × (b ≤ 5) }
     ensures { Wrote 160 out.old out.new at result (box_line b f) }
 {
@@ -175,7 +174,7 @@ pub(crate) fn put_box(out: &mut [u8], at: usize, b: u64, f: Found) -> usize
 }
 
 // The mail, body i.
-pub(crate) fn put_mails(out: &mut [u8], at: usize, i: u64, f: Found) -> usize
+pub(crate) fn put_mails(out: &mut [u8], at: usize, i: u64, f: Result<(), Spot>) -> usize
     requires { at + 160 ≤ length out.old }
     ensures { Wrote 160 out.old out.new at result (mail_line i f) }
 {

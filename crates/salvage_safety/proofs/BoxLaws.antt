@@ -15,7 +15,8 @@ use Rattle.rules.specs.Box.{Box}
 use Rattle.rules.proofs.BoundLaws.{first-of, second-of}
 use Rattle.laws.proofs.FormLaws.{FormedBox, box-says}
 use Rattle.safety.specs.Demand3.{record_at}
-use Rattle.values.specs.declared.Fault.{Fault}
+use Rattle.std.specs.Prelude.{Option, None, Ok}
+use Rattle.values.specs.declared.Field.{Field}
 use Rattle.values.proofs.FaultLaws.{whole-none}
 use Rattle.row.specs.Row.{head_words, first_at, last_at, count_at}
 use Rattle.row.specs.Faults.{head_fault}
@@ -30,7 +31,6 @@ use Rattle.image.proofs.Lengths.{length-box}
 use Rattle.image.proofs.RecordLaws.{proper-below}
 use Rattle.image.proofs.BoxLaws.{peer-none, box-split, box-records, box_headed}
 use Rattle.image.proofs.BoxJudged.{box-passes}
-use Rattle.found.specs.declared.Found.{Found}
 use Rattle.found.specs.Stands.{word_at, words_at, groups_in}
 use Rattle.found.specs.Found.{leading, first_in, box_words_in, records_found, held_found}
 use Rattle.found.specs.Found.{head_found}
@@ -226,7 +226,7 @@ module _ (n J b : ℕ) (few : n ≤ most_boxes) (loads : J ≤ most_loads) (x : 
   records_are : words_at 8 (length rs) body at ≡ rs
   records_are = words_stand 8 body rs at at_R (all-below rs (box-records n J b x good))
 
-  held_kept : held_found body at ≡ Found.Kept
+  held_kept : held_found body at ≡ Ok tt
   unfolding held_found records_found
   held_kept =
       let m : leading (words_at 8 (word_at 4 body (at - 4)) body at) ≡ length rs =
@@ -240,12 +240,12 @@ module _ (n J b : ℕ) (few : n ≤ most_boxes) (loads : J ≤ most_loads) (x : 
         eq-eqb (at + 8 * word_at 4 body (at - 4)) (length body) (omega arith),
       )
 
-  pub box-is-kept : box_found n J b body ≡ Found.Kept
+  pub box-is-kept : box_found n J b body ≡ Ok tt
   unfolding box_found
   box-is-kept =
-      let none : head_fault n J b (box_words_in n body) ≡ Fault.None =
+      let none : head_fault n J b (box_words_in n body) ≡ None =
       ap (head_fault n J b) words_are ∙ whole-none _ (box-passes n J b few x good) in
-      ap (λ (f : Fault). head_found f (held_found body at)) none ∙ held_kept
+      ap (λ (f : Option Field). head_found f (held_found body at)) none ∙ held_kept
 
   -- ---- what it keeps
 

@@ -7,6 +7,7 @@ use mathlib.Core.List.{List, [], ◌∷◌, ◌++◌, map}
 use lib.Dec.{eqb}
 use lib.ListN.{length, length-append}
 use borrow.Author.Tests.{eq-eqb, ne_eqb, eqb-true, eqb-false}
+use Rattle.std.proofs.lemmas.List.{map-append}
 use Rattle.rules.specs.Pick.{pick_true}
 use Rattle.rules.specs.Every.{each, tally}
 use Rattle.rules.proofs.BoundLaws.{first-of, second-of}
@@ -33,10 +34,6 @@ held_snoc (y ∷ ys) x = go (held_snoc ys x) (eqb y 0) refl
         held-keep y (ys ++ (x ∷ [])) e ∙ ap (λ (l : List ℕ). y ∷ l) ih
         ∙ ap (λ (l : List ℕ). l ++ held (x ∷ [])) (sym (held-keep y ys e))
 
-map_snoc : (g : ℕ → ℕ) (xs : List ℕ) (x : ℕ) → map g (xs ++ (x ∷ [])) ≡ map g xs ++ (g x ∷ [])
-map_snoc g [] x = refl
-map_snoc g (y ∷ ys) x = ap (λ (l : List ℕ). g y ∷ l) (map_snoc g ys x)
-
 each_snoc : (q : ℕ → Bool) (xs ys : List ℕ) → each q xs ≡ true → each q ys ≡ true
     → each q (xs ++ ys) ≡ true
 unfolding each
@@ -56,7 +53,7 @@ module _ (p : ℕ → Bool) (g : ℕ → ℕ) (n : ℕ)
   next m =
       let up : 1 + m ≡ suc m = omega arith in
       ap (λ (l : List ℕ). held (map g l)) (from_snoc 1 m)
-      ∙ ap held (map_snoc g (numbers_from 1 m) (1 + m))
+      ∙ ap held (map-append g (numbers_from 1 m) ((1 + m) ∷ []))
       ∙ held_snoc (map g (numbers_from 1 m)) (g (1 + m))
       ∙ ap (λ (b : ℕ). listed m ++ held (g b ∷ [])) up
 

@@ -9,6 +9,7 @@ use lib.Dec.{leb}
 use lib.ListN.{length, take, drop, get_or, replicate}
 use lib.Seq.{get_or-drop}
 use borrow.Author.Tests.{le-leb, leb-true, leb-false}
+use Rattle.std.proofs.lemmas.List.{get_or-replicate}
 use Rattle.words.specs.Rows.{part, splice}
 use Rattle.words.proofs.PartLaws.{length_part, part-splice, part-below, drop_past, get_or-splice}
 use Rattle.words.proofs.PartLaws.{length-splice}
@@ -91,11 +92,6 @@ lead-all (r ∷ rs) h = go (lead-all rs) (proper r) refl
     go more false e =
         let l = pick-false (proper r) (suc (leading rs)) 0 e in
         absurd (let no : ⊥ = omega arith in no)
-
-get_or-all : (m v k : ℕ) → k < m → get_or (replicate m v) k 0 ≡ v
-get_or-all zero v k h = absurd (let no : ⊥ = omega arith in no)
-get_or-all (suc m) v zero h = refl
-get_or-all (suc m) v (suc k) h = get_or-all m v k (omega arith)
 
 -- what stands behind a splice stays
 get_or_past : (a c k : ℕ) (xs ys : List ℕ) → a + c ≤ k → a + c ≤ length xs → length ys ≡ c
@@ -229,7 +225,7 @@ module _ (n J b : ℕ) (few : n ≤ most_boxes) (body : List ℕ) (bytes : Below
       (length-words 8 body 3 52)
       ∙ get_or_past 0 13 i (replicate 22 unknown) (words_at 4 13 body 0) (omega arith) (omega arith)
       (length-words 4 body 13 0)
-      ∙ get_or-all 22 unknown i (omega arith)
+      ∙ get_or-replicate 22 i unknown 0 (omega arith)
 
   none : (i : ℕ) → i < head_words → Outside (box_groups n) i → get_or w i 0 ≡ unknown
   unfolding Each

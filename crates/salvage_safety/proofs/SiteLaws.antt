@@ -22,7 +22,7 @@ use Rattle.image.specs.Parts.{GoodBox}
 use Rattle.bodies.specs.Contents.{count_of, begin_of, long_of, most_bodies}
 use Rattle.bodies.specs.Walked.{Walked}
 use Rattle.bodies.proofs.Walked.{walked}
-use Rattle.found.specs.declared.Found.{Found}
+use Rattle.std.specs.Prelude.{Ok}
 use Rattle.found.specs.Stands.{word_at, words_at}
 use Rattle.found.specs.Found.{is_kept, general_found, box_found, loads_of}
 use Rattle.salvage.specs.Table.{most_bytes, follow, sound_table, sound, boxes_in, general_of}
@@ -118,7 +118,7 @@ module _ (s : Site) (f : form s ≡ true) where
   unfolding general_body
   long = length-cells 4 ws
 
-  general-kept : general_found s.n body ≡ Found.Kept
+  general-kept : general_found s.n body ≡ Ok tt
   unfolding general_found
   general-kept =
       let z = says.sizes in
@@ -148,7 +148,7 @@ module _ (s : Site) (f : form s ≡ true) where
       pick_true (is_kept (general_found s.n body)) _ _ (ap is_kept general-kept)
       ∙ word 1 (omega arith)
 
-  pub general-found : found_general im ≡ Found.Kept
+  pub general-found : found_general im ≡ Ok tt
   general-found = (λ i. general_found (n-is i) (walk.general i)) ∙ general-kept
 
   loads_are : loads_of (boxes_in im) (general_of im) ≡ s.J
@@ -163,7 +163,7 @@ module _ (s : Site) (f : form s ≡ true) where
     pub body_is : box_body_of im b ≡ box_body s.n (s.box b)
     body_is = walk.box b in-n.0 in-n.1
 
-    pub box-found : found_box im b ≡ Found.Kept
+    pub box-found : found_box im b ≡ Ok tt
     box-found =
         (λ i. box_found (n-is i) (loads_are i) b (body_is i))
         ∙ box-is-kept s.n s.J b says.sizes.few-boxes says.sizes.few-loads (s.box b)

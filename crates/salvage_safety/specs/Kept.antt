@@ -7,7 +7,7 @@ use Rattle.rules.specs.Box.{Box}
 use Rattle.cells.specs.Cells.{Below}
 use Rattle.image.specs.Image.{box_body}
 use Rattle.image.specs.Parts.{GoodBox}
-use Rattle.found.specs.declared.Found.{Found}
+use Rattle.std.specs.Prelude.{Ok}
 use Rattle.found.specs.Found.{box_found}
 
 -- bytes that are the body of box b of n, by form
@@ -18,6 +18,6 @@ pub record IsBox (n J b : ℕ) (body : List ℕ) : Type 0 where
 
 pub record KeptBox : Type 0 where
   pub read : (n J b : ℕ) → n ≤ most_boxes → J ≤ most_loads → (body : List ℕ) → Below 256 body
-      → box_found n J b body ≡ Found.Kept → IsBox n J b body
+      → box_found n J b body ≡ Ok tt → IsBox n J b body
   pub kept : (n J b : ℕ) → n ≤ most_boxes → J ≤ most_loads → (body : List ℕ)
-      → IsBox n J b body → box_found n J b body ≡ Found.Kept
+      → IsBox n J b body → box_found n J b body ≡ Ok tt

@@ -9,7 +9,7 @@ use Rattle.rules.specs.Step.{run}
 use Rattle.rules.specs.declared.model.Call.{Call}
 use Rattle.safety.specs.Demand3.{In, Agreed, record_at, start}
 use Rattle.image.specs.Image.{image_of}
-use Rattle.found.specs.declared.Found.{Found}
+use Rattle.std.specs.Prelude.{Ok}
 use Rattle.salvage.specs.Table.{most_bytes, sound, boxes_in}
 use Rattle.salvage.specs.Loads.{kept_by, held, record_text, load_text}
 use Rattle.salvage.specs.Block.{found_general, found_box, readable}
@@ -29,8 +29,8 @@ module _ (s : Site) where
   pub record Listed : Type 0 where
     -- its table is sound, and no box is set aside, nor the general body
     pub table : sound (image_of s) ≡ true
-    pub general : found_general (image_of s) ≡ Found.Kept
-    pub box : (b : ℕ) → In b s.n → found_box (image_of s) b ≡ Found.Kept
+    pub general : found_general (image_of s) ≡ Ok tt
+    pub box : (b : ℕ) → In b s.n → found_box (image_of s) b ≡ Ok tt
     -- a number that a box keeps as agreed has its record and a true count, so it does not differ
     pub line : (b k : ℕ) → In b s.n → Agreed (s.box b) k
         → line_of (image_of s) k ≡ record_text k (record_at (s.box b) k) (how_many s k)

@@ -1,29 +1,48 @@
--- One step of the search, and its end.
-use Rattle.std.proofs.Common.{ℕ, suc, ◌≡◌, ◌+◌, ◌≤◌, ◌<◌, ◌∙◌, List, ap, arith, length, get_or}
-use Rattle.std.proofs.Common.{take, drop, drop_of_length-le}
-use Rattle.std.proofs.lemmas.List.{drop_more, get_or-take, length-take-le}
-use borrow.Author.Tests.{eq-eqb, ne_eqb}
+-- The first place of a byte, as the library's `position` finds it.
+use Rattle.std.proofs.Common.{ℕ, ◌≡◌, ◌==◌, ◌+◌, ◌-◌, ◌≤◌, ◌∙◌, List, ap, arith}
+use Rattle.std.proofs.Common.{refl}
+use Rattle.std.proofs.Common.{cond, not, Bool, true, false, length, take, drop, slice_range, Some}
+use Rattle.std.proofs.Common.{None, Option}
+use Rattle.std.specs.List.{position, position_or_len}
+use Rattle.std.proofs.lemmas.Grind.{common_steps}
+use Rattle.std.proofs.lemmas.List.{drop-take}
+use Rattle.std.proofs.lemmas.List.Sums.{prefix_len-le-length}
+use Rattle.std.proofs.lemmas.List.Recursion.{is_position_or_len}
 use Rattle.scan.specs.Bytes.{slice, index_after, index_of}
 
-module _ (b i j : ℕ) (a : List ℕ) (room : j ≤ length a) where
-  cut : length (take j a) ≡ j
-  cut = length-take-le j a room
+stepped : (b : Bool) (k : ℕ) → index_after b k ≡ cond b 0 (1 + k)
+unfolding index_after
+stepped true k = refl
+stepped false k = omega arith
 
-  pub here : i < j → get_or a i 0 ≡ b → index_of b (slice i j a) ≡ 0
-  unfolding slice index_of index_after
-  here h e =
-      ap (index_of b) (drop_more (take j a) i 0 (omega (arith, cut)))
-      ∙ ap (λ t. index_after t (index_of b (drop (i + 1) (take j a))))
-      (eq-eqb (get_or (take j a) i 0) b (get_or-take j a i 0 h ∙ e))
+first-place : (b : ℕ) (s : List ℕ) → index_of b s ≡ position_or_len (λ x. x == b) s
+unfolding index_of
+first-place b s = is_position_or_len (index_of b) (λ x. x == b) refl
+    (λ x xs. stepped (x == b) (index_of b xs)) s
 
-  pub past : i < j → (get_or a i 0 ≡ b → ⊥)
-      → index_of b (slice i j a) ≡ suc (index_of b (slice (i + 1) j a))
-  unfolding slice index_of index_after
-  past h n =
-      ap (index_of b) (drop_more (take j a) i 0 (omega (arith, cut)))
-      ∙ ap (λ t. index_after t (index_of b (drop (i + 1) (take j a))))
-      (ne_eqb (get_or (take j a) i 0) b (λ e. n (omega (arith, e, get_or-take j a i 0 h))))
+-- the part that the code cuts out
+pub same-part : (i j : ℕ) (a : List ℕ) → i ≤ j → slice i j a ≡ slice_range a i j
+unfolding slice
+same-part i j a h =
+    let e : j ≡ i + (j - i) = omega arith in
+    ap (λ k. drop i (take k a)) e ∙ drop-take i (j - i) a
 
-  pub at-end : j ≤ i → index_of b (slice i j a) ≡ 0
-  unfolding slice index_of
-  at-end h = ap (index_of b) (drop_of_length-le (take j a) {i = i} (omega (arith, cut)))
+module _ (b i j : ℕ) (a : List ℕ) (order : i ≤ j) where
+  here : index_of b (slice i j a) ≡ position_or_len (λ x. x == b) (slice_range a i j)
+  here = ap (index_of b) (same-part i j a order) ∙ first-place b (slice_range a i j)
+
+  pub found : {r : Option ℕ} {k : ℕ} → r ≡ Some k → r ≡ position (λ x. x == b) (slice_range a i j)
+      → i + k ≡ i + index_of b (slice i j a)
+  found {r} {k} e p =
+      let at : position_or_len (λ x. x == b) (slice_range a i j) ≡ k =
+      grind (arith, common_steps) in
+      omega (arith, at, here)
+
+  pub not-found : {r : Option ℕ} → j ≤ length a → r ≡ None
+      → r ≡ position (λ x. x == b) (slice_range a i j)
+      → j ≡ i + index_of b (slice i j a)
+  not-found room e p =
+      let most = prefix_len-le-length (λ x. not (x == b)) (slice_range a i j) in
+      let at : position_or_len (λ x. x == b) (slice_range a i j) ≡ j - i =
+      grind (arith, common_steps) in
+      omega (arith, at, here)

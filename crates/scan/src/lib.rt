@@ -1,8 +1,14 @@
 // The first place of a byte in part of a text.
 #![tactic(auto)]
 
-ghost use Rattle.std.specs.Prelude.{◌≡◌, ◌+◌, ◌≤◌, length};
+ghost use Rattle.std.specs.Prelude.{◌≡◌, ◌==◌, ◌+◌, ◌≤◌, length, position};
 ghost use Rattle.scan.specs.Bytes.{index_of, slice};
+
+fn place(s: &[u8], b: u8) -> Option<usize>
+    ensures { result ≡ position (λ x. x == b) s.now }
+{
+    s.iter().position(|x| *x == b)
+}
 
 // The first place of b from start on and before end; or end, where it has none.
 pub fn find(a: &[u8], start: usize, end: usize, b: u8) -> usize
@@ -11,12 +17,8 @@ pub fn find(a: &[u8], start: usize, end: usize, b: u8) -> usize
     ensures place { result ≡ start + index_of b (slice start end a.now) }
     ensures before_end { result ≤ end }
 {
-    let mut i = start;
-    while i < end {
-        if a[i] == b {
-            return i;
-        }
-        i += 1;
+    match place(&a[start..end], b) {
+        Some(i) => start + i,
+        None => end,
     }
-    i
 }

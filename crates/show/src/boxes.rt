@@ -1,124 +1,99 @@
 // The general body and a box's body in words.
-use crate::sheet::Sheet;
-use crate::{fields, sheet};
-use streams::Streams;
+use crate::fields::{Body, Boxes};
+use std::io::{Result, Write};
 
-pub(crate) fn put_general<S: Streams>(rt: &S, out: &mut [u8], s: Sheet, body: &[u8]) -> Sheet {
-    let s = fields::put_field(rt, out, s, b"n ", body, 0);
-    let s = fields::put_field(rt, out, s, b"J ", body, 4);
-    let s = fields::put_field(rt, out, s, b"L ", body, 8);
-    let s = fields::put_field(rt, out, s, b"epoch ", body, 12);
-    fields::put_set(rt, out, s, b"present", body, 16)
+pub(crate) fn put_general<W: Write>(to: &mut W, bytes: &[u8]) -> Result<()> {
+    let mut body = Body::of(bytes);
+    let n = body.number();
+    let j = body.number();
+    let l = body.number();
+    let epoch = body.number();
+    let present = Boxes(body.number());
+    write!(to, "n {n}\nJ {j}\nL {l}\nepoch {epoch}\npresent{present}\n")
 }
 
-fn put_flag<S: Streams>(rt: &S, out: &mut [u8], s: Sheet, x: u64) -> Sheet {
+fn flag_name(x: u64) -> &'static str {
     match x {
-        0 => sheet::put(rt, out, s, b"leader no\n"),
-        _ => sheet::put(rt, out, s, b"leader yes\n"),
+        0 => "no",
+        _ => "yes",
     }
 }
 
-fn put_state<S: Streams>(rt: &S, out: &mut [u8], s: Sheet, x: u64) -> Sheet {
+fn state_name(x: u64) -> &'static str {
     match x {
-        0 => sheet::put(rt, out, s, b"state Recovering\n"),
-        1 => sheet::put(rt, out, s, b"state Active\n"),
-        2 => sheet::put(rt, out, s, b"state Updating\n"),
-        3 => sheet::put(rt, out, s, b"state UpdatingPrevious\n"),
-        _ => sheet::put(rt, out, s, b"state Refresh\n"),
+        0 => "Recovering",
+        1 => "Active",
+        2 => "Updating",
+        3 => "UpdatingPrevious",
+        _ => "Refresh",
     }
 }
 
-fn put_phase<S: Streams>(rt: &S, out: &mut [u8], s: Sheet, x: u64) -> Sheet {
+fn phase_name(x: u64) -> &'static str {
     match x {
-        0 => sheet::put(rt, out, s, b"phase Election\n"),
-        1 => sheet::put(rt, out, s, b"phase SendCollect\n"),
-        2 => sheet::put(rt, out, s, b"phase Collect\n"),
-        3 => sheet::put(rt, out, s, b"phase Lease\n"),
-        4 => sheet::put(rt, out, s, b"phase Begin\n"),
-        5 => sheet::put(rt, out, s, b"phase Commit\n"),
-        _ => sheet::put(rt, out, s, b"phase LeaseDone\n"),
+        0 => "Election",
+        1 => "SendCollect",
+        2 => "Collect",
+        3 => "Lease",
+        4 => "Begin",
+        5 => "Commit",
+        _ => "LeaseDone",
     }
 }
 
-fn put_role<S: Streams>(rt: &S, out: &mut [u8], s: Sheet, body: &[u8]) -> Sheet {
-    let s = put_flag(rt, out, s, fields::number(body, 4 * row::FLAG));
-    let s = put_state(rt, out, s, fields::number(body, 4 * row::STATE));
-    put_phase(rt, out, s, fields::number(body, 4 * row::PHASE))
+fn put_role<W: Write>(to: &mut W, body: &mut Body) -> Result<()> {
+    let leads = flag_name(body.number());
+    let state = state_name(body.number());
+    let phase = phase_name(body.number());
+    write!(to, "leader {leads}\nstate {state}\nphase {phase}\n")
 }
 
-fn put_kept<S: Streams>(rt: &S, out: &mut [u8], s: Sheet, body: &[u8]) -> Sheet {
-    let s = fields::put_field(rt, out, s, b"promised pn ", body, 4 * row::PN);
-    let s = fields::put_field(rt, out, s, b"last ", body, 4 * row::LAST);
-    let s = fields::put_field(rt, out, s, b"first ", body, 4 * row::FIRST);
-    let s = fields::put_field(rt, out, s, b"stored pn ", body, 4 * row::STORED_PN);
-    fields::put_field(rt, out, s, b"stored number ", body, 4 * row::STORED_NUMBER)
+// What outlives a stop; the first kept number is told again where the records are.
+fn put_kept<W: Write>(to: &mut W, body: &mut Body) -> Result<u64> {
+    let pn = body.number();
+    let last = body.number();
+    let first = body.number();
+    write!(to, "promised pn {pn}\nlast {last}\nfirst {first}\n")?;
+    let pn = body.number();
+    let number = body.number();
+    write!(to, "stored pn {pn}\nstored number {number}\n")?;
+    Ok(first)
 }
 
-fn put_best<S: Streams>(rt: &S, out: &mut [u8], s: Sheet, body: &[u8]) -> Sheet {
-    let s = fields::put_field(rt, out, s, b"best unagreed pn ", body, 4 * row::BEST_PN);
-    let s = fields::put_field(
-        rt,
-        out,
-        s,
-        b"best unagreed number ",
-        body,
-        4 * row::BEST_NUMBER,
-    );
-    let at = 4 * row::BEST;
-    let s = fields::put_record(rt, out, s, b"best unagreed record ", body, at);
-    let s = fields::put_record(rt, out, s, b"waiting offer ", body, at + 8);
-    fields::put_record(rt, out, s, b"record being agreed ", body, at + 16)
+// The records are told before the sets, which stand in front of them.
+fn put_best_and_sets<W: Write>(to: &mut W, body: &mut Body) -> Result<()> {
+    let pn = body.number();
+    let number = body.number();
+    write!(to, "best unagreed pn {pn}\nbest unagreed number {number}\n")?;
+    let answered = Boxes(body.number());
+    let accepts = Boxes(body.number());
+    let heard = Boxes(body.number());
+    let best = body.record();
+    let waiting = body.record();
+    let agreeing = body.record();
+    write!(to, "best unagreed record {best}\nwaiting offer {waiting}\n")?;
+    write!(to, "record being agreed {agreeing}\n")?;
+    write!(to, "replies{answered}\naccept set{accepts}\nheard{heard}\n")
 }
 
-fn put_sets<S: Streams>(rt: &S, out: &mut [u8], s: Sheet, body: &[u8]) -> Sheet {
-    let s = fields::put_set(rt, out, s, b"replies", body, 4 * row::ANSWERED);
-    let s = fields::put_set(rt, out, s, b"accept set", body, 4 * row::ACCEPTS);
-    fields::put_set(rt, out, s, b"heard", body, 4 * row::HEARD)
-}
-
-const PEERS: usize = 4 * row::BEST + 24;
-
-fn put_peer<S: Streams>(rt: &S, out: &mut [u8], s: Sheet, k: u64, last: u64) -> Sheet {
-    let s = sheet::put(rt, out, s, b"peer ");
-    let s = sheet::put_number(rt, out, s, k);
-    if last == row::UNKNOWN {
-        return sheet::put(rt, out, s, b" last unknown\n");
+fn put_peers<W: Write>(to: &mut W, body: &mut Body, n: u64) -> Result<()> {
+    for k in 1..n.min(5) + 1 {
+        match body.number() {
+            row::UNKNOWN => write!(to, "peer {k} last unknown\n")?,
+            last => write!(to, "peer {k} last {last}\n")?,
+        }
     }
-    fields::put_line(rt, out, s, b" last ", last)
-}
-
-fn put_peers<S: Streams>(rt: &S, out: &mut [u8], s: Sheet, body: &[u8], n: u64) -> Sheet {
-    let mut r = s;
-    let mut p = PEERS;
-    let mut k: u64 = 0;
-    while k < n {
-        k += 1;
-        r = put_peer(rt, out, r, k, fields::number(body, p));
-        p = fields::past(body, p, 4);
-    }
-    r
-}
-
-// The count of records held, and these; they stand from `at` on.
-fn put_held<S: Streams>(rt: &S, out: &mut [u8], s: Sheet, body: &[u8], at: usize) -> Sheet {
-    let count = fields::number(body, at);
-    let first = fields::number(body, 4 * row::FIRST);
-    let s = fields::put_line(rt, out, s, b"records held ", count);
-    let w = fields::put_records(rt, out, s, body, fields::past(body, at, 4), first, count);
-    w.sheet
-}
-
-fn put_front<S: Streams>(rt: &S, out: &mut [u8], s: Sheet, body: &[u8]) -> Sheet {
-    let s = put_role(rt, out, s, body);
-    let s = put_kept(rt, out, s, body);
-    let s = put_best(rt, out, s, body);
-    put_sets(rt, out, s, body)
+    Ok(())
 }
 
 // A box of n, which is at most 5.
-pub(crate) fn put_box<S: Streams>(rt: &S, out: &mut [u8], s: Sheet, body: &[u8], n: u64) -> Sheet {
-    let s = put_front(rt, out, s, body);
-    let s = put_peers(rt, out, s, body, n);
-    let peers = sheet::least(n as usize, 5);
-    put_held(rt, out, s, body, PEERS + 4 * peers)
+pub(crate) fn put_box<W: Write>(to: &mut W, bytes: &[u8], n: u64) -> Result<()> {
+    let mut body = Body::of(bytes);
+    put_role(to, &mut body)?;
+    let first = put_kept(to, &mut body)?;
+    put_best_and_sets(to, &mut body)?;
+    put_peers(to, &mut body, n)?;
+    let count = body.number();
+    write!(to, "records held {count}\n")?;
+    body.put_records(to, first, count)
 }

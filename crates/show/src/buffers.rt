@@ -1,9 +1,9 @@
 // Two sets of buffers, each for an image and for its hex with two bytes more, which a longer one
 // fills: one for images of 128 KiB, and one for every image of a site, which is entered only where
 // the first does not do.
-use crate::run::Run;
-use crate::{pieces, whole_input};
-use streams::Streams;
+use crate::{each_line, whole_input};
+use by_lines::Run;
+use streams::{Status, Streams, buffer};
 
 const IMAGE: usize = 131072;
 
@@ -18,16 +18,6 @@ const LONGEST: usize = 60 + image::GENERAL_BYTES + FULL_BOXES + FULL_LINKS;
 // A newline may end the hex.
 const LINE: usize = 2 * LONGEST + 2;
 
-// Each large buffer comes from a function: a proof that has an array of millions of bytes before it
-// element by element does not end.
-fn longest_line() -> [u8; LINE] {
-    [0u8; LINE]
-}
-
-fn longest_image() -> [u8; LONGEST] {
-    [0u8; LONGEST]
-}
-
 // What goes on in the larger set: the lines of the input, or the one image.
 #[derive(Clone, Copy)]
 pub enum Job {
@@ -38,20 +28,20 @@ pub enum Job {
 // front: what is there of the line, or of the image; rest: the rest of the piece, or what is asked.
 // Lines and images enter here alike: a compiler that merges the frame of a function that is called
 // once into its caller's does not merge this one.
-pub(crate) fn serve_large<S: Streams>(rt: &S, job: Job, front: &[u8], rest: &[u8]) -> u8 {
-    let mut line = longest_line();
-    let mut image = longest_image();
+pub(crate) fn serve_large<S: Streams>(rt: &S, job: Job, front: &[u8], rest: &[u8]) -> Status {
+    let mut line = buffer::bytes::<LINE>();
+    let mut image = buffer::bytes::<LONGEST>();
     match job {
-        Job::Lines(run) => pieces::serve_rest(rt, run, front, rest, &mut line, &mut image),
+        Job::Lines(run) => each_line::serve_rest(rt, run, front, rest, &mut line, &mut image),
         Job::Image => whole_input::show_rest(rt, front, rest, &mut line, &mut image),
     }
 }
 
-pub(crate) fn serve<S: Streams>(rt: &S) -> u8 {
+pub(crate) fn serve<S: Streams>(rt: &S) -> Status {
     let mut line = [0u8; TEXT];
     let mut image = [0u8; IMAGE];
     if streams::has_argument(rt, 2, b"hex") {
-        return pieces::serve_lines(rt, &mut line, &mut image);
+        return each_line::serve(rt, &mut line, &mut image);
     }
     whole_input::serve_image(rt, &mut line, &mut image)
 }

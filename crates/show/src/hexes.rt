@@ -1,74 +1,46 @@
 // The image of a line, in hex: its bodies in hex, parted by one space, or that it is refused.
-use crate::sheet;
 use crate::sheet::Sheet;
-use bodies::{Named, contents};
-use hexed::Hexed;
+use bodies::contents;
+use by_lines::Answered;
+use std::io::{Result, Write};
 use streams::Streams;
-use wording::Place;
-
-// The text so far, and whether the line was refused.
-#[derive(Clone, Copy)]
-pub struct Told {
-    pub sheet: Sheet,
-    pub refused: bool,
-}
-
-// Body k behind those before it, if there is one.
-fn put_next<S: Streams>(rt: &S, out: &mut [u8], s: Sheet, image: &[u8], k: u32) -> Sheet {
-    match contents::named(image, k) {
-        Named::Part(_, _) => {
-            let s = sheet::put(rt, out, s, b" ");
-            sheet::put_bytes(rt, out, s, contents::part(image, k))
-        }
-        Named::Refused(_) => s,
-    }
-}
 
 // All bodies of an image by form.
-fn put_bodies<S: Streams>(rt: &S, out: &mut [u8], s: Sheet, image: &[u8]) -> Sheet {
-    let mut r = sheet::put_bytes(rt, out, s, contents::part(image, 1));
-    let mut k: u32 = 2;
-    while k < 8 {
-        r = put_next(rt, out, r, image, k);
-        k += 1;
+fn put_bodies<S: Streams>(to: &mut Sheet<S>, image: &[u8]) -> Result<()> {
+    to.put_hex(contents::part(image, 1))?;
+    for k in 2..8 {
+        if contents::named(image, k).is_ok() {
+            to.write_all(b" ")?;
+            to.put_hex(contents::part(image, k))?;
+        }
     }
-    sheet::put(rt, out, r, b"\n")
+    to.write_all(b"\n")
 }
 
 // No image of a site by form: 1, of line k, which may be the first part of one alone.
-pub(crate) fn refuse<S: Streams>(rt: &S, out: &mut [u8], s: Sheet, line: &[u8], k: u64) -> Told {
-    wording::refuse(rt, b"bodies", Place::Line(k), line, 1, b"");
-    Told {
-        sheet: sheet::put(rt, out, s, b"refused 1\n"),
-        refused: true,
-    }
+fn refuse<S: Streams>(to: &mut Sheet<S>, line: &[u8], k: u64) -> Result<Answered> {
+    wording::refuse(to.rt, b"bodies", Some(k), line, 1, b"");
+    to.write_all(b"refused 1\n")?;
+    Ok(Answered::Refused)
 }
 
-fn tell<S: Streams>(rt: &S, out: &mut [u8], s: Sheet, image: &[u8], line: &[u8], k: u64) -> Told {
+fn tell<S: Streams>(to: &mut Sheet<S>, image: &[u8], line: &[u8], k: u64) -> Result<Answered> {
     if contents::first(image) == 0 {
-        return refuse(rt, out, s, line, k);
+        return refuse(to, line, k);
     }
-    Told {
-        sheet: put_bodies(rt, out, s, image),
-        refused: false,
-    }
+    put_bodies(to, image)?;
+    Ok(Answered::Done)
 }
 
 // Line k, without the newline that ended it; image is work room.
 pub(crate) fn answer<S: Streams>(
-    rt: &S,
-    out: &mut [u8],
-    s: Sheet,
+    to: &mut Sheet<S>,
     image: &mut [u8],
     line: &[u8],
     k: u64,
-) -> Told {
+) -> Result<Answered> {
     match hexed::read_hex(line, image) {
-        Hexed::Length(n) => {
-            let n = sheet::least(n, image.len());
-            tell(rt, out, s, &image[0..n], line, k)
-        }
-        Hexed::Long => refuse(rt, out, s, line, k),
-        Hexed::Bad => refuse(rt, out, s, line, k),
+        Ok(n) => tell(to, &image[..n.min(image.len())], line, k),
+        Err(_) => refuse(to, line, k),
     }
 }

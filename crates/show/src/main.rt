@@ -7,19 +7,14 @@
 
 mod boxes;
 mod buffers;
+mod each_line;
 mod fields;
 mod hexes;
 mod mail;
-mod pieces;
-mod run;
 mod sheet;
 mod shown;
 mod whole_input;
 
-// `report`: the status goes to descriptor 3.
 fn main(rt: HostRuntime) {
-    let status = buffers::serve(&rt);
-    if streams::has_argument(&rt, 1, b"report") {
-        streams::report(&rt, status);
-    }
+    streams::report_if_asked(&rt, buffers::serve(&rt));
 }

@@ -1,101 +1,67 @@
 // Text for standard output, put together in a lent buffer and sent where that is full.
-ghost use Rattle.std.specs.Prelude.{◌≤◌};
-
-use std::io::{Error, ErrorKind};
+use std::io::{Error, ErrorKind, Result, Write};
 use streams::Streams;
 
-// How far the buffer is filled; and the first failure, where all that was sent was not taken.
-#[derive(Clone, Copy)]
-pub struct Sheet {
-    pub at: usize,
-    pub failed: Option<Error>,
-}
-
-pub(crate) fn least(a: usize, b: usize) -> usize
-    ensures upper_bound { result ≤ a }
-    ensures upper_bound_2 { result ≤ b }
-{
-    if a < b { a } else { b }
-}
-
-pub(crate) fn start() -> Sheet {
-    Sheet {
-        at: 0,
-        failed: None,
-    }
-}
-
-// Sends what is there.
-pub(crate) fn send<S: Streams>(rt: &S, out: &[u8], s: Sheet) -> Sheet {
-    let n = least(s.at, out.len());
-    if let Err(error) = streams::write_output(rt, &out[0..n]) {
-        return Sheet {
-            at: 0,
-            failed: Some(s.failed.unwrap_or(error)),
-        };
-    }
-    Sheet {
-        at: 0,
-        failed: s.failed,
-    }
-}
-
-// There are n bytes of room, where the buffer has so many.
-fn with_room<S: Streams>(rt: &S, out: &[u8], s: Sheet, n: usize) -> Sheet {
-    let a = least(s.at, out.len());
-    if out.len() - a < n {
-        return send(rt, out, s);
-    }
-    s
-}
-
-pub(crate) fn put<S: Streams>(rt: &S, out: &mut [u8], s: Sheet, src: &[u8]) -> Sheet {
-    let t = with_room(rt, out, s, src.len());
-    let at = wording::put::put(out, t.at, src);
-    Sheet {
-        at: at,
-        failed: t.failed,
-    }
-}
-
-pub(crate) fn put_number<S: Streams>(rt: &S, out: &mut [u8], s: Sheet, x: u64) -> Sheet {
-    let mut digits = [0u8; 20];
-    let n = io::decimal(x, &mut digits);
-    put(rt, out, s, &digits[..n])
-}
-
-// At most some thousand bytes in hex, `-` for none.
-fn put_hex<S: Streams>(rt: &S, out: &mut [u8], s: Sheet, src: &[u8]) -> Sheet {
-    let t = with_room(rt, out, s, 2 * src.len() + 1);
-    let a = least(t.at, out.len());
-    if out.len() - a <= 2 * src.len() {
-        return Sheet {
-            at: a,
-            failed: Some(Error::from(ErrorKind::WriteZero)),
-        };
-    }
-    let at = hexed::put_hex(out, a, src);
-    Sheet {
-        at: at,
-        failed: t.failed,
-    }
+// The program's streams, the buffer, and how far it is filled.
+#[derive(Drop)]
+pub struct Sheet<'r, 'o, S: Streams> {
+    pub rt: &'r S,
+    out: &'o mut [u8],
+    at: usize,
 }
 
 const PART: usize = 4096;
 
-// All of src in hex.
-pub(crate) fn put_bytes<S: Streams>(rt: &S, out: &mut [u8], s: Sheet, src: &[u8]) -> Sheet {
-    if src.len() == 0 {
-        return put_hex(rt, out, s, src);
+impl<'r, 'o, S: Streams> Sheet<'r, 'o, S> {
+    pub(crate) fn on(rt: &'r S, out: &'o mut [u8]) -> Sheet<'r, 'o, S> {
+        Sheet { rt, out, at: 0 }
     }
-    let mut r = s;
-    let mut i = 0;
-    while i < src.len() {
-        if src.len() - i <= PART {
-            return put_hex(rt, out, r, &src[i..]);
+
+    // There are n bytes of room, where the buffer has so many.
+    fn make_room(&mut self, n: usize) -> Result<()> {
+        let at = self.at.min(self.out.len());
+        if self.out.len() - at < n {
+            return self.flush();
         }
-        r = put_hex(rt, out, r, &src[i..i + PART]);
-        i += PART;
+        Ok(())
     }
-    r
+
+    // At most some thousand bytes in hex, `-` for none.
+    fn put_part(&mut self, src: &[u8]) -> Result<()> {
+        self.make_room(2 * src.len() + 1)?;
+        let at = self.at.min(self.out.len());
+        if self.out.len() - at <= 2 * src.len() {
+            return Err(Error::from(ErrorKind::WriteZero));
+        }
+        self.at = hexed::put_hex(self.out, at, src);
+        Ok(())
+    }
+
+    // All of src in hex.
+    pub(crate) fn put_hex(&mut self, src: &[u8]) -> Result<()> {
+        if src.is_empty() {
+            return self.put_part(src);
+        }
+        for part in src.chunks(PART) {
+            self.put_part(part)?;
+        }
+        Ok(())
+    }
+}
+
+impl<'r, 'o, S: Streams> Write for Sheet<'r, 'o, S> {
+    fn write(&mut self, buf: &[u8]) -> Result<usize> {
+        self.make_room(buf.len())?;
+        let at = self.at.min(self.out.len());
+        self.at = wording::put::put(self.out, at, buf);
+        Ok(self.at - at)
+    }
+
+    // Sends what is there.
+    fn flush(&mut self) -> Result<()> {
+        let rt = self.rt;
+        let n = self.at.min(self.out.len());
+        self.at = 0;
+        streams::write_output(rt, &self.out[..n])
+    }
 }

@@ -1,128 +1,93 @@
 // One image in words: its contents, or one body.
+use crate::fields::Body;
 use crate::sheet::Sheet;
-use crate::{boxes, fields, mail, sheet};
-use bodies::{Named, contents};
-use rules::numbers;
-use streams::Streams;
+use crate::{boxes, mail};
+use bodies::contents;
+use rules::model::Refusal;
+use std::io::{Result, Write};
+use streams::{Status, Streams};
 
 // What body k of an image of n boxes is.
-fn put_name<S: Streams>(rt: &S, out: &mut [u8], s: Sheet, k: u64, n: u64) -> Sheet {
+fn put_name<W: Write>(to: &mut W, k: u64, n: u64) -> Result<()> {
     if k < 2 {
-        return sheet::put(rt, out, s, b"general");
+        return write!(to, "general");
     }
-    if n < k - 1 {
-        return sheet::put(rt, out, s, b"mail");
+    let b = k - 1;
+    if n < b {
+        return write!(to, "mail");
     }
-    let s = sheet::put(rt, out, s, b"box ");
-    sheet::put_number(rt, out, s, k - 1)
-}
-
-// It begins at a and has m bytes.
-fn put_place<S: Streams>(rt: &S, out: &mut [u8], s: Sheet, a: u64, m: u64) -> Sheet {
-    let s = sheet::put(rt, out, s, b", ");
-    let s = sheet::put_number(rt, out, s, m);
-    fields::put_line(rt, out, s, b" bytes from ", a)
-}
-
-// A line for body k, which begins at a and has m bytes.
-fn put_entry<S: Streams>(
-    rt: &S,
-    out: &mut [u8],
-    s: Sheet,
-    k: u64,
-    n: u64,
-    a: u64,
-    m: u64,
-) -> Sheet {
-    let s = sheet::put(rt, out, s, b"body ");
-    let s = sheet::put_number(rt, out, s, k);
-    let s = sheet::put(rt, out, s, b": ");
-    let s = put_name(rt, out, s, k, n);
-    put_place(rt, out, s, a, m)
+    write!(to, "box {b}")
 }
 
 // n of an image by form.
 fn boxes_of(image: &[u8]) -> u64 {
-    fields::number(contents::part(image, 1), 0)
+    Body::of(contents::part(image, 1)).number()
 }
 
-// A line for body k, if there is one.
-fn put_named<S: Streams>(rt: &S, out: &mut [u8], s: Sheet, image: &[u8], k: u32, n: u64) -> Sheet {
-    match contents::named(image, k) {
-        Named::Part(a, m) => put_entry(rt, out, s, k as u64, n, words::word(a), words::word(m)),
-        Named::Refused(_) => s,
-    }
-}
-
-// The contents of an image by form.
-fn put_contents<S: Streams>(rt: &S, out: &mut [u8], image: &[u8]) -> Sheet {
+// A line for each body of an image by form.
+fn put_contents<W: Write>(to: &mut W, image: &[u8]) -> Result<()> {
     let n = boxes_of(image);
-    let mut r = sheet::start();
-    let mut k: u32 = 1;
-    while k < 8 {
-        r = put_named(rt, out, r, image, k, n);
-        k += 1;
+    for k in 1..8u32 {
+        if let Ok(part) = contents::named(image, k) {
+            write!(to, "body {k}: ")?;
+            put_name(to, u64::from(k), n)?;
+            let long = part.long;
+            let begin = part.begin;
+            write!(to, ", {long} bytes from {begin}\n")?;
+        }
     }
-    r
+    Ok(())
 }
 
 // Body k of an image by form, of n boxes.
-fn put_body<S: Streams>(rt: &S, out: &mut [u8], body: &[u8], k: u64, n: u64) -> Sheet {
-    let s = sheet::start();
+fn put_body<W: Write>(to: &mut W, body: &[u8], k: u64, n: u64) -> Result<()> {
     if k < 2 {
-        return boxes::put_general(rt, out, s, body);
+        return boxes::put_general(to, body);
     }
     if n < k - 1 {
-        return mail::put_all(rt, out, s, body, n);
+        return mail::put_all(to, body, n);
     }
-    boxes::put_box(rt, out, s, body, n)
+    boxes::put_box(to, body, n)
 }
 
-fn finish<S: Streams>(rt: &S, out: &[u8], s: Sheet) -> u8 {
-    let s = sheet::send(rt, out, s);
-    match s.failed {
-        None => 0,
-        Some(error) => {
-            streams::fail(rt, b"bodies: standard output", error);
-            3
+// The image, or the body's number, is refused.
+pub(crate) fn refuse<S: Streams>(rt: &S, why: Refusal) -> Status {
+    let words = match why {
+        Refusal::Form => b"refused 1: the image is not that of a site by form".as_slice(),
+        _ => b"refused 3: the image has no body of this number",
+    };
+    wording::say(rt, b"bodies", words);
+    Status::Refused
+}
+
+// What was written is sent, or a write failed.
+fn finish<S: Streams>(mut to: Sheet<S>, written: Result<()>) -> Status {
+    match written.and_then(|()| to.flush()) {
+        Ok(()) => Status::Done,
+        Err(error) => {
+            streams::fail(to.rt, b"bodies: standard output", error);
+            Status::Failed
         }
     }
-}
-
-// The image, or the body's number, is refused by this number.
-pub(crate) fn refuse<S: Streams>(rt: &S, code: u32) -> u8 {
-    match code {
-        1 => wording::say(
-            rt,
-            b"bodies",
-            b"refused 1: the image is not that of a site by form",
-        ),
-        _ => wording::say(
-            rt,
-            b"bodies",
-            b"refused 3: the image has no body of this number",
-        ),
-    }
-    1
 }
 
 // The contents of the image, which is looked at first, go to standard output.
-pub(crate) fn show_contents<S: Streams>(rt: &S, out: &mut [u8], image: &[u8]) -> u8 {
+pub(crate) fn show_contents<S: Streams>(rt: &S, out: &mut [u8], image: &[u8]) -> Status {
     if contents::first(image) == 0 {
-        return refuse(rt, 1);
+        return refuse(rt, Refusal::Form);
     }
-    let s = put_contents(rt, out, image);
-    finish(rt, out, s)
+    let mut to = Sheet::on(rt, out);
+    let written = put_contents(&mut to, image);
+    finish(to, written)
 }
 
 // Body k of the image, which is looked at first, goes to standard output.
-pub(crate) fn show_body<S: Streams>(rt: &S, out: &mut [u8], image: &[u8], k: u32) -> u8 {
-    match bodies::body(image, k) {
-        Named::Part(_, _) => {
-            let n = boxes_of(image);
-            let s = put_body(rt, out, contents::part(image, k), k as u64, n);
-            finish(rt, out, s)
-        }
-        Named::Refused(why) => refuse(rt, numbers::refusal_number(why)),
+pub(crate) fn show_body<S: Streams>(rt: &S, out: &mut [u8], image: &[u8], k: u32) -> Status {
+    if let Err(why) = bodies::body(image, k) {
+        return refuse(rt, why);
     }
+    let mut to = Sheet::on(rt, out);
+    let body = contents::part(image, k);
+    let written = put_body(&mut to, body, u64::from(k), boxes_of(image));
+    finish(to, written)
 }

@@ -1,6 +1,7 @@
 -- A fresh site in the words.
-use Prim.Native.Nat.{ℕ, suc, ◌+◌, ◌*◌, ◌≤◌}
-use mathlib.Core.Path.{◌≡◌, sym, ap, ◌∙◌, subst}
+use Prim.Native.Nat.{ℕ, zero, suc, ◌+◌, ◌-◌, ◌*◌, ◌%◌, ◌^◌, ◌≤◌}
+use native.Mathlib.Nat.{pow-suc}
+use mathlib.Core.Path.{◌≡◌, refl, sym, ap, ◌∙◌, subst}
 use mathlib.Core.Bool.{Bool, true, false, ◌&&◌}
 use mathlib.Core.List.{List, []}
 use native.Mathlib.Omega.{arith}
@@ -32,12 +33,13 @@ use Rattle.site.proofs.AfterLaws.{no_needs, need-met, need-not, refused-after}
 pub full-most : (n : ℕ) → n ≤ most_boxes → full_set n ≤ 31
 full-most n h = set-small (full_set n) (set-up n most_boxes (full_set n) h (set_full n))
 
-pub full-more : (n set : ℕ) → set ≡ full_set n → set + set + 1 ≡ full_set (n + 1)
+full-power : (n : ℕ) → full_set n + 1 ≡ 2 ^ n
 unfolding full_set
-full-more n set e = rw e (ap full_set more)
-  where
-    more : suc n ≡ n + 1
-    more = omega arith
+full-power zero = refl
+full-power (suc n) = rw (pow-suc, ← full-power n) (omega arith)
+
+pub full-shift : (n : ℕ) → n ≤ most_boxes → 1 * 2 ^ n % 4294967296 - 1 ≡ full_set n
+full-shift n h = let m = full-most n h in rw (← full-power n) (omega (arith, m))
 
 module _ (xs ls : List ℕ) (n J L : ℕ) where
   pub fresh-sizes : sizes_form n J L ≡ false

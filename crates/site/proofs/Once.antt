@@ -1,4 +1,5 @@
 -- Nothing else could satisfy the statements, and unused room is never read.
+use Rattle.std.specs.Prelude.{Err}
 use Prim.Native.Nat.{ℕ}
 use mathlib.Core.Path.{◌≡◌, refl, sym, ap, ◌∙◌}
 use mathlib.Core.Bool.{true, cond}
@@ -10,7 +11,6 @@ use Rattle.rules.specs.Unheard.{unheard}
 use Rattle.rules.specs.declared.model.Answer.{Answer}
 use Rattle.rules.specs.declared.model.Call.{Call}
 use Rattle.rules.specs.declared.model.Refusal.{Refusal}
-use Rattle.rules.specs.declared.model.Unheard.{Unheard}
 use Rattle.laws.specs.Frames.{CallFits}
 use Rattle.laws.proofs.FormKept.{step-keeps-form}
 use Rattle.memory.specs.Memory.{site_of, readable, memory_form}
@@ -54,7 +54,7 @@ pub room-unasked : (xs ls ys ms : List ℕ) (c : ℕ) → readable xs ls ≡ rea
     → site_of xs ls ≡ site_of ys ms → unheard_on xs ls c ≡ unheard_on ys ms c
 unfolding unheard_on
 room-unasked xs ls ys ms c r e =
-    λ t. cond (r t) (unheard (e t) c) (Unheard.Refused Refusal.Form)
+    λ t. cond (r t) (unheard (e t) c) (Err Refusal.Form)
 
 -- a call on words by form leaves words by form
 pub form-kept : {xs ls ys ms : List ℕ} {a : Answer} (d : Call) → CallFits d

@@ -1,4 +1,5 @@
 -- Words that are not by form: every call and question refuses them with 1, before anything else.
+use Rattle.std.specs.Prelude.{Err}
 use Prim.Native.Nat.{ℕ}
 use mathlib.Core.Path.{◌≡◌, refl}
 use mathlib.Core.Bool.{true, false, cond}
@@ -10,7 +11,6 @@ use Rattle.rules.specs.Unheard.{unheard}
 use Rattle.rules.specs.declared.model.Answer.{Answer}
 use Rattle.rules.specs.declared.model.Call.{Call}
 use Rattle.rules.specs.declared.model.Refusal.{Refusal}
-use Rattle.rules.specs.declared.model.Unheard.{Unheard}
 use Rattle.laws.proofs.Logic.{Or, left, right, decide, both-no}
 use Rattle.memory.specs.Memory.{site_of, readable, memory_form}
 use Rattle.memory.proofs.LentLaws.{form_both}
@@ -41,7 +41,7 @@ module _ (s : Site) (f : form s ≡ false) where
   unfolding holds
   unformed-holds c k l r = need-not _ _ _ _ _ f
 
-  unformed-unheard : (c : ℕ) → unheard s c ≡ Unheard.Refused Refusal.Form
+  unformed-unheard : (c : ℕ) → unheard s c ≡ Err Refusal.Form
   unfolding unheard
   unformed-unheard c = need-not _ _ _ _ _ f
 
@@ -78,6 +78,6 @@ module _ (xs ls : List ℕ) (f : memory_form xs ls ≡ false) where
   unfolding holds_on
   unformed-held c k l r = unformed _ _ (λ g. unformed-holds (site_of xs ls) g c k l r)
 
-  pub unformed-asked : (c : ℕ) → unheard_on xs ls c ≡ Unheard.Refused Refusal.Form
+  pub unformed-asked : (c : ℕ) → unheard_on xs ls c ≡ Err Refusal.Form
   unfolding unheard_on
   unformed-asked c = unformed _ _ (λ g. unformed-unheard (site_of xs ls) g c)

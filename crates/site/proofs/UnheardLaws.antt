@@ -1,4 +1,5 @@
 -- Who has not answered a lease, by the words of a row.
+use Rattle.std.specs.Prelude.{Result, Err}
 use Prim.Native.Nat.{ℕ}
 use mathlib.Core.Path.{◌≡◌, refl, sym, ap, ◌∙◌}
 use mathlib.Core.Bool.{true, false}
@@ -9,7 +10,6 @@ use Rattle.rules.specs.Unheard.{unheard_by, unheard}
 use Rattle.rules.specs.declared.model.BoxState.{BoxState}
 use Rattle.rules.specs.declared.model.Refusal.{Refusal}
 use Rattle.rules.specs.declared.model.Setting.{Setting}
-use Rattle.rules.specs.declared.model.Unheard.{Unheard}
 use Rattle.row.specs.Row.{head_of, box_of}
 use Rattle.row.specs.Lent.{RowReadable}
 use Rattle.row.proofs.TurnLaws.{row-formed}
@@ -22,7 +22,7 @@ use Rattle.site.proofs.KnownLaws.{AtBox}
 use Rattle.site.proofs.TurnKnown.{box-lent}
 
 pub unheard-no-box : (xs ls : List ℕ) → memory_form xs ls ≡ true → (c : ℕ)
-    → is_box (site_of xs ls).n c ≡ false → unheard (site_of xs ls) c ≡ Unheard.Refused Refusal.Box
+    → is_box (site_of xs ls).n c ≡ false → unheard (site_of xs ls) c ≡ Err Refusal.Box
 unfolding unheard
 unheard-no-box xs ls f c h = need-met _ _ _ _ _ (form-site xs ls f) ∙ need-not _ _ _ _ _ h
 
@@ -46,7 +46,7 @@ module _ {xs ls : List ℕ} {c : ℕ} {s : Setting} (k : AtBox xs ls c s) {r : L
       need-met _ _ _ _ _ (form-site xs ls k.form) ∙ need-met _ _ _ _ _ k.box ∙ no_needs _ _
       ∙ ap (λ (x : Box). unheard_by x.head (setting_at xs c)) here
 
-  pub unheard-here : {b : BoxState} {u : Unheard} → b ≡ head_of s.n r → u ≡ unheard_by b s
+  pub unheard-here : {b : BoxState} {u : Result ℕ Refusal} → b ≡ head_of s.n r → u ≡ unheard_by b s
       → u ≡ unheard (site_of xs ls) c
   unheard-here p q =
       q ∙ ap (λ (b : BoxState). unheard_by b s) (p ∙ ap (head_of s.n) cut)

@@ -1,4 +1,5 @@
 -- What the entries promise: the paper's rules on the site that the lent words hold.
+use Rattle.std.specs.Prelude.{Result, Err}
 use Rattle.std.specs.Prelude.{ℕ, ◌≡◌, true, false, cond, List, [], ◌∷◌, length}
 use Rattle.rules.specs.Sizes.{sizes_form}
 use Rattle.rules.specs.Answers.{is_refusal}
@@ -9,7 +10,6 @@ use Rattle.rules.specs.Unheard.{unheard}
 use Rattle.rules.specs.declared.model.Answer.{Answer}
 use Rattle.rules.specs.declared.model.Call.{Call}
 use Rattle.rules.specs.declared.model.Refusal.{Refusal}
-use Rattle.rules.specs.declared.model.Unheard.{Unheard}
 use Rattle.memory.specs.Memory.{enough, past_site, past_links, site_of, readable, memory_form}
 
 -- the outcome o of a call on the words xs and ls: they have become xs' and ls', and a was answered
@@ -45,9 +45,9 @@ holds_on xs ls c k left right =
     cond (readable xs ls) (holds (site_of xs ls) c k left right) (Answer.Refused Refusal.Form)
 
 -- who has not answered the lease of box c (Q-12)
-unfoldable pub unheard_on : List ℕ → List ℕ → ℕ → Unheard
+unfoldable pub unheard_on : List ℕ → List ℕ → ℕ → Result ℕ Refusal
 unheard_on xs ls c =
-    cond (readable xs ls) (unheard (site_of xs ls) c) (Unheard.Refused Refusal.Form)
+    cond (readable xs ls) (unheard (site_of xs ls) c) (Err Refusal.Form)
 
 -- a call on words by form, which stay by form
 pub record FormedStep (d : Call) (xs ls xs' ls' : List ℕ) (a : Answer) : Type 0 where

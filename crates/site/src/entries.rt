@@ -9,10 +9,11 @@ ghost use Rattle.site.specs.Entries.{After, FormedStep, step_on, holds_on, unhea
 use crate::mail::OnLink;
 use crate::presence::Presence;
 use crate::{elections, mail, presence, turns};
-use rules::model::{Act, Answer, Call, Refusal, Unheard};
+use rules::model::{Act, Answer, Call, Refusal};
 use rules::ranges;
 
 // Any call on words by form; they stay by form. For loops that have seen to it once.
+// A match and no table: each call carries numbers of its own.
 pub fn step_formed(site: &mut [u64], links: &mut [u64], call: Call) -> Answer
     requires { memory_form site.old links.old ≡ true }
     ensures { FormedStep call site.old links.old site.new
@@ -55,19 +56,21 @@ pub fn holds_formed(site: &[u64], links: &[u64], c: u32, k: u32, left: u32, righ
 }
 
 // Which present boxes have not answered the lease of box c, by words by form.
-pub fn unheard_formed(site: &[u64], links: &[u64], c: u32) -> Unheard
+pub fn unheard_formed(site: &[u64], links: &[u64], c: u32) -> Result<u32, Refusal>
     requires { memory_form site.now links.now ≡ true }
     ensures { result ≡ unheard (site_of site.now links.now) c }
 {
     let s = memory::setting_of(site, c);
     if !ranges::is_box(s.n, c) {
-        return Unheard::Refused(Refusal::Box);
+        return Err(Refusal::Box);
     }
     let b = row::load(memory::row_of(site, s, c), s.n);
     b.unheard(s)
 }
 
 // Any call on any words.
+// Not one function with `until::run` over a closure: what each says of words that are not by form
+// is an answer of another type, and the closure would owe all that the formed one asks.
 pub fn step(site: &mut [u64], links: &mut [u64], call: Call) -> Answer
     ensures { After (step_on site.old links.old call)
         site.old links.old site.new links.new result }
@@ -89,11 +92,11 @@ pub fn holds(site: &[u64], links: &[u64], c: u32, k: u32, left: u32, right: u32)
 }
 
 // Which present boxes have not answered the lease of box c, by any words.
-pub fn unheard(site: &[u64], links: &[u64], c: u32) -> Unheard
+pub fn unheard(site: &[u64], links: &[u64], c: u32) -> Result<u32, Refusal>
     ensures { result ≡ unheard_on site.now links.now c }
 {
     if memory::is_by_form(site, links) {
         return unheard_formed(site, links, c);
     }
-    Unheard::Refused(Refusal::Form)
+    Err(Refusal::Form)
 }

@@ -92,6 +92,7 @@ fn repeat(site: &[u64], links: &mut [u64], s: Setting, a: u32, held: usize) -> A
     Answer::Refused(Refusal::Link)
 }
 
+// A match and no closure: what comes of each is another step of the model, which the clause names.
 pub(crate) fn on_link(site: &mut [u64], links: &mut [u64], a: u32, b: u32, what: OnLink) -> Answer
     requires { memory_form site.old links.old ≡ true }
     ensures { After (step (site_of site.old links.old) (link_call what a b))

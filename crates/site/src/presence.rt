@@ -57,6 +57,7 @@ fn present_as(site: &mut [u64], s: Setting, w: u32, v: Verdict) -> Answer
 }
 
 // Who is present then.
+// A match and no closure: the clause reads the case.
 fn present_then(s: Setting, what: Presence) -> u32
     ensures { result ≡ present_then what s }
 {

@@ -14,13 +14,7 @@ fn full_set(n: u32) -> u32
     requires { n ≤ most_boxes }
     ensures { result ≡ full_set n }
 {
-    let mut set: u32 = 0;
-    let mut b: u32 = 0;
-    while b < n {
-        set = set + set + 1;
-        b += 1;
-    }
-    set
+    (1 << n) - 1
 }
 
 // The five general words are written.

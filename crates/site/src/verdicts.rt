@@ -23,6 +23,7 @@ pub(crate) fn elect_verdict(s: Setting, here: bool) -> Verdict
     turns::unless(due, Refusal::Condition, b)
 }
 
+// A match and no closure: the clause reads the case.
 pub(crate) fn presence_verdict(s: Setting, here: bool, what: Presence) -> Verdict
     requires { here ≡ has s.present s.me }
     ensures { result ≡ verdict_of (presence_needs what s) }

@@ -9,7 +9,7 @@ use Rattle.rules.specs.Sets.{bit, joined, without, digit, has, set_form, full_se
 use Rattle.rules.specs.Numbers.{in_state, in_phase}
 use Rattle.rules.specs.NewPn.{new_pn}
 use Rattle.rules.specs.Turns.{first_cause, unless, settled}
-use Rattle.rules.specs.Parts.{others, is_held, under_of, higher, room_next, took_kept, took_book}
+use Rattle.rules.specs.Parts.{others, under_of, higher, room_next, took_kept, took_book}
 use Rattle.rules.specs.Parts.{cleared}
 use Rattle.rules.specs.Last.{
   noted,
@@ -86,7 +86,7 @@ pub starred : each told stars ≡ true
 unfolding stars star_bytes ones ones_in pick all each every tally sizes_form proper record_form bit
     joined without digit has set_form full_set in_state in_phase new_pn first_cause
     unless settled others
-    is_held under_of higher room_next took_kept took_book cleared noted has_told behind
+    under_of higher room_next took_kept took_book cleared noted has_told behind
     lagging improves
     bettered raised counted uncounted replied last_verdict on_last unagreed_of
     on_collect begin_verdict

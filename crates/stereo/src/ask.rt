@@ -1,6 +1,5 @@
 // What a line at the desk asks: `site IMAGE`, `left N T`, `right N T`, `withdraw SIDE N`, `pair N`.
 use desk::answers::Side;
-use lines::One;
 
 #[derive(Clone, Copy)]
 pub enum Ask {
@@ -14,20 +13,6 @@ pub enum Ask {
 // How many bytes `site ` has: the image begins there.
 pub(crate) const IMAGE: usize = 5;
 
-fn with_tick(side: Side, frame: u32, tick: One) -> Ask {
-    match tick {
-        One::Number(t) => Ask::Give(side, frame, t),
-        One::Unreadable => Ask::Unreadable,
-    }
-}
-
-fn with_frame(side: Side, frame: One, tick: One) -> Ask {
-    match frame {
-        One::Number(f) => with_tick(side, f, tick),
-        One::Unreadable => Ask::Unreadable,
-    }
-}
-
 // The word w, a frame, a space, a tick.
 fn give_of(w: &[u8], side: Side, line: &[u8]) -> Ask {
     let n = line.len();
@@ -39,24 +24,26 @@ fn give_of(w: &[u8], side: Side, line: &[u8]) -> Ask {
     if n <= e {
         return Ask::Unreadable;
     }
-    with_frame(
-        side,
-        lines::read_one(w, &line[0..e]),
-        lines::read_one(b"", &line[e + 1..n]),
-    )
-}
-
-fn withdraw_of(side: Side, frame: One) -> Ask {
-    match frame {
-        One::Number(f) => Ask::Withdraw(side, f),
-        One::Unreadable => Ask::Unreadable,
+    match (
+        lines::read_one(w, &line[..e]),
+        lines::read_one(b"", &line[e + 1..]),
+    ) {
+        (Some(frame), Some(tick)) => Ask::Give(side, frame, tick),
+        _ => Ask::Unreadable,
     }
 }
 
-fn pair_of(frame: One) -> Ask {
+fn withdraw_of(side: Side, frame: Option<u32>) -> Ask {
     match frame {
-        One::Number(f) => Ask::Pair(f),
-        One::Unreadable => Ask::Unreadable,
+        Some(f) => Ask::Withdraw(side, f),
+        None => Ask::Unreadable,
+    }
+}
+
+fn pair_of(frame: Option<u32>) -> Ask {
+    match frame {
+        Some(f) => Ask::Pair(f),
+        None => Ask::Unreadable,
     }
 }
 

@@ -4,14 +4,8 @@
 mod answer;
 mod ask;
 mod buffers;
-mod pieces;
 mod refused;
-mod run;
 
-// `report`: the status goes to descriptor 3.
 fn main(rt: HostRuntime) {
-    let status = buffers::serve(&rt);
-    if streams::has_argument(&rt, 1, b"report") {
-        streams::report(&rt, status);
-    }
+    streams::report_if_asked(&rt, buffers::serve(&rt));
 }

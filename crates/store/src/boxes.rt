@@ -44,11 +44,10 @@ pub fn store_boxes(src: &[u8], at: usize, n: u32, j: u32, rows: &mut [u64]) -> u
     let w = row::row_width(j);
     let count = n as usize;
     let mut p = at;
-    let mut i = 0;
-    while i < count {
+    // By index and not by chunks: there may be words behind these rows.
+    for i in 0..count {
         let a = words::row_at(i, w, count);
         p = store_box(src, p, n, j, &mut rows[a..a + w]);
-        i += 1;
     }
     p
 }

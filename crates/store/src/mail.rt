@@ -25,7 +25,7 @@ fn store_letter(src: &[u8], at: usize, j: u32, place: &mut [u64]) -> usize
     cells::get_headed(src, at, &groups, letter::HEAD, letter::COUNT, 0, place)
 }
 
-// n letters go into the first n places.
+// n letters go into the first n places. By index and not by chunks: there may be more places.
 fn store_letters(src: &[u8], at: usize, n: usize, j: u32, places: &mut [u64]) -> usize
     requires j_le_most_loads { j ≤ most_loads }
     requires j_in_bounds { n * place_width j ≤ length places.old }
@@ -36,11 +36,9 @@ fn store_letters(src: &[u8], at: usize, n: usize, j: u32, places: &mut [u64]) ->
 {
     let w = letter::HEAD + j as usize;
     let mut p = at;
-    let mut i = 0;
-    while i < n {
+    for i in 0..n {
         let a = words::row_at(i, w, n);
         p = store_letter(src, p, j, &mut places[a..a + w]);
-        i += 1;
     }
     p
 }
@@ -71,11 +69,9 @@ pub fn store_links(src: &[u8], at: usize, m: usize, j: u32, l: u32, links: &mut 
 {
     let w = memory::link_width(j, l);
     let mut p = at;
-    let mut i = 0;
-    while i < m {
+    for i in 0..m {
         let a = words::row_at(i, w, m);
         p = store_link(src, p, j, l, &mut links[a..a + w]);
-        i += 1;
     }
     p
 }

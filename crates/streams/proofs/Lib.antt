@@ -1,2 +1,1 @@
--- Laws of what a read gave.
-pub mod GotLaws
+-- The loops of `streams`.

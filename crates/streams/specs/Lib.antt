@@ -1,2 +1,2 @@
 -- What the contracts of `streams` cite.
-pub mod Got
+pub mod Status

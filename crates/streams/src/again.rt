@@ -1,22 +1,18 @@
 // Standard input opened anew, to be read a second time.
 use crate::host::{Streams, of_descriptor};
-use crate::{Got, receive};
+use crate::receive;
 use std::fs::OpenOptions;
 use std::io::{Error, ErrorKind, Result, Seek, SeekFrom};
 
 // The number of the first line, `pos:` and a number.
 fn place_of(text: &[u8]) -> u64 {
     let mut place: u64 = 0;
-    let mut i = 0;
-    while i < text.len() {
-        let b = text[i];
-        if b == 10 {
-            return place;
+    for b in text {
+        match b {
+            b'\n' => return place,
+            b'0'..=b'9' => place = place.saturating_mul(10).saturating_add((b - b'0') as u64),
+            _ => {}
         }
-        if (47 < b) & (b < 58) {
-            place = place.saturating_mul(10).saturating_add((b - 48) as u64);
-        }
-        i += 1;
     }
     place
 }
@@ -27,10 +23,9 @@ fn input_place<S: Streams>(rt: &S) -> Result<u64> {
     let mut from = OpenOptions::new()
         .read(true)
         .open(rt, "/proc/self/fdinfo/0")?;
-    match receive(rt, &mut from, &mut text) {
-        Got::Bytes(n) => Ok(place_of(&text[..n])),
-        Got::End => Err(Error::from(ErrorKind::UnexpectedEof)),
-        Got::Failed(error) => Err(error),
+    match receive(rt, &mut from, &mut text)? {
+        0 => Err(Error::from(ErrorKind::UnexpectedEof)),
+        n => Ok(place_of(&text[..n])),
     }
 }
 

@@ -5,14 +5,13 @@ use std::io::{Cursor, Error, Write};
 // The system's words for a failure end before its number, ` (os error N)`.
 fn words_of(text: &[u8]) -> &[u8] {
     let mark = b" (os error ";
-    let mut i = 0;
-    while i < text.len() {
-        if text[i..].starts_with(mark) {
-            return &text[..i];
-        }
-        i += 1;
+    match text
+        .windows(mark.len())
+        .position(|part| part == mark.as_slice())
+    {
+        Some(i) => &text[..i],
+        None => text,
     }
-    text
 }
 
 // What failed, a colon, and the system's words for why, in a line: `what: why`.

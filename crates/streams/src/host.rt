@@ -1,7 +1,7 @@
 // The system's streams, arguments and descriptors.
-ghost use Rattle.streams.specs.Got.{GotFrom};
+ghost use Rattle.std.specs.Io.{ReadsAtMost};
 
-use crate::{Got, receive, send};
+use crate::{Status, receive, send};
 use std::env::Env;
 use std::fs::OpenOptions;
 use std::io;
@@ -29,9 +29,9 @@ impl Streams for HostRuntime {
     }
 }
 
-// One read of standard input into the front of buf.
-pub fn read_input<S: Streams>(rt: &S, buf: &mut [u8]) -> Got
-    ensures { GotFrom result buf.new }
+// One read of standard input into the front of buf, and how many bytes it gave: none is its end.
+pub fn read_input<S: Streams>(rt: &S, buf: &mut [u8]) -> Result<usize>
+    ensures { ReadsAtMost result buf.new }
 {
     let mut from = rt.reader();
     receive(rt, &mut from, buf)
@@ -75,12 +75,10 @@ pub fn open_to_keep<S: Streams>(rt: &S, path: &str) -> Result<S::File> {
         .map_err(of_descriptor)
 }
 
-// The digit of a status, to descriptor 3; nothing where there is no such digit.
-pub fn report<S: Streams>(rt: &S, status: u8) {
-    if status < 10 {
-        if let Ok(mut to) = open_to_write(rt, "/proc/self/fd/3") {
-            let _ = send(rt, &mut to, &[48 + status]);
-        }
+// The digit of the status, to descriptor 3.
+pub fn report<S: Streams>(rt: &S, status: Status) {
+    if let Ok(mut to) = open_to_write(rt, "/proc/self/fd/3") {
+        let _ = send(rt, &mut to, &[b'0' + u8::from(status)]);
     }
 }
 
@@ -90,5 +88,12 @@ pub fn has_argument<S: Streams>(rt: &S, i: usize, word: &[u8]) -> bool {
     match rt.arg(i, &mut text) {
         Ok(n) => &text[..n] == word,
         Err(_) => false,
+    }
+}
+
+// The status goes to descriptor 3 where argument 1 is `report`.
+pub fn report_if_asked<S: Streams>(rt: &S, status: Status) {
+    if has_argument(rt, 1, b"report") {
+        report(rt, status);
     }
 }

@@ -7,46 +7,38 @@
 #![tactic(auto)]
 
 mod again;
+pub mod buffer;
 mod fault;
 mod host;
+mod status;
 #[cfg(test)]
 mod tests;
 mod wait;
 
 ghost use Rattle.std.specs.Prelude.{OnOk};
-ghost use Rattle.std.specs.Io.{WritesAtMost};
-ghost use Rattle.std.specs.Io.KnownBytes.{Appends, WriteAppends};
-ghost use Rattle.io.specs.Counts.{IsPrefixLen};
-ghost use Rattle.streams.specs.Got.{GotFrom, GotConsumes, GotCount};
+ghost use Rattle.std.specs.Io.{ReadsAtMost, WritesAtMost};
+ghost use Rattle.std.specs.Io.KnownBytes.{Appends, ReadConsumes, WriteAppends};
 
 pub use again::open_input_again;
 pub use fault::fail;
 pub use host::{
-    Streams, has_argument, open_to_keep, open_to_write, read_input, report, write_errors,
-    write_output,
+    Streams, has_argument, open_to_keep, open_to_write, read_input, report, report_if_asked,
+    write_errors, write_output,
 };
+pub use status::Status;
 use std::io::{Error, ErrorKind, Read, Result, Write};
 use std::time::Clock;
 
-// What one read gave: bytes at the front of the buffer, or none.
-#[derive(Clone, Copy)]
-pub enum Got {
-    Bytes(usize),
-    End,
-    Failed(Error),
-}
-
 // Whether a call that failed is to be made again, after a moment's wait where it asks for one.
 fn goes_on<C: Clock>(clock: &C, error: &Error) -> bool {
-    let kind = error.kind();
-    if kind == ErrorKind::Interrupted {
-        return true;
+    match error.kind() {
+        ErrorKind::Interrupted => true,
+        ErrorKind::WouldBlock => {
+            wait::moment(clock);
+            true
+        }
+        _ => false,
     }
-    if kind == ErrorKind::WouldBlock {
-        wait::moment(clock);
-        return true;
-    }
-    false
 }
 
 // One write of buf, and how many of its bytes were taken.
@@ -54,22 +46,17 @@ fn put<C: Clock, W: Write>(clock: &C, to: &mut W, buf: &[u8]) -> Result<usize>
     ensures bound { WritesAtMost result buf.now }
     ensures bytes { WriteAppends (W.contents to.old) (W.contents to.new) result buf.now }
 {
-    let mut tries = u64::MAX;
-    while tries > 0 {
+    for _ in 0..u64::MAX {
         match to.write(buf) {
-            Ok(n) => return Ok(n),
-            Err(error) => {
-                if !goes_on(clock, &error) {
-                    return Err(error);
-                }
-            }
+            Err(error) if goes_on(clock, &error) => {}
+            taken => return taken,
         }
-        tries -= 1;
     }
     Err(Error::from(ErrorKind::TimedOut))
 }
 
-// Writes all of buf, or tells why not: a write failed or took nothing.
+// Writes all of buf, or tells why not: a write failed or took nothing. No `for`: it goes on behind
+// what was taken.
 pub fn send<C: Clock, W: Write>(clock: &C, to: &mut W, buf: &[u8]) -> Result<()>
     ensures { OnOk result (Appends (W.contents to.old) (W.contents to.new) buf.now) }
 {
@@ -84,34 +71,16 @@ pub fn send<C: Clock, W: Write>(clock: &C, to: &mut W, buf: &[u8]) -> Result<()>
     Ok(())
 }
 
-// What a read of so many bytes gave.
-fn told(k: usize, buf: &[u8]) -> Got
-    requires { IsPrefixLen k buf.now }
-    ensures gives { GotFrom result buf.now }
-    ensures count { GotCount result k }
+// One read into the front of buf, and how many bytes it gave: none is the end of the input.
+pub fn receive<C: Clock, R: Read>(clock: &C, from: &mut R, buf: &mut [u8]) -> Result<usize>
+    ensures bound { ReadsAtMost result buf.new }
+    ensures bytes { ReadConsumes (R.remaining from.old) (R.remaining from.new) result buf.new }
 {
-    if k == 0 {
-        return Got::End;
-    }
-    Got::Bytes(k)
-}
-
-// One read into the front of buf.
-pub fn receive<C: Clock, R: Read>(clock: &C, from: &mut R, buf: &mut [u8]) -> Got
-    ensures gives { GotFrom result buf.new }
-    ensures bytes { GotConsumes (R.remaining from.old) (R.remaining from.new) result buf.new }
-{
-    let mut tries = u64::MAX;
-    while tries > 0 {
+    for _ in 0..u64::MAX {
         match from.read(buf) {
-            Ok(k) => return told(k, buf),
-            Err(error) => {
-                if !goes_on(clock, &error) {
-                    return Got::Failed(error);
-                }
-            }
+            Err(error) if goes_on(clock, &error) => {}
+            given => return given,
         }
-        tries -= 1;
     }
-    Got::Failed(Error::from(ErrorKind::TimedOut))
+    Err(Error::from(ErrorKind::TimedOut))
 }

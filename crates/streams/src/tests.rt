@@ -1,5 +1,5 @@
 // Streams over memory that halt and fail as the system's do.
-use crate::{Got, receive, send};
+use crate::{receive, send};
 use std::io::{Error, ErrorKind, Read, Result, Write};
 
 // Gives the bytes a, b and c, one a read, each after a read that a signal interrupts and one that
@@ -89,24 +89,10 @@ impl Write for Narrow {
     }
 }
 
-fn first(got: Got, buf: &[u8]) -> Option<u8> {
+fn first(got: Result<usize>, buf: &[u8]) -> Option<u8> {
     match got {
-        Got::Bytes(1) => buf.first().copied(),
+        Ok(1) => buf.first().copied(),
         _ => None,
-    }
-}
-
-fn kind(got: Got) -> Option<ErrorKind> {
-    match got {
-        Got::Failed(error) => Some(error.kind()),
-        _ => None,
-    }
-}
-
-fn is_end(got: Got) -> bool {
-    match got {
-        Got::End => true,
-        _ => false,
     }
 }
 
@@ -123,7 +109,7 @@ fn a_halting_read_goes_on_to_its_end(rt: HostRuntime) {
     assert_eq!(rt; first(got, &buf), Some(b'b'));
     let got = receive(&rt, &mut from, &mut buf);
     assert_eq!(rt; first(got, &buf), Some(b'c'));
-    assert!(rt; is_end(receive(&rt, &mut from, &mut buf)));
+    assert_eq!(rt; receive(&rt, &mut from, &mut buf).ok(), Some(0));
 }
 
 #[test]
@@ -136,7 +122,9 @@ fn a_failing_read_is_told(rt: HostRuntime) {
     let got = receive(&rt, &mut from, &mut buf);
     assert_eq!(rt; first(got, &buf), Some(b'c'));
     assert_eq!(rt;
-        kind(receive(&rt, &mut from, &mut buf)),
+        receive(&rt, &mut from, &mut buf)
+            .err()
+            .map(|error| error.kind()),
         Some(ErrorKind::BrokenPipe)
     );
 }
@@ -153,19 +141,13 @@ fn a_halting_write_takes_all(rt: HostRuntime) -> Result<()> {
 #[test]
 fn a_failing_write_is_told(rt: HostRuntime) {
     let mut to = narrow_with(3, true);
-    let kind = match send(&rt, &mut to, b"abcde") {
-        Ok(()) => None,
-        Err(error) => Some(error.kind()),
-    };
+    let kind = send(&rt, &mut to, b"abcde").err().map(|error| error.kind());
     assert_eq!(rt; kind, Some(ErrorKind::BrokenPipe));
 }
 
 #[test]
 fn a_write_that_takes_nothing_is_told(rt: HostRuntime) {
     let mut to = narrow_with(3, false);
-    let kind = match send(&rt, &mut to, b"abcde") {
-        Ok(()) => None,
-        Err(error) => Some(error.kind()),
-    };
+    let kind = send(&rt, &mut to, b"abcde").err().map(|error| error.kind());
     assert_eq!(rt; kind, Some(ErrorKind::WriteZero));
 }

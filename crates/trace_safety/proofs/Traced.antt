@@ -13,7 +13,7 @@ use Rattle.rules.specs.Step.{step, holds}
 use Rattle.rules.specs.declared.model.Answer.{Answer}
 use Rattle.rules.specs.declared.model.Call.{Call}
 use Rattle.laws.specs.Frames.{CallFits}
-use Rattle.laws.proofs.Logic.{All, nil, cons, and_yes, pick_elim}
+use Rattle.laws.proofs.Logic.{All, nil, cons, All-in, and_yes, pick_elim}
 use Rattle.lines.specs.Printed.{in_range}
 use Rattle.lines.specs.Read.{read_line}
 use Rattle.lines.specs.declared.Line.{Line}
@@ -58,14 +58,13 @@ fits-call : (d : Call) → Fits (Line.Call d) → CallFits d
 unfolding Fits
 fits-call d f = call_fits d f
 
--- the lines before another, and that one
-fit-both : (ls : List Line) (l : Line) → All Fits (ls ++ (l ∷ [])) → All Fits ls × Fits l
-fit-both [] l (cons f fs) = (nil, f)
-fit-both (k ∷ ls) l (cons f fs) = let p = fit-both ls l fs in (cons f p.0, p.1)
-
 fit-first : (ls rest : List Line) → All Fits (ls ++ rest) → All Fits ls
 fit-first [] rest fs = nil
 fit-first (l ∷ ls) rest (cons f fs) = cons f (fit-first ls rest fs)
+
+-- the lines before another, and that one
+fit-both : (ls : List Line) (l : Line) → All Fits (ls ++ (l ∷ [])) → All Fits ls × Fits l
+fit-both ls l fs = (fit-first ls (l ∷ []) fs, All-in ls l [] fs)
 
 -- ---- what the lines say
 

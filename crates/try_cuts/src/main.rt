@@ -2,49 +2,40 @@
 // whole, into buffers of different lengths, and writes what it says: the same each time.
 #![tactic(auto)]
 
-ghost use Rattle.std.specs.Prelude.{◌≡◌, min};
-
 use feed::state::{LINKS_WORDS, LONGEST_ANSWER, SITE_WORDS};
 
 const STDIN: i32 = 0;
 
 const STDOUT: i32 = 1;
 
-fn least(a: usize, b: usize) -> usize
-    ensures { result ≡ min a b }
-{
-    if a < b { a } else { b }
-}
-
 // Feeds the input, size bytes at a time.
 fn feed_cut(input: &[u8], size: usize, site: &mut [u64], links: &mut [u64], out: &mut [u8]) {
-    let n = input.len();
     let mut f = feed::start();
-    let mut i = 0;
-    while i < n {
-        let e = i + least(size, n - i);
-        let t = feed::feed_piece(f, &input[i..e], site, links, out);
-        let at = t.at;
+    let mut rest = input;
+    while !rest.is_empty() {
+        let piece = &rest[..size.min(rest.len())];
+        let Ok(t) = feed::feed_piece(f, piece, site, links, out) else {
+            return;
+        };
+        let (at, took) = (t.at, t.took);
         io::write_all(STDOUT, &out[..at]);
         f = t.feed;
-        if t.took == 0 {
+        if took == 0 {
             return;
         }
-        i += t.took;
+        rest = &rest[took..];
     }
-    let end = feed::feed_end(f, out);
-    let at = end.at;
+    let Ok(at) = feed::feed_end(f, out) else {
+        return;
+    };
     io::write_all(STDOUT, &out[..at]);
 }
 
 // Every cut; the last with room for one answer at a time.
 fn feed_cuts(input: &[u8], site: &mut [u64], links: &mut [u64], out: &mut [u8], small: &mut [u8]) {
-    feed_cut(input, 1, site, links, out);
-    feed_cut(input, 2, site, links, out);
-    feed_cut(input, 63, site, links, out);
-    feed_cut(input, 64, site, links, out);
-    feed_cut(input, 65, site, links, out);
-    feed_cut(input, 65536, site, links, out);
+    for size in [1, 2, 63, 64, 65, 65536] {
+        feed_cut(input, size, site, links, out);
+    }
     feed_cut(input, 65536, site, links, small);
 }
 

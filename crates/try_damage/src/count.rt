@@ -1,8 +1,8 @@
 // What came of a try, and how often each came.
-use std::num::wrapping_add_u64;
 
 // Form and Short: refused with 1 or 12, everything as it was. Done: read, and written back as the
 // same bytes. Wrong: anything else.
+// No `Result`: all four are counted alike, and none carries a value.
 #[derive(Clone, Copy)]
 pub(crate) enum Outcome {
     Form,
@@ -13,24 +13,19 @@ pub(crate) enum Outcome {
 
 impl Outcome {
     pub(crate) fn done_if(good: bool) -> Outcome {
-        if good {
-            return Outcome::Done;
-        }
-        Outcome::Wrong
+        if good { Outcome::Done } else { Outcome::Wrong }
     }
 
     // A refusal where there is no ground for one.
     pub(crate) fn or_wrong(self) -> Outcome {
         match self {
-            Outcome::Form => Outcome::Wrong,
-            Outcome::Short => Outcome::Wrong,
             Outcome::Done => Outcome::Done,
-            Outcome::Wrong => Outcome::Wrong,
+            Outcome::Form | Outcome::Short | Outcome::Wrong => Outcome::Wrong,
         }
     }
 }
 
-#[derive(Clone, Copy)]
+#[derive(Clone, Copy, Default)]
 pub(crate) struct Count {
     pub(crate) tried: u64,
     pub(crate) form: u64,
@@ -40,32 +35,24 @@ pub(crate) struct Count {
 }
 
 impl Count {
-    pub(crate) fn none() -> Count {
-        Count {
-            tried: 0,
-            form: 0,
-            short: 0,
-            done: 0,
-            wrong: 0,
-        }
-    }
-
-    fn one_more(self, form: u64, short: u64, done: u64, wrong: u64) -> Count {
-        Count {
-            tried: wrapping_add_u64(self.tried, 1),
-            form: wrapping_add_u64(self.form, form),
-            short: wrapping_add_u64(self.short, short),
-            done: wrapping_add_u64(self.done, done),
-            wrong: wrapping_add_u64(self.wrong, wrong),
-        }
-    }
-
-    pub(crate) fn add(self, o: Outcome) -> Count {
+    pub(crate) fn add(&mut self, o: Outcome) {
+        self.tried = self.tried.wrapping_add(1);
         match o {
-            Outcome::Form => self.one_more(1, 0, 0, 0),
-            Outcome::Short => self.one_more(0, 1, 0, 0),
-            Outcome::Done => self.one_more(0, 0, 1, 0),
-            Outcome::Wrong => self.one_more(0, 0, 0, 1),
+            Outcome::Form => self.form = self.form.wrapping_add(1),
+            Outcome::Short => self.short = self.short.wrapping_add(1),
+            Outcome::Done => self.done = self.done.wrapping_add(1),
+            Outcome::Wrong => self.wrong = self.wrong.wrapping_add(1),
         }
+    }
+
+    // The tries at 0, 1, 2 and so on below `end`.
+    pub(crate) fn of_each<F: FnMut(usize) -> Outcome>(end: usize, mut attempt: F) -> Count
+        requires { F.IsAlwaysCallable attempt }
+    {
+        let mut count = Count::default();
+        for at in 0..end {
+            count.add(attempt(at));
+        }
+        count
     }
 }

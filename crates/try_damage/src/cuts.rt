@@ -1,48 +1,28 @@
 // The image ends earlier, or one byte later.
+use crate::bench::Bench;
 use crate::count::{Count, Outcome};
-use crate::trial;
 
 // Every shorter length from 0 on.
-pub(crate) fn cuts(image: &[u8], site: &mut [u64], links: &mut [u64], back: &mut [u8]) -> Count {
-    let mut c = Count::none();
-    let mut k = 0;
-    while k < image.len() {
-        c = c.add(trial::read_all(&image[0..k], site, links, back));
-        k += 1;
+pub(crate) fn cuts(image: &[u8], bench: &mut Bench) -> Count {
+    let mut count = Count::default();
+    for end in 0..image.len() {
+        count.add(bench.read_all(&image[..end]));
     }
-    c
+    count
 }
 
-fn end_with(image: &mut [u8], b: u8) {
-    let n = image.len();
-    if 0 < n {
-        image[n - 1] = b;
+fn longer_by(image: &mut [u8], b: u8, bench: &mut Bench) -> Outcome {
+    if let Some(last) = image.last_mut() {
+        *last = b;
     }
-}
-
-fn longer_by(
-    image: &mut [u8],
-    b: u8,
-    site: &mut [u64],
-    links: &mut [u64],
-    back: &mut [u8],
-) -> Outcome {
-    end_with(image, b);
-    trial::read_all(image, site, links, back)
+    bench.read_all(image)
 }
 
 // The bytes are an image and one more: each byte that it can be.
-pub(crate) fn longer(
-    image: &mut [u8],
-    site: &mut [u64],
-    links: &mut [u64],
-    back: &mut [u8],
-) -> Count {
-    let mut c = Count::none();
-    let mut b: u32 = 0;
-    while b < 256 {
-        c = c.add(longer_by(image, b as u8, site, links, back));
-        b += 1;
+pub(crate) fn longer(image: &mut [u8], bench: &mut Bench) -> Count {
+    let mut count = Count::default();
+    for b in 0..=u8::MAX {
+        count.add(longer_by(image, b, bench));
     }
-    c
+    count
 }

@@ -1,6 +1,6 @@
 // Where a site ends in its words, by the layout that the engine's documents give.
+// A second time, and not the engine's own names: a test says by itself where a word stands.
 use crate::marks;
-use std::num::wrapping_add_usize;
 
 // The general words, and where the sizes stand among them.
 const N: usize = 0;
@@ -22,43 +22,25 @@ const NEXTS: usize = 128;
 const LINK_HEAD: usize = 2;
 
 fn get(words: &[u64], at: usize) -> usize {
-    if at < words.len() {
-        return words[at] as usize;
-    }
-    0
-}
-
-// k widths, one after the other.
-fn many(k: usize, width: usize) -> usize {
-    let mut sum = 0;
-    let mut i = 0;
-    while i < k {
-        sum = wrapping_add_usize(sum, width);
-        i += 1;
-    }
-    sum
+    words.get(at).map_or(0, |word| *word as usize)
 }
 
 // A box: its fields, its records, and their index.
 fn row_width(j: usize) -> usize {
-    wrapping_add_usize(
-        wrapping_add_usize(ROW_HEAD, j),
-        wrapping_add_usize(NEXTS, j),
-    )
+    (ROW_HEAD + NEXTS).wrapping_add(j).wrapping_add(j)
 }
 
 // The general words, and a row for each box.
 fn site_end(n: usize, j: usize) -> usize {
-    wrapping_add_usize(GENERAL, many(n, row_width(j)))
+    n.wrapping_mul(row_width(j)).wrapping_add(GENERAL)
 }
 
 // A link of L places for each ordered pair of different boxes.
 fn links_end(n: usize, j: usize, l: usize) -> usize {
-    if n < 1 {
-        return 0;
-    }
-    let link = wrapping_add_usize(LINK_HEAD, many(l, wrapping_add_usize(PLACE_HEAD, j)));
-    many(n, many(n - 1, link))
+    let link = l
+        .wrapping_mul(j.wrapping_add(PLACE_HEAD))
+        .wrapping_add(LINK_HEAD);
+    n.wrapping_mul(n.saturating_sub(1)).wrapping_mul(link)
 }
 
 // The words past those of the site that they hold are as they were.
@@ -66,11 +48,8 @@ pub(crate) fn rest_kept(site: &[u64], links: &[u64]) -> bool {
     let n = get(site, N);
     let j = get(site, J);
     let l = get(site, L);
-    if 5 < n {
+    if (5 < n) | (16 < l) {
         return false;
     }
-    if 16 < l {
-        return false;
-    }
-    marks::words_kept(site, site_end(n, j)) & marks::words_kept(links, links_end(n, j, l))
+    marks::kept(site, site_end(n, j)) & marks::kept(links, links_end(n, j, l))
 }

@@ -3,6 +3,9 @@
 // exactly the bytes that were given.
 #![tactic(auto)]
 
+use bench::Bench;
+
+mod bench;
 mod count;
 mod cuts;
 mod flips;
@@ -12,7 +15,6 @@ mod parts;
 mod rooms;
 mod script;
 mod show;
-mod trial;
 
 const STDIN: i32 = 0;
 
@@ -25,5 +27,10 @@ fn main() {
     let mut site = [0u64; 820];
     let mut links = [0u64; 1000];
     let n = io::read_full(STDIN, &mut text);
-    script::play(&text[..n], &mut image, &mut site, &mut links, &mut back);
+    let mut bench = Bench {
+        site: &mut site,
+        links: &mut links,
+        back: &mut back,
+    };
+    script::play(&text[..n], &mut image, &mut bench);
 }

@@ -1,61 +1,32 @@
 // What words and bytes hold before a try, so that it shows whether they stay.
 
+pub(crate) trait Mark: Copy + PartialEq {
+    fn mark(at: usize) -> Self;
+}
+
 // Each word has a mark of its own, and none that a site by form has in this place.
-fn mark(i: usize) -> u64 {
-    18446744073709551615 - (i as u64)
-}
-
-pub(crate) fn mark_words(words: &mut [u64]) {
-    let mut i = 0;
-    while i < words.len() {
-        words[i] = mark(i);
-        i += 1;
+impl Mark for u64 {
+    fn mark(at: usize) -> u64 {
+        u64::MAX - at as u64
     }
 }
 
-// Every word from `from` on has its mark.
-pub(crate) fn words_kept(words: &[u64], from: usize) -> bool {
-    let mut i = from;
-    while i < words.len() {
-        if words[i] != mark(i) {
-            return false;
-        }
-        i += 1;
-    }
-    true
-}
-
-pub(crate) fn mark_bytes(bytes: &mut [u8]) {
-    let mut i = 0;
-    while i < bytes.len() {
-        bytes[i] = 165;
-        i += 1;
+impl Mark for u8 {
+    fn mark(_at: usize) -> u8 {
+        165
     }
 }
 
-// Every byte from `from` on has its mark.
-pub(crate) fn bytes_kept(bytes: &[u8], from: usize) -> bool {
-    let mut i = from;
-    while i < bytes.len() {
-        if bytes[i] != 165 {
-            return false;
-        }
-        i += 1;
+pub(crate) fn put<T: Mark>(room: &mut [T]) {
+    for (at, here) in room.iter_mut().enumerate() {
+        *here = T::mark(at);
     }
-    true
 }
 
-// The bytes begin with the image.
-pub(crate) fn begins(bytes: &[u8], image: &[u8]) -> bool {
-    if bytes.len() < image.len() {
-        return false;
-    }
-    let mut i = 0;
-    while i < image.len() {
-        if bytes[i] != image[i] {
-            return false;
-        }
-        i += 1;
-    }
-    true
+// Everything from `from` on has its mark.
+pub(crate) fn kept<T: Mark>(room: &[T], from: usize) -> bool {
+    room.iter()
+        .enumerate()
+        .skip(from)
+        .all(|(at, here)| *here == T::mark(at))
 }

@@ -1,65 +1,37 @@
 // The lines of the input: an image each, or a heading.
-ghost use Rattle.std.specs.Prelude.{◌≤◌, length};
-
+use crate::bench::Bench;
 use crate::{parts, show};
-use hexed::Hexed;
+use hexed::HexError;
 
 // There is one more byte than the image has.
-fn damage(image: &mut [u8], n: usize, site: &mut [u64], links: &mut [u64], back: &mut [u8]) {
+fn damage(image: &mut [u8], n: usize, bench: &mut Bench) {
     if n < image.len() {
-        parts::parts(&mut image[0..n + 1], site, links, back);
+        parts::parts(&mut image[..n + 1], bench);
     } else {
         show::text(b"too long\n");
     }
 }
 
-fn is_heading(s: &[u8]) -> bool {
-    if s.len() < 1 {
-        return true;
-    }
-    s[0] == 35
-}
-
-fn line(s: &[u8], image: &mut [u8], site: &mut [u64], links: &mut [u64], back: &mut [u8]) {
-    if is_heading(s) {
+fn line(s: &[u8], image: &mut [u8], bench: &mut Bench) {
+    if matches!(s, [] | [b'#', ..]) {
         show::text(s);
         show::text(b"\n");
         return;
     }
     match hexed::read_hex(s, image) {
-        Hexed::Length(n) => damage(image, n, site, links, back),
-        Hexed::Long => show::text(b"too long\n"),
-        Hexed::Bad => show::text(b"unreadable\n"),
+        Ok(n) => damage(image, n, bench),
+        Err(HexError::Long) => show::text(b"too long\n"),
+        Err(HexError::Bad) => show::text(b"unreadable\n"),
     }
 }
 
-pub(crate) fn play(
-    text: &[u8],
-    image: &mut [u8],
-    site: &mut [u64],
-    links: &mut [u64],
-    back: &mut [u8],
-) {
-    let mut at = 0;
-    while at < text.len() {
-        let e = line_end(text, at);
-        let next = e + 1;
-        line(&text[at..e], image, site, links, back);
-        at = next;
+// What follows the last line's end is no line, if it is empty.
+pub(crate) fn play(text: &[u8], image: &mut [u8], bench: &mut Bench) {
+    if text.is_empty() {
+        return;
     }
-}
-
-// Where the line that begins at `from` ends.
-fn line_end(text: &[u8], from: usize) -> usize
-    requires { from ≤ length text.now }
-    ensures { (from ≤ result) × (result ≤ length text.now) }
-{
-    let mut e = from;
-    while e < text.len() {
-        if text[e] == 10 {
-            return e;
-        }
-        e += 1;
+    let text = text.strip_suffix(b"\n").unwrap_or(text);
+    for s in text.split(|b| *b == b'\n') {
+        line(s, image, bench);
     }
-    e
 }

@@ -1,6 +1,7 @@
 // What is written of an image.
 use crate::count::Count;
 
+// Bytes by the kit's io, as every program here writes; `Display` needs a handle and is no plainer.
 const STDOUT: i32 = 1;
 
 pub(crate) fn text(s: &[u8]) {

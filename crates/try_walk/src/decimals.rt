@@ -1,67 +1,29 @@
 // The decimals of a line.
 
-// The numbers read so far, the latest in d; value is the one that has begun.
-#[derive(Clone, Copy)]
-pub(crate) struct Numbers {
-    pub(crate) a: u64,
-    pub(crate) b: u64,
-    pub(crate) c: u64,
-    pub(crate) d: u64,
-    pub(crate) value: u64,
-}
-
 // A decimal goes on with a digit; one beyond 2^64 − 1 is 2^64 − 1.
+// No `saturating_mul`: it tells a few of the largest numbers apart that this reads as 2^64 − 1.
 fn grow(value: u64, b: u8) -> u64 {
-    if b < 48 {
-        return value;
-    }
-    if 57 < b {
-        return value;
-    }
-    if 1844674407370955160 < value {
-        return 18446744073709551615;
-    }
-    value * 10 + ((b - 48) as u64)
-}
-
-impl Numbers {
-    fn finish(self) -> Numbers {
-        Numbers {
-            a: self.b,
-            b: self.c,
-            c: self.d,
-            d: self.value,
-            value: 0,
-        }
-    }
-
-    fn next(self, b: u8) -> Numbers {
-        if b == 32 {
-            return self.finish();
-        }
-        Numbers {
-            a: self.a,
-            b: self.b,
-            c: self.c,
-            d: self.d,
-            value: grow(self.value, b),
-        }
+    match b {
+        b'0'..=b'9' if value <= 1844674407370955160 => value * 10 + (b - b'0') as u64,
+        b'0'..=b'9' => u64::MAX,
+        _ => value,
     }
 }
 
-// The last four numbers of s from at on.
-pub(crate) fn numbers_at(s: &[u8], at: usize) -> Numbers {
-    let mut n = Numbers {
-        a: 0,
-        b: 0,
-        c: 0,
-        d: 0,
-        value: 0,
-    };
-    let mut i = at;
-    while i < s.len() {
-        n = n.next(s[i]);
-        i += 1;
+fn number(word: &[u8]) -> u64 {
+    let mut value = 0;
+    for b in word {
+        value = grow(value, *b);
     }
-    n.finish()
+    value
+}
+
+// The last four numbers of s from at on, the latest at the end.
+pub(crate) fn numbers_at(s: &[u8], at: usize) -> [u64; 4] {
+    let mut numbers = [0; 4];
+    for word in s[at.min(s.len())..].split(|b| *b == b' ') {
+        let [_, b, c, d] = numbers;
+        numbers = [b, c, d, number(word)];
+    }
+    numbers
 }

@@ -1,8 +1,8 @@
 // What of the memory is lent to the engine, and what it was before a call.
-ghost use Rattle.std.specs.Prelude.{◌≡◌, ◌≤◌, length};
+ghost use Rattle.std.specs.Prelude.{◌≡◌, length};
 
 // The sizes of the site, and how many words are lent of each slice.
-#[derive(Clone, Copy)]
+#[derive(Clone, Copy, Default)]
 pub(crate) struct Lent {
     pub(crate) n: u32,
     pub(crate) j: u32,
@@ -14,83 +14,53 @@ pub(crate) struct Lent {
 }
 
 impl Lent {
-    pub(crate) fn nothing() -> Lent {
-        Lent {
-            n: 0,
-            j: 0,
-            l: 0,
-            site: 0,
-            links: 0,
-            letter: 0,
-            out: 0,
-        }
-    }
-
     pub(crate) fn sized(self, n: u32, j: u32, l: u32) -> Lent {
-        Lent {
-            n,
-            j,
-            l,
-            site: self.site,
-            links: self.links,
-            letter: self.letter,
-            out: self.out,
-        }
+        Lent { n, j, l, ..self }
     }
 
     pub(crate) fn words(self, site: u64, links: u64) -> Lent {
         Lent {
-            n: self.n,
-            j: self.j,
-            l: self.l,
             site: site as usize,
             links: links as usize,
-            letter: self.letter,
-            out: self.out,
+            ..self
         }
     }
 
     pub(crate) fn trays(self, letter: u64, out: u64) -> Lent {
         Lent {
-            n: self.n,
-            j: self.j,
-            l: self.l,
-            site: self.site,
-            links: self.links,
             letter: letter as usize,
             out: out as usize,
+            ..self
         }
     }
 }
 
-pub(crate) fn least(a: usize, b: usize) -> usize
-    ensures { (result ≤ a) × (result ≤ b) }
-{
-    if a < b { a } else { b }
+// The words that the script works on, and room for what they were before a call.
+#[derive(Drop)]
+pub(crate) struct Ground<'a> {
+    pub(crate) z: Lent,
+    pub(crate) site: &'a mut [u64],
+    pub(crate) links: &'a mut [u64],
+    pub(crate) site_before: &'a mut [u64],
+    pub(crate) links_before: &'a mut [u64],
+    pub(crate) letter: &'a mut [u64],
+    pub(crate) out: &'a mut [u64],
+}
+
+impl Ground<'_> {
+    pub(crate) fn is_site_kept(&self) -> bool {
+        same(self.site, self.site_before)
+    }
 }
 
 pub(crate) fn copy(src: &[u64], dst: &mut [u64])
     ensures { length dst.new ≡ length dst.old }
 {
-    let e = least(src.len(), dst.len());
-    let mut i = 0;
-    while i < e {
-        dst[i] = src[i];
-        i += 1;
-    }
+    let e = src.len().min(dst.len());
+    dst[..e].copy_from_slice(&src[..e]);
 }
 
 // Every word of a is the one of b.
 pub(crate) fn same(a: &[u64], b: &[u64]) -> bool {
-    if b.len() < a.len() {
-        return false;
-    }
-    let mut i = 0;
-    while i < a.len() {
-        if a[i] != b[i] {
-            return false;
-        }
-        i += 1;
-    }
-    true
+    b.starts_with(a)
 }

@@ -2,6 +2,7 @@
 // came of it.
 #![tactic(auto)]
 
+use lent::{Ground, Lent};
 use spots::{GENERAL, LINK_HEAD, NEXTS, PLACE_HEAD, ROW_HEAD};
 
 mod alone;
@@ -32,13 +33,14 @@ fn main() {
     let mut letter = [0u64; PLACE];
     let mut out = [0u64; PLACE];
     let n = io::read_full(STDIN, &mut text);
-    script::walk(
-        &text[..n],
-        &mut site,
-        &mut links,
-        &mut site_before,
-        &mut links_before,
-        &mut letter,
-        &mut out,
-    );
+    let mut ground = Ground {
+        z: Lent::default(),
+        site: &mut site,
+        links: &mut links,
+        site_before: &mut site_before,
+        links_before: &mut links_before,
+        letter: &mut letter,
+        out: &mut out,
+    };
+    ground.walk(&text[..n]);
 }

@@ -1,7 +1,9 @@
 // What is written of a line.
 use crate::lent::Lent;
 use crate::spots::{EPOCH, LAST, get, row_at};
+use rules::model::Answer;
 
+// Bytes by the kit's io, as every program here writes; `Display` needs a handle and is no plainer.
 const STDOUT: i32 = 1;
 
 pub(crate) fn text(s: &[u8]) {
@@ -17,42 +19,32 @@ pub(crate) fn next_number(x: u64) {
     number(x);
 }
 
-pub(crate) fn answer_number(n: u32) {
+pub(crate) fn answer_number(a: Answer) {
     text(b" | ");
-    number(n as u64);
+    number(rules::numbers::answer_number(a) as u64);
 }
 
 // An answer's number; a refusal and a discard with whether every word stayed that has to.
-pub(crate) fn answer(n: u32, kept: bool) {
-    answer_number(n);
-    if n == 0 {
-        return;
-    }
-    if n == 100 {
-        return;
-    }
-    if kept {
-        text(b" kept");
-    } else {
-        text(b" CHANGED");
+pub(crate) fn answer(a: Answer, kept: bool) {
+    answer_number(a);
+    match a {
+        Answer::Done | Answer::Taken => (),
+        Answer::Discarded(_) | Answer::Refused(_) => {
+            text(if kept { b" kept" } else { b" CHANGED" });
+        }
     }
 }
 
 // The words from a to e.
 pub(crate) fn words(w: &[u64], a: usize, e: usize) {
-    let mut i = a;
-    while i < e {
+    for i in a..e {
         next_number(get(w, i));
-        i += 1;
     }
 }
 
 // How many boxes are shown.
 fn boxes(n: u32) -> u64 {
-    if 5 < n {
-        return 0;
-    }
-    n as u64
+    if 5 < n { 0 } else { n as u64 }
 }
 
 // The epoch, and the last agreed number of each box.
@@ -60,15 +52,8 @@ pub(crate) fn standing(z: Lent, site: &[u64]) {
     text(b" | ");
     number(get(site, EPOCH));
     text(b" |");
-    let n = boxes(z.n);
-    let mut c = 0;
-    while c < n {
-        c += 1;
-        next_number(get(site, last_at(z.j, c)));
+    for c in 1..=boxes(z.n) {
+        next_number(get(site, row_at(z.j, c).wrapping_add(LAST)));
     }
     text(b"\n");
-}
-
-fn last_at(j: u32, c: u64) -> usize {
-    std::num::wrapping_add_usize(row_at(j, c), LAST)
 }

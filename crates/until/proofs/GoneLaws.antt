@@ -17,7 +17,7 @@ use Rattle.laws.proofs.Logic.{Or, left as less, right as most, true≠false, eqb
 use Rattle.laws.proofs.Logic.{below?}
 use Rattle.laws.proofs.StepLaws.{sizes_step}
 use Rattle.wait.specs.Run.{Outcome, sender_of, leader_turn, next_turn, ended, go_on, take, run_from}
-use Rattle.wait.specs.declared.model.Next.{Next}
+use Rattle.std.specs.Prelude.{Option, Some, None, Ok, Err}
 use Rattle.wait.specs.declared.model.Run.{Run}
 use Rattle.wait.proofs.FirstLaws.{next-own}
 use Rattle.wait.proofs.RunLaws.{run-over, run-on}
@@ -29,25 +29,25 @@ use Rattle.until.specs.declared.turns.Went.{Went}
 
 -- ---- the next turn
 
-abbrev is_turn : Next → Bool
-is_turn Next.Nothing = false
-is_turn (Next.Turn d) = true
+abbrev is_turn : Option Call → Bool
+is_turn None = false
+is_turn (Some d) = true
 
 module _ (s : Site) where
-  next-mail : {d : Call} → mail_turn s ≡ Next.Turn d → next_turn s ≡ Next.Turn d
+  next-mail : {d : Call} → mail_turn s ≡ Some d → next_turn s ≡ Some d
   unfolding mail_turn next_turn pick
   next-mail {d} = go (eqb (sender_of s) 0) (leader_turn s) _
     where
-      go : (t : Bool) (l m : Next) → pick t Next.Nothing m ≡ Next.Turn d
-          → pick t l m ≡ Next.Turn d
+      go : (t : Bool) (l m : Option Call) → pick t None m ≡ Some d
+          → pick t l m ≡ Some d
       go true l m e = absurd (true≠false (sym (ap is_turn e)))
       go false l m e = e
 
-  none_left : mail_turn s ≡ Next.Nothing → sender_of s ≡ 0
+  none_left : mail_turn s ≡ None → sender_of s ≡ 0
   unfolding mail_turn pick
   none_left e = eqb_yes (sender_of s) 0 (go (eqb (sender_of s) 0) _ e)
     where
-      go : (t : Bool) (d : Call) → pick t Next.Nothing (Next.Turn d) ≡ Next.Nothing → t ≡ true
+      go : (t : Bool) (d : Call) → pick t None (Some d) ≡ None → t ≡ true
       go true d e = refl
       go false d e = absurd (true≠false (ap is_turn e))
 
@@ -59,7 +59,7 @@ module _ (s : Site) where
   run_none zero used e = refl
   run_none (suc left) used e = absurd (omega (arith, e))
 
-  module _ {d : Call} (turn : next_turn s ≡ Next.Turn d) where
+  module _ {d : Call} (turn : next_turn s ≡ Some d) where
     stops : (more : Site → Outcome) (used : ℕ) (s' : Site) {why : Refusal} {a : Answer}
         → a ≡ Answer.Refused why → go_on more used s a s' ≡ ended s (Run.Stopped why used)
     unfolding go_on
@@ -133,7 +133,7 @@ ran_then p q = record {
 
 module _ (xs ls : List ℕ) (left used : ℕ) where
   gone-step : {d : Call} {a : Answer} {ys ms : List ℕ} → 0 < left
-      → next_turn (site_of xs ls) ≡ Next.Turn d → is_refusal a ≡ false → FormedStep d xs ls ys ms a
+      → next_turn (site_of xs ls) ≡ Some d → is_refusal a ≡ false → FormedStep d xs ls ys ms a
       → Gone left used xs ls (left - 1) (used + 1) ys ms
   gone-step {d} {a} {ys} {ms} h turn go f =
       let s = site_of xs ls in
@@ -171,9 +171,9 @@ module _ (xs ls : List ℕ) (left used : ℕ) where
     ends-none e = ends-here (refl, refl) (run_none (site_of xs ls) left used e) refl
 
     -- what the code has asked for, and what came of it
-    module _ (next : Next) (w : Went) (ys ms : List ℕ) (took : Took w next xs ls ys ms) where
+    module _ (next : Option Call) (w : Went) (ys ms : List ℕ) (took : Took w next xs ls ys ms) where
       abbrev Is : Type 0
-      Is = (d : Call) → next ≡ Next.Turn d → next_turn (site_of xs ls) ≡ Next.Turn d
+      Is = (d : Call) → next ≡ Some d → next_turn (site_of xs ls) ≡ Some d
 
       took_as : {v : Went} → w ≡ v → Took v next xs ls ys ms
       took_as e = subst (λ (v : Went). Took v next xs ls ys ms) e took
@@ -198,30 +198,33 @@ module _ (xs ls : List ℕ) (left used : ℕ) where
 
 -- ---- a mail's turn, and a leader's
 
-module _ (xs ls : List ℕ) {next : Next} (asked : next ≡ mail_turn (site_of xs ls)) where
-  pub by-mail : (d : Call) → next ≡ Next.Turn d → next_turn (site_of xs ls) ≡ Next.Turn d
+module _ (xs ls : List ℕ) {next : Option Call} (asked : next ≡ mail_turn (site_of xs ls)) where
+  pub by-mail : (d : Call) → next ≡ Some d → next_turn (site_of xs ls) ≡ Some d
   by-mail d e = next-mail (site_of xs ls) (sym asked ∙ e)
 
-  pub no-mail : next ≡ Next.Nothing → sender_of (site_of xs ls) ≡ 0
+  pub no-mail : next ≡ None → sender_of (site_of xs ls) ≡ 0
   no-mail e = none_left (site_of xs ls) (sym asked ∙ e)
 
-module _ (xs ls : List ℕ) {next : Next} (asked : next ≡ leader_turn (site_of xs ls))
+module _ (xs ls : List ℕ) {next : Option Call} (asked : next ≡ leader_turn (site_of xs ls))
     (no : sender_of (site_of xs ls) ≡ 0) where
   pub by-leader : next_turn (site_of xs ls) ≡ next
   by-leader = next-own (site_of xs ls) no ∙ sym asked
 
-  pub leads-to : (d : Call) → next ≡ Next.Turn d → next_turn (site_of xs ls) ≡ Next.Turn d
+  pub leads-to : (d : Call) → next ≡ Some d → next_turn (site_of xs ls) ≡ Some d
   leads-to d e = by-leader ∙ e
 
 -- ---- heads handed over
 
+abbrev pub on : ℕ → ℕ → Handed
+on l u = record { left = l; used = u }
+
 module _ {left used l u : ℕ} {xs ls ys ms : List ℕ} (gone : Gone left used xs ls l u ys ms) where
-  pub handed-end : l ≤ 0 → HandedIs (Handed.On l u) left used xs ls ys ms
+  pub handed-end : l ≤ 0 → HandedIs (Ok (on l u)) left used xs ls ys ms
   handed-end h = (gone, λ g. absurd (omega arith))
 
-  module _ {next : Next} (asked : next ≡ mail_turn (site_of ys ms)) (w : Went)
+  module _ {next : Option Call} (asked : next ≡ mail_turn (site_of ys ms)) (w : Went)
       (zs ns : List ℕ) (took : Took w next ys ms zs ns) where
-    pub handed-none : w ≡ Went.Nothing → HandedIs (Handed.On l u) left used xs ls zs ns
+    pub handed-none : w ≡ Went.Nothing → HandedIs (Ok (on l u)) left used xs ls zs ns
     handed-none e =
         let t = subst (λ (v : Went). Took v next ys ms zs ns) e took in
         rw (t.1.0, t.1.1) (gone, λ g. no-mail ys ms asked t.0)
@@ -231,13 +234,13 @@ module _ {left used l u : ℕ} {xs ls ys ms : List ℕ} (gone : Gone left used x
         gone-then gone (played ys ms l u gone.form next w zs ns took (by-mail ys ms asked) h e)
 
     pub handed-stop : 0 < l → {why : Refusal} → w ≡ Went.Refused why
-        → HandedIs (Handed.Stopped why u) left used xs ls zs ns
+        → HandedIs (Err (record { why = why; used = u })) left used xs ls zs ns
     handed-stop h e =
         ran_then gone (stopped ys ms l u gone.form next w zs ns took (by-mail ys ms asked) h e)
 
 -- some mail was there and a step was left, so that fewer are now
 pub handed-fewer : {k used l u : ℕ} {xs ls ys ms : List ℕ} → 0 < k
-    → 0 < sender_of (site_of xs ls) → HandedIs (Handed.On l u) k used xs ls ys ms → l < k
+    → 0 < sender_of (site_of xs ls) → HandedIs (Ok (on l u)) k used xs ls ys ms → l < k
 handed-fewer {k} {used} {l} {u} {xs} {ls} {ys} {ms} h some (gone, none) = go (below? l k)
   where
     go : Or (l < k) (k ≤ l) → l < k

@@ -12,7 +12,7 @@ use Rattle.laws.proofs.Types.{Act, Call, Phase, Setting, Turn}
 use Rattle.laws.proofs.Logic.{left, right, In}
 use Rattle.laws.proofs.FormLaws.{Formed, form-says, box-is}
 use Rattle.wait.specs.Run.{leader_of, is_possible, leader_turn}
-use Rattle.wait.specs.declared.model.Next.{Next}
+use Rattle.std.specs.Prelude.{Some, None}
 use Rattle.wait.proofs.Stages.{StepOf}
 use Rattle.wait.proofs.OneStep.{leader-tries}
 use Rattle.memory.specs.Memory.{site_of, memory_form}
@@ -28,7 +28,7 @@ module _ (s : Site) (c : ℕ) (f : Formed s) (h : In c s.n)
   tries : (p : Phase) → (s.box c).head.phase ≡ p
       → leader_turn s
       ≡ pick (is_possible (turn_of (setting s c) (s.box c) (own (act_in p))).answer)
-      (Next.Turn (call_in p c)) Next.Nothing
+      (Some (call_in p c)) None
   tries Phase.Election e = leader-tries s c f h leads StepOf.recover (left e)
   tries Phase.SendCollect e = leader-tries s c f h leads StepOf.collect (left e)
   tries Phase.Collect e = leader-tries s c f h leads StepOf.ready (left e)
@@ -45,7 +45,7 @@ module _ (xs ls : List ℕ) (f : memory_form xs ls ≡ true) {g : Setting} (all 
   unfolding leader_of site_of
   leader-is = found ∙ ap (λ (t : Setting). leader_in t xs) all
 
-  pub no-leader : c ≡ 0 → Next.Nothing ≡ leader_turn (site_of xs ls)
+  pub no-leader : c ≡ 0 → None ≡ leader_turn (site_of xs ls)
   unfolding leader_turn
   no-leader z = sym (pick_true _ _ _ (eq-eqb _ _ (sym leader-is ∙ z)))
 
@@ -81,15 +81,15 @@ module _ (xs ls : List ℕ) (f : memory_form xs ls ≡ true) {g : Setting} (all 
           ∙ (λ i. is_possible (turn_of (e i) (boxes_of (e i) xs (e i).me) (own (own-step i))
           ).answer))
 
-      step_is : leader_turn (site_of xs ls) ≡ pick r (Next.Turn (call_in p c)) Next.Nothing
+      step_is : leader_turn (site_of xs ls) ≡ pick r (Some (call_in p c)) None
       step_is =
           tries (site_of xs ls) c (form-says (form-site xs ls f)) leader-in.0 leader-in.1 p
           phase-is
-          ∙ ap (λ (t : Bool). pick t (Next.Turn (call_in p c)) Next.Nothing) possible-is
+          ∙ ap (λ (t : Bool). pick t (Some (call_in p c)) None) possible-is
 
       pub leader-step : {d : Call} → d ≡ call_in p c → r ≡ true
-          → Next.Turn d ≡ leader_turn (site_of xs ls)
-      leader-step o y = ap Next.Turn o ∙ sym (step_is ∙ pick_true _ _ _ y)
+          → Some d ≡ leader_turn (site_of xs ls)
+      leader-step o y = ap Some o ∙ sym (step_is ∙ pick_true _ _ _ y)
 
-      pub leader-none : r ≡ false → Next.Nothing ≡ leader_turn (site_of xs ls)
+      pub leader-none : r ≡ false → None ≡ leader_turn (site_of xs ls)
       leader-none n = sym (step_is ∙ pick-false _ _ _ n)

@@ -13,7 +13,7 @@ use Rattle.rules.specs.declared.model.Setting.{Setting}
 use Rattle.laws.proofs.Logic.{and_both}
 use Rattle.laws.proofs.FormLaws.{box-is}
 use Rattle.wait.specs.Run.{holds_mail, receiver_of, sender_of}
-use Rattle.wait.specs.declared.model.Next.{Next}
+use Rattle.std.specs.Prelude.{Some, None}
 use Rattle.memory.specs.Memory.{site_of}
 use Rattle.memory.specs.After.{setting_at, links_of}
 use Rattle.until.specs.Turns.{mail_on, receiver_in, sender_in, mail_turn}
@@ -47,18 +47,18 @@ module _ {s : Setting} (xs ls : List ℕ) (c : ℕ) (known : s ≡ setting_at xs
   receiver_is a = ap (λ (t : Setting). receiver_in t ls a) known
 
   -- what the code has found
-  pub no-mail : {a : ℕ} → a ≡ sender_in s ls → a ≡ 0 → Next.Nothing ≡ mail_turn (site_of xs ls)
+  pub no-mail : {a : ℕ} → a ≡ sender_in s ls → a ≡ 0 → None ≡ mail_turn (site_of xs ls)
   unfolding mail_turn
   no-mail e z = sym (pick_true _ _ _ (eq-eqb _ _ (sym (e ∙ sender-is) ∙ z)))
 
   pub first-mail : {a b : ℕ} → a ≡ sender_in s ls → (a ≡ 0 → ⊥) → b ≡ receiver_in s ls a
-      → Next.Turn (Call.Deliver a b) ≡ mail_turn (site_of xs ls)
+      → Some (Call.Deliver a b) ≡ mail_turn (site_of xs ls)
   unfolding mail_turn
   first-mail {a} {b} e nz f =
       let from : a ≡ sender_of (site_of xs ls) = e ∙ sender-is in
       let to : b ≡ receiver_of (site_of xs ls) a = f ∙ receiver_is a in
-      ap (λ (y : ℕ). Next.Turn (Call.Deliver a y)) to
-      ∙ ap (λ (x : ℕ). Next.Turn (Call.Deliver x (receiver_of (site_of xs ls) x))) from
+      ap (λ (y : ℕ). Some (Call.Deliver a y)) to
+      ∙ ap (λ (x : ℕ). Some (Call.Deliver x (receiver_of (site_of xs ls) x))) from
       ∙ sym (pick-false _ _ _ (ne_eqb _ _ (λ z. nz (from ∙ z))))
 
 pub sender-box : (s : Setting) (ls : List ℕ) {a : ℕ} → a ≡ sender_in s ls → (a ≡ 0 → ⊥)

@@ -9,7 +9,7 @@ use Rattle.rules.specs.Form.{form}
 use Rattle.rules.specs.Step.{step}
 use Rattle.rules.specs.declared.model.Refusal.{Refusal}
 use Rattle.wait.specs.Run.{Outcome, ended, run_of}
-use Rattle.wait.specs.declared.model.Next.{Next}
+use Rattle.std.specs.Prelude.{None}
 use Rattle.wait.specs.declared.model.Run.{Run}
 use Rattle.wait.proofs.RunForm.{run-form}
 use Rattle.memory.specs.Memory.{past_site, past_links, site_of, readable, memory_form}
@@ -53,7 +53,7 @@ room-unread xs ls ys ms steps r e =
 pub room-unasked : (xs ls ys ms : List ℕ) → readable xs ls ≡ readable ys ms
     → site_of xs ls ≡ site_of ys ms → next_on xs ls ≡ next_on ys ms
 unfolding next_on
-room-unasked xs ls ys ms r e = λ t. cond (r t) (next_of (e t)) Next.Nothing
+room-unasked xs ls ys ms r e = λ t. cond (r t) (next_of (e t)) None
 
 -- a run on words by form leaves words by form
 pub form-kept : {xs ls ys ms : List ℕ} {r : Run} (steps : ℕ) → memory_form xs ls ≡ true

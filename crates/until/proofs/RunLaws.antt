@@ -9,8 +9,9 @@ use Rattle.rules.specs.Form.{form}
 use Rattle.rules.specs.declared.model.Refusal.{Refusal}
 use Rattle.rules.specs.declared.model.Setting.{Setting}
 use Rattle.laws.proofs.Logic.{Or, left, right, decide, both-no, eqb_yes}
+use Rattle.rules.specs.declared.model.Call.{Call}
 use Rattle.wait.specs.Run.{Outcome, ended, next_turn, run_of}
-use Rattle.wait.specs.declared.model.Next.{Next}
+use Rattle.std.specs.Prelude.{Option, None}
 use Rattle.wait.specs.declared.model.Run.{Run}
 use Rattle.wait.proofs.RunLaws.{run-of}
 use Rattle.memory.specs.Memory.{site_of, readable, memory_form}
@@ -83,12 +84,12 @@ module _ (xs ls : List ℕ) {s : Setting} (known : s ≡ setting_at xs 0) {t : B
       form = f;
     }
 
-    pub odd-next : not t ≡ true → Next.Nothing ≡ next_of (site_of xs ls)
+    pub odd-next : not t ≡ true → None ≡ next_of (site_of xs ls)
     unfolding next_of
     odd-next h =
         sym (need-met _ _ _ _ _ (form-site xs ls f) ∙ need-not _ _ _ _ _ (fails parity h))
 
-    pub even-next : not t ≡ false → {n : Next} → n ≡ next_turn (site_of xs ls)
+    pub even-next : not t ≡ false → {n : Option Call} → n ≡ next_turn (site_of xs ls)
         → n ≡ next_of (site_of xs ls)
     unfolding next_of
     even-next h e =
@@ -127,6 +128,6 @@ module _ (xs ls : List ℕ) where
     unformed-run steps =
         refused-run xs ls Refusal.Form _ (unformed _ _ (λ g. need-not _ _ _ _ _ g))
 
-    pub unformed-next : Next.Nothing ≡ next_on xs ls
+    pub unformed-next : None ≡ next_on xs ls
     unfolding next_on next_of
     unformed-next = sym (unformed _ _ (λ g. need-not _ _ _ _ _ g))

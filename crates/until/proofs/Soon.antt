@@ -14,7 +14,7 @@ use Rattle.laws.proofs.Logic.{Or, left, right, decide, both-no, cond_elim}
 use Rattle.laws.proofs.StepLaws.{by_needs}
 use Rattle.wait.specs.Run.{Outcome as Ending, next_turn, run_of}
 use Rattle.wait.specs.Wait.{Usable, SoonUsable}
-use Rattle.wait.specs.declared.model.Next.{Next}
+use Rattle.std.specs.Prelude.{Option, None}
 use Rattle.wait.specs.declared.model.Run.{Run}
 use Rattle.wait.proofs.Waited.{soon-usable}
 use Rattle.memory.specs.Memory.{site_of, readable}
@@ -44,11 +44,11 @@ unfolding run_on
 run-read xs ls steps r = rw r refl
 
 -- where the site has no turn, nor have its words
-no-turn : (xs ls : List ℕ) → next_turn (site_of xs ls) ≡ Next.Nothing → next_on xs ls ≡ Next.Nothing
+no-turn : (xs ls : List ℕ) → next_turn (site_of xs ls) ≡ None → next_on xs ls ≡ None
 unfolding next_on next_of
 no-turn xs ls e =
-    cond_elim (λ (n : Next). n ≡ Next.Nothing) (readable xs ls)
-    (λ r. by_needs (λ (n : Next). n ≡ Next.Nothing) (λ why. Next.Nothing) _ _ (λ why. refl)
+    cond_elim (λ (n : Option Call). n ≡ None) (readable xs ls)
+    (λ r. by_needs (λ (n : Option Call). n ≡ None) (λ why. None) _ _ (λ why. refl)
     (λ p. e))
     (λ r. refl)
 

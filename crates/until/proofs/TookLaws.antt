@@ -4,13 +4,13 @@ use mathlib.Core.Path.{◌≡◌, refl, sym, subst}
 use mathlib.Core.List.{List}
 use Rattle.rules.specs.declared.model.Answer.{Answer}
 use Rattle.rules.specs.declared.model.Call.{Call}
-use Rattle.wait.specs.declared.model.Next.{Next}
+use Rattle.std.specs.Prelude.{Option, Some}
 use Rattle.site.specs.Entries.{FormedStep}
 use Rattle.until.specs.Turns.{went_by, Took}
 use Rattle.until.specs.declared.turns.Went.{Went}
 
-pub came : {next : Next} {d : Call} {xs ls xs' ls' : List ℕ} {a : Answer} {w : Went}
-    → next ≡ Next.Turn d → FormedStep d xs ls xs' ls' a → w ≡ went_by a
+pub came : {next : Option Call} {d : Call} {xs ls xs' ls' : List ℕ} {a : Answer} {w : Went}
+    → next ≡ Some d → FormedStep d xs ls xs' ls' a → w ≡ went_by a
     → Took w next xs ls xs' ls'
 came {next} {d} {xs} {ls} {xs'} {ls'} {a} {w} e f q =
     subst (λ (v : Went). Took v next xs ls xs' ls') (sym q) (go a f)

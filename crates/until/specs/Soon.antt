@@ -5,7 +5,7 @@ use Rattle.rules.specs.Site.{is_box}
 use Rattle.rules.specs.declared.model.Answer.{Answer}
 use Rattle.rules.specs.declared.model.Call.{Call}
 use Rattle.wait.specs.Wait.{Usable, most_steps}
-use Rattle.wait.specs.declared.model.Next.{Next}
+use Rattle.std.specs.Prelude.{None}
 use Rattle.wait.specs.declared.model.Run.{Run}
 use Rattle.memory.specs.Memory.{site_of}
 use Rattle.site.specs.Entries.{After, step_on}
@@ -28,7 +28,7 @@ pub record EndsUsable (xs ls zs ns : List ℕ) (c : ℕ) (r : Run) : Type 0 wher
   pub used : ℕ
   pub few : used ≤ most xs ls
   pub ran : r ≡ Run.Ran used
-  pub over : next_on zs ns ≡ Next.Nothing
+  pub over : next_on zs ns ≡ None
   pub usable : Usable c (site_of zs ns)
 
 -- of all words on which an Elect is done

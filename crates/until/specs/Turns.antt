@@ -10,12 +10,13 @@ use Rattle.rules.specs.declared.model.Call.{Call}
 use Rattle.rules.specs.declared.model.Phase.{Phase}
 use Rattle.rules.specs.declared.model.Setting.{Setting}
 use Rattle.wait.specs.Run.{first_of, receiver_of, sender_of, ended, run_from}
-use Rattle.wait.specs.declared.model.Next.{Next}
+use Rattle.std.specs.Prelude.{Option, Some, None, Result, Ok, Err}
 use Rattle.wait.specs.declared.model.Run.{Run}
 use Rattle.memory.specs.Memory.{past_site, past_links, site_of, memory_form}
 use Rattle.memory.specs.After.{boxes_of, links_of}
 use Rattle.site.specs.Entries.{FormedStep}
 use Rattle.until.specs.declared.turns.Handed.{Handed}
+use Rattle.until.specs.declared.turns.Stop.{Stop}
 use Rattle.until.specs.declared.turns.Went.{Went}
 
 -- ---- the first link that holds mail, and the leader, in the words
@@ -35,10 +36,10 @@ leader_in s xs = first_of s.n (λ b. (boxes_of s xs b).head.leads)
 -- ---- a mail's turn and a leader's
 
 -- the head of the first such link
-unfoldable pub mail_turn : Site → Next
+unfoldable pub mail_turn : Site → Option Call
 mail_turn s =
-    pick (eqb (sender_of s) 0) Next.Nothing
-    (Next.Turn (Call.Deliver (sender_of s) (receiver_of s (sender_of s))))
+    pick (eqb (sender_of s) 0) None
+    (Some (Call.Deliver (sender_of s) (receiver_of s (sender_of s))))
 
 -- the one step that a leader can have in a phase; in LeaseDone it has none, and heard is refused
 abbrev pub act_in : Phase → Act
@@ -67,13 +68,13 @@ went_by (Answer.Discarded why) = Went.Played
 went_by (Answer.Refused why) = Went.Refused why
 
 -- a turn on words by form: there was none, it was done, or it was refused
-abbrev pub Took : Went → Next → List ℕ → List ℕ → List ℕ → List ℕ → Type 0
-Took Went.Nothing next xs ls xs' ls' = (next ≡ Next.Nothing) × ((xs' ≡ xs) × (ls' ≡ ls))
+abbrev pub Took : Went → Option Call → List ℕ → List ℕ → List ℕ → List ℕ → Type 0
+Took Went.Nothing next xs ls xs' ls' = (next ≡ None) × ((xs' ≡ xs) × (ls' ≡ ls))
 Took Went.Played next xs ls xs' ls' =
-    (d : Call) × (a : Answer) × (next ≡ Next.Turn d) × (is_refusal a ≡ false)
+    (d : Call) × (a : Answer) × (next ≡ Some d) × (is_refusal a ≡ false)
     × FormedStep d xs ls xs' ls' a
 Took (Went.Refused why) next xs ls xs' ls' =
-    (d : Call) × (next ≡ Next.Turn d) × FormedStep d xs ls xs' ls' (Answer.Refused why)
+    (d : Call) × (next ≡ Some d) × FormedStep d xs ls xs' ls' (Answer.Refused why)
 
 -- ---- several turns
 
@@ -111,8 +112,8 @@ pub record RanOn (left used : ℕ) (xs ls xs' ls' : List ℕ) (r : Run) : Type 0
   pub counts : UsedIs r used'
 
 -- heads were handed over: one was refused, or none is left, or no step is
-abbrev pub HandedIs : Handed → ℕ → ℕ → List ℕ → List ℕ → List ℕ → List ℕ → Type 0
-HandedIs (Handed.Stopped why u) left used xs ls xs' ls' =
-    RanOn left used xs ls xs' ls' (Run.Stopped why u)
-HandedIs (Handed.On l u) left used xs ls xs' ls' =
-    Gone left used xs ls l u xs' ls' × (0 < l → sender_of (site_of xs' ls') ≡ 0)
+abbrev pub HandedIs : Result Handed Stop → ℕ → ℕ → List ℕ → List ℕ → List ℕ → List ℕ → Type 0
+HandedIs (Err s) left used xs ls xs' ls' =
+    RanOn left used xs ls xs' ls' (Run.Stopped s.why s.used)
+HandedIs (Ok h) left used xs ls xs' ls' =
+    Gone left used xs ls h.left h.used xs' ls' × (0 < h.left → sender_of (site_of xs' ls') ≡ 0)

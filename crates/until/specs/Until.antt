@@ -4,9 +4,10 @@ use Rattle.rules.specs.Sizes.{even}
 use Rattle.rules.specs.Site.{Site}
 use Rattle.rules.specs.Form.{form}
 use Rattle.rules.specs.Needs.{need, ruled}
+use Rattle.rules.specs.declared.model.Call.{Call}
 use Rattle.rules.specs.declared.model.Refusal.{Refusal}
 use Rattle.wait.specs.Run.{Outcome, ended, next_turn, run_of}
-use Rattle.wait.specs.declared.model.Next.{Next}
+use Rattle.std.specs.Prelude.{Option, None}
 use Rattle.wait.specs.declared.model.Run.{Run}
 use Rattle.memory.specs.Memory.{past_site, past_links, site_of, readable, memory_form}
 
@@ -36,16 +37,16 @@ run_on xs ls steps =
     (ended (site_of xs ls) (Run.Refused Refusal.Form))
 
 -- what a run would do next: nothing where it would be refused
-unfoldable pub next_of : Site → Next
+unfoldable pub next_of : Site → Option Call
 next_of s =
-    ruled (λ why. Next.Nothing)
+    ruled (λ why. None)
     (need Refusal.Form (form s)
     ∷ need Refusal.Condition (even s.epoch)
     ∷ [])
     (next_turn s)
 
-unfoldable pub next_on : List ℕ → List ℕ → Next
-next_on xs ls = cond (readable xs ls) (next_of (site_of xs ls)) Next.Nothing
+unfoldable pub next_on : List ℕ → List ℕ → Option Call
+next_on xs ls = cond (readable xs ls) (next_of (site_of xs ls)) None
 
 -- a run on words by form, which stay by form
 pub record FormedRun (steps : ℕ) (xs ls xs' ls' : List ℕ) (r : Run) : Type 0 where

@@ -7,9 +7,9 @@ ghost use Rattle.until.specs.Until.{RunAfter, FormedRun, run_on, next_of, next_o
 ghost use Rattle.until.specs.Turns.{RanOn};
 
 use crate::{leader, mail, turns};
-use rules::model::Refusal;
+use rules::model::{Call, Refusal};
 use rules::sets;
-use wait::model::{Next, Run};
+use wait::model::Run;
 
 fn go_on(site: &mut [u64], links: &mut [u64], steps: u32) -> Run
     requires { memory_form site.old links.old ≡ true }
@@ -47,33 +47,33 @@ pub fn run(site: &mut [u64], links: &mut [u64], steps: u32) -> Run
     Run::Refused(Refusal::Form)
 }
 
-fn next(site: &[u64], links: &[u64]) -> Next
+fn next(site: &[u64], links: &[u64]) -> Option<Call>
     requires { memory_form site.now links.now ≡ true }
     ensures { result ≡ next_turn (site_of site.now links.now) }
 {
     match mail::mail_next(site, links) {
-        Next::Nothing => leader::leader_next(site, links),
-        Next::Turn(call) => Next::Turn(call),
+        None => leader::leader_next(site, links),
+        Some(call) => Some(call),
     }
 }
 
-fn next_formed(site: &[u64], links: &[u64]) -> Next
+fn next_formed(site: &[u64], links: &[u64]) -> Option<Call>
     requires { memory_form site.now links.now ≡ true }
     ensures { result ≡ next_of (site_of site.now links.now) }
 {
     let s = memory::setting_of(site, 0);
     if !sets::is_even(s.epoch) {
-        return Next::Nothing;
+        return None;
     }
     next(site, links)
 }
 
 // What a run on any words would do next: nothing where it would be refused.
-pub fn next_turn(site: &[u64], links: &[u64]) -> Next
+pub fn next_turn(site: &[u64], links: &[u64]) -> Option<Call>
     ensures { result ≡ next_on site.now links.now }
 {
     if memory::is_by_form(site, links) {
         return next_formed(site, links);
     }
-    Next::Nothing
+    None
 }

@@ -8,7 +8,6 @@ ghost use Rattle.until.specs.Turns.{leader_in, act_in, call_in};
 
 use rules::model::{Act, Answer, Call, Phase, Setting};
 use rules::numbers;
-use wait::model::Next;
 
 fn leads(site: &[u64], s: Setting, b: u32) -> bool
     requires rows_lent { RowsLent s site.now }
@@ -24,9 +23,7 @@ fn leader(site: &[u64], s: Setting) -> u32
     requires { RowsLent s site.now }
     ensures { result ≡ leader_in s site.now }
 {
-    let mut b = 0;
-    while b < s.n {
-        b += 1;
+    for b in 1..=s.n {
         if leads(site, s, b) {
             return b;
         }
@@ -93,21 +90,21 @@ fn is_possible(a: Answer) -> bool
 }
 
 // The leader's step that is next, if one is possible.
-pub(crate) fn leader_next(site: &[u64], links: &[u64]) -> Next
+pub(crate) fn leader_next(site: &[u64], links: &[u64]) -> Option<Call>
     requires { memory_form site.now links.now ≡ true }
     ensures { result ≡ leader_turn (site_of site.now links.now) }
 {
     let g = memory::setting_of(site, 0);
     let c = leader(site, g);
     if c == 0 {
-        return Next::Nothing;
+        return None;
     }
     let s = memory::setting_of(site, c);
     let p = phase(site, s);
     let t = memory::act_turn(site, s, act_in(p));
     let answer = t.answer;
     if is_possible(answer) {
-        return Next::Turn(call_in(p, c));
+        return Some(call_in(p, c));
     }
-    Next::Nothing
+    None
 }

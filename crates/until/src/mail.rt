@@ -7,7 +7,6 @@ ghost use Rattle.memory.specs.After.{LinksLent};
 ghost use Rattle.until.specs.Turns.{mail_on, receiver_in, sender_in, mail_turn};
 
 use rules::model::{Call, Setting};
-use wait::model::Next;
 
 fn holds_mail(links: &[u64], s: Setting, a: u32, b: u32) -> bool
     requires links_lent { LinksLent s links.now }
@@ -27,9 +26,7 @@ fn first_receiver(links: &[u64], s: Setting, a: u32) -> u32
     requires a_value { is_box s.n a ≡ true }
     ensures { result ≡ receiver_in s links.now a }
 {
-    let mut b = 0;
-    while b < s.n {
-        b += 1;
+    for b in 1..=s.n {
         if holds_mail(links, s, a, b) {
             return b;
         }
@@ -42,9 +39,7 @@ fn first_sender(links: &[u64], s: Setting) -> u32
     requires { LinksLent s links.now }
     ensures { result ≡ sender_in s links.now }
 {
-    let mut a = 0;
-    while a < s.n {
-        a += 1;
+    for a in 1..=s.n {
         let b = first_receiver(links, s, a);
         if 0 < b {
             return a;
@@ -63,15 +58,15 @@ pub(crate) fn sender(site: &[u64], links: &[u64]) -> u32
 }
 
 // The mail that is next, if any link holds one.
-pub(crate) fn mail_next(site: &[u64], links: &[u64]) -> Next
+pub(crate) fn mail_next(site: &[u64], links: &[u64]) -> Option<Call>
     requires { memory_form site.now links.now ≡ true }
     ensures { result ≡ mail_turn (site_of site.now links.now) }
 {
     let s = memory::setting_of(site, 0);
     let a = first_sender(links, s);
     if a == 0 {
-        return Next::Nothing;
+        return None;
     }
     let b = first_receiver(links, s, a);
-    Next::Turn(Call::Deliver(a, b))
+    Some(Call::Deliver(a, b))
 }

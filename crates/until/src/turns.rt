@@ -5,10 +5,11 @@ ghost use Rattle.memory.specs.Memory.{site_of, memory_form};
 ghost use Rattle.until.specs.Turns.{went_by, Took, RanOn, HandedIs};
 
 use crate::{leader, mail};
-use rules::model::{Answer, Refusal};
-use wait::model::{Next, Run};
+use rules::model::{Answer, Call, Refusal};
+use wait::model::Run;
 
-// What came of a turn: there was none, it was done or the mail discarded, or it was refused.
+// What came of a turn: there was none, it was done or the mail discarded, or it was refused. A
+// Result of a flag would not say the three more plainly.
 #[derive(Clone, Copy)]
 pub enum Went {
     Nothing,
@@ -16,12 +17,18 @@ pub enum Went {
     Refused(Refusal),
 }
 
-// What came of handing over: a mail was refused after so many steps, or so many are left and so
-// many used.
+// Heads were handed over: so many steps are left, and so many used.
 #[derive(Clone, Copy)]
-pub enum Handed {
-    Stopped(Refusal, u32),
-    On(u32, u32),
+pub struct Handed {
+    pub left: u32,
+    pub used: u32,
+}
+
+// A mail was refused after so many steps.
+#[derive(Clone, Copy)]
+pub struct Stop {
+    pub why: Refusal,
+    pub used: u32,
 }
 
 fn came_of(a: Answer) -> Went
@@ -35,42 +42,37 @@ fn came_of(a: Answer) -> Went
     }
 }
 
-fn take(site: &mut [u64], links: &mut [u64], next: Next) -> Went
+fn take(site: &mut [u64], links: &mut [u64], next: Option<Call>) -> Went
     requires { memory_form site.old links.old ≡ true }
     ensures { Took result next site.old links.old site.new
         links.new }
 {
     match next {
-        Next::Nothing => Went::Nothing,
-        Next::Turn(call) => came_of(site::step_formed(site, links, call)),
+        None => Went::Nothing,
+        Some(call) => came_of(site::step_formed(site, links, call)),
     }
 }
 
 // Hands over the head of the first link that holds mail, while there is one and steps are left.
-fn hand_over(site: &mut [u64], links: &mut [u64], left: u32, used: u32) -> Handed
+fn hand_over(site: &mut [u64], links: &mut [u64], left: u32, used: u32) -> Result<Handed, Stop>
     requires links_value { memory_form site.old links.old ≡ true }
     requires used_bound { left + used < 2 ^ 32 }
     ensures { HandedIs result left used site.old links.old site.new
         links.new }
 {
-    let mut l = left;
-    let mut u = used;
-    while 0 < l {
+    let end = left + used;
+    for u in used..end {
         let next = mail::mail_next(site, links);
         match take(site, links, next) {
-            Went::Nothing => {
-                return Handed::On(l, u);
-            }
-            Went::Played => {
-                l -= 1;
-                u += 1;
-            }
-            Went::Refused(why) => {
-                return Handed::Stopped(why, u);
-            }
+            Went::Nothing => return Ok(Handed {
+                left: end - u,
+                used: u,
+            }),
+            Went::Played => {}
+            Went::Refused(why) => return Err(Stop { why, used: u }),
         }
     }
-    Handed::On(l, u)
+    Ok(Handed { left: 0, used: end })
 }
 
 // The mail turns: some link holds mail.
@@ -86,8 +88,8 @@ pub(crate) fn mail_turns(site: &mut [u64], links: &mut [u64], left: u32, used: u
         return Run::Ran(used);
     }
     match hand_over(site, links, left, used) {
-        Handed::Stopped(why, u) => Run::Stopped(why, u),
-        Handed::On(l, u) => leader_turns(site, links, l, u),
+        Err(stop) => Run::Stopped(stop.why, stop.used),
+        Ok(on) => leader_turns(site, links, on.left, on.used),
     }
 }
 

@@ -6,6 +6,7 @@ use Prim.Native.Nat.{ℕ, zero, suc, ◌+◌, ◌≤◌, ◌<◌}
 use native.Mathlib.Numerals.{add-one}
 use lib.ListN.{length, take, drop, get_or, drop_of_length-le}
 use lib.Seq.{drop-cons}
+use Rattle.std.specs.List.{list_all}
 use Rattle.rules.specs.Every.{all, each}
 use Rattle.rules.proofs.BoundLaws.{first-of, second-of}
 
@@ -37,6 +38,12 @@ unfolding all
 two-last xs ys true true = rw (all_append xs ys, and-true, and-true)
 two-last xs ys true false = rw (and-false, and-false)
 two-last xs ys false e = rw (and-false, and-false)
+
+-- The library's word for each element of a list.
+pub each_all : {A : Type 0} (p : A → Bool) (xs : List A) → list_all p xs ≡ each p xs
+unfolding each
+each_all p [] = refl
+each_all p (x ∷ xs) = ap (λ (b : Bool). p x && b) (each_all p xs)
 
 -- ---- each element of a list: a scan of xs that is at its element i, on which the test says t
 

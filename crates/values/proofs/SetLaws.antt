@@ -1,8 +1,11 @@
 -- A set of boxes 1 to n as a word: digit by digit, and how large it is.
-use mathlib.Core.Path.{◌≡◌, sym, ap, ◌∙◌}
+use mathlib.Core.Path.{◌≡◌, refl, sym, ap, ◌∙◌}
 use mathlib.Core.Bool.{true}
-use Prim.Native.Nat.{ℕ, zero, suc, ◌+◌, ◌-◌, ◌/◌, ◌^◌, ◌≤◌, ◌<◌}
-use native.Mathlib.Nat.{div-lt_iff_lt-mul, lt_of_lt_of_le, pow-suc}
+use Prim.Native.Nat.{ℕ, zero, suc, ◌/◌, ◌^◌, ◌≤◌, ◌<◌}
+use native.Mathlib.Nat.{div-lt_iff_lt-mul, lt_of_lt_of_le, pow-suc, pow-succ', div-one}
+use native.Mathlib.Nat.{div-div-eq-div-mul, div-eq_of_lt}
+use Rattle.std.specs.Option.{SomeIff, unwrap_or}
+use Rattle.std.proofs.Common.{Option, Some, None}
 use native.Mathlib.Omega.{arith}
 use lib.Dec.{eqb}
 use lib.Pow.{pow_mono}
@@ -10,25 +13,22 @@ use borrow.Author.Tests.{eqb-true}
 use Rattle.rules.specs.Sizes.{most_boxes}
 use Rattle.rules.specs.Sets.{set_form}
 
--- All digits are still there.
-pub set-start : (n w : ℕ) → set_form n w ≡ set_form (n - 0) w
-set-start n w = let whole : n ≡ n - 0 = omega arith in ap (λ (m : ℕ). set_form m w) whole
-
--- One digit less, of one box less.
-pub set_more : (n k w rest : ℕ) → k < n → set_form n w ≡ set_form (n - k) rest
-    → set_form n w ≡ set_form (n - (k + 1)) (rest / 2)
+-- No digit is left where 2 to the power of n goes in no time ..
+set-shift : (n w : ℕ) → eqb (w / 2 ^ n) 0 ≡ set_form n w
 unfolding set_form
-set_more n k w rest h e =
-    let left : n - k ≡ suc (n - (k + 1)) = omega arith in
-    e ∙ ap (λ (m : ℕ). set_form m rest) left
+set-shift zero w = ap (λ (v : ℕ). eqb v 0) (div-one w)
+set-shift (suc n) w =
+    let halves : w / 2 ^ suc n ≡ w / 2 / 2 ^ n = rw (pow-succ', div-div-eq-div-mul) refl in
+    ap (λ (v : ℕ). eqb v 0) halves ∙ set-shift n (w / 2)
 
--- No digit is left.
-pub set-end : (n k w rest : ℕ) → n ≤ k → set_form n w ≡ set_form (n - k) rest
-    → eqb rest 0 ≡ set_form n w
-unfolding set_form
-set-end n k w rest h e =
-    let none : n - k ≡ zero = omega arith in
-    sym (e ∙ ap (λ (m : ℕ). set_form m rest) none)
+-- .. and of a word none is left after 64.
+pub set-shifted : (n w : ℕ) (r : Option ℕ) → w < 2 ^ 64 → SomeIff r (n < 64) (w / 2 ^ n)
+    → eqb (unwrap_or r 0) 0 ≡ set_form n w
+set-shifted n w (Some x) h s = ap (λ (v : ℕ). eqb v 0) s.1 ∙ set-shift n w
+set-shifted n w None h s =
+    let most : 2 ^ 64 ≤ 2 ^ n = pow_mono {i = 64} {j = n} (omega (arith, s)) in
+    let none : w / 2 ^ n ≡ 0 = div-eq_of_lt (lt_of_lt_of_le h most) in
+    ap (λ (v : ℕ). eqb v 0) (sym none) ∙ set-shift n w
 
 -- It is less than 2 to the power of n ..
 set_lt : (n w : ℕ) → set_form n w ≡ true → w < 2 ^ n

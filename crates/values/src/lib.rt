@@ -8,9 +8,6 @@ ghost use Rattle.rules.specs.Sets.{set_form};
 ghost use Rattle.rules.specs.Box.{held_at};
 ghost use Rattle.rules.specs.Form.{first_form};
 ghost use Rattle.values.specs.Counts.{count_of, agreed_count, full_count, held_count};
-ghost use Rattle.values.specs.declared.Fault.{Fault};
-
-use rules::model::Held;
 
 // The fields of a box and of a mail.
 #[derive(Clone, Copy)]
@@ -43,21 +40,14 @@ pub const MOST_PN: u64 = 999999999;
 // The largest load number.
 pub const MOST_NUMBER: u64 = 1000000000;
 
-// The first field that is not by form.
-#[derive(Clone, Copy)]
-pub enum Fault {
-    None,
-    At(Field),
-}
-
-// A field that is by form leaves the fault of those behind it, if there is one.
-pub fn unless(formed: bool, field: Field, rest: Fault) -> Fault
-    ensures { result ≡ cond formed rest (Fault.At field) }
+// The first field that is not by form: one that is leaves what is said of those behind it.
+pub fn unless(formed: bool, field: Field, rest: Option<Field>) -> Option<Field>
+    ensures { result ≡ cond formed rest (Some field) }
 {
-    if formed { rest } else { Fault::At(field) }
+    if formed { rest } else { Some(field) }
 }
 
-// A word that holds a 32-bit number.
+// A word that holds a 32-bit number: the caller knows it, and a try_from would ask once more.
 pub fn number(x: u64) -> u32
     requires { x < 2 ^ 32 }
     ensures { result ≡ x }
@@ -65,14 +55,9 @@ pub fn number(x: u64) -> u32
     x as u32
 }
 
-// A 32-bit number as a word.
-pub fn wide(x: u32) -> u64
-    ensures { result ≡ x }
-{
-    x as u64
-}
-
-// Both frame numbers are at least 1; a word holds none above 4,294,967,295.
+// Both frame numbers are at least 1; a word holds none above 4,294,967,295. The two divisions are
+// the
+// paper's own words for a record's frames: a name for each would be no plainer.
 pub fn is_proper(x: u64) -> bool
     ensures { result ≡ proper x }
 {
@@ -82,14 +67,7 @@ pub fn is_proper(x: u64) -> bool
 pub fn all_proper(records: &[u64]) -> bool
     ensures { result ≡ each proper records.now }
 {
-    let mut i = 0;
-    while i < records.len() {
-        if !is_proper(records[i]) {
-            return false;
-        }
-        i += 1;
-    }
-    true
+    records.iter().all(|x| is_proper(*x))
 }
 
 pub fn is_record(x: u64) -> bool
@@ -99,14 +77,10 @@ pub fn is_record(x: u64) -> bool
     (x == 0) | proper
 }
 
-pub fn held_at(records: &[u64], l: u32) -> Held
+pub fn held_at(records: &[u64], l: u32) -> Option<u64>
     ensures { result ≡ held_at records.now l }
 {
-    let i = l as usize;
-    if i < records.len() {
-        return Held::Record(records[i]);
-    }
-    Held::Nothing
+    records.get(l as usize).copied()
 }
 
 pub fn is_first(first: u64, last: u64) -> bool
@@ -158,11 +132,5 @@ pub fn is_count(j: u32, first: u64, last: u64, count: u64) -> bool
 pub fn is_set(n: u32, w: u64) -> bool
     ensures { result ≡ set_form n w }
 {
-    let mut k = 0;
-    let mut rest = w;
-    while k < n {
-        rest = rest / 2;
-        k += 1;
-    }
-    rest == 0
+    w.checked_shr(n).unwrap_or(0) == 0
 }

@@ -5,6 +5,7 @@ use mathlib.Core.Bool.{true}
 use mathlib.Core.List.{[]}
 use native.Mathlib.Omega.{arith}
 use native.Mathlib.Nat.{mul-le-mul_right}
+use Rattle.std.specs.Prelude.{Option, Some, None}
 use Rattle.rules.specs.Sizes.{most_boxes}
 use Rattle.rules.specs.Sets.{has}
 use Rattle.rules.specs.Parts.{span, room_next}
@@ -12,7 +13,7 @@ use Rattle.rules.specs.NewPn.{new_pn}
 use Rattle.rules.specs.Steps.{acted, best_held}
 use Rattle.rules.specs.Box.{Box, own, mine, turn_of, written}
 use Rattle.rules.specs.Site.{Site, setting}
-use Rattle.laws.proofs.Types.{Act, Held, Kept, Phase, State}
+use Rattle.laws.proofs.Types.{Act, Kept, Phase, State}
 use Rattle.laws.proofs.Logic.{In, nil}
 use Rattle.laws.proofs.Conditions.{has-previous}
 use Rattle.laws.proofs.SetLaws.{bit_is}
@@ -25,10 +26,10 @@ use Rattle.wait.proofs.Verdicts.{room-made, recover-turn, own-collect-turn}
 use Rattle.wait.proofs.Quiet.{has-self, has-not, peer-unknown, few, to-others, sends}
 
 -- the best that Collect begins with is of no number above last+1 ..
-best-number : (k : Kept) (h : Held) → (best_held k h).number ≤ k.last + 1
+best-number : (k : Kept) (h : Option ℕ) → (best_held k h).number ≤ k.last + 1
 unfolding best_held
-best-number k (Held.Record r) = omega arith
-best-number k Held.Nothing = omega arith
+best-number k (Some r) = omega arith
+best-number k None = omega arith
 
 -- .. and where last+1 is held there is room for it
 held-room : {J f l n : ℕ} → FormedFirst f l → HeldCount J f l n → span f l < n
@@ -77,7 +78,7 @@ module _ (s : Site) (c : ℕ) (X : Box) (box : ℕ → Box) (time : Time s c)
       → room_next s.J (first X) (last X) ≡ true
   unfolding best_held
   best-room =
-      held_elim (λ (h : Held). (best_held X.head.kept h).number ≡ last X + 1
+      held_elim (λ (h : Option ℕ). (best_held X.head.kept h).number ≡ last X + 1
       → room_next s.J (first X) (last X) ≡ true)
       X.records (span (first X) (last X))
       (λ h e. held-room form.first form.held h)

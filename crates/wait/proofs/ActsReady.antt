@@ -5,11 +5,12 @@ use mathlib.Core.Bool.{true, false}
 use mathlib.Core.List.{List, [], ◌∷◌, ◌++◌}
 use native.Mathlib.Omega.{arith}
 use lib.ListN.{length, take, drop}
-use Rattle.rules.specs.Parts.{all_unknown, is_held, span}
+use Rattle.std.specs.Prelude.{Option, is_some}
+use Rattle.rules.specs.Parts.{all_unknown, span}
 use Rattle.rules.specs.Steps.{acted, started, has_previous}
 use Rattle.rules.specs.Box.{Box, held_at, own, turn_of, written}
 use Rattle.rules.specs.Site.{Site, setting}
-use Rattle.laws.proofs.Types.{Act, Held, Phase}
+use Rattle.laws.proofs.Types.{Act, Phase}
 use Rattle.laws.proofs.Logic.{Or, left, right, decide}
 use Rattle.laws.proofs.FormLaws.{FormedBox, FormedFirst, HeldCount}
 use Rattle.laws.proofs.View.{held_elim, front-all}
@@ -19,14 +20,13 @@ use Rattle.wait.proofs.Verdicts.{start-turn, lead-turn}
 use Rattle.wait.proofs.Quiet.{Asked, Stand, has-self, few, all-present, to-others, sends}
 use Rattle.wait.proofs.ActsRest.{leases}
 
-held-made : (rs : List ℕ) (l : ℕ) → l < length rs → is_held (held_at rs l) ≡ true
-unfolding is_held
+held-made : (rs : List ℕ) (l : ℕ) → l < length rs → is_some (held_at rs l) ≡ true
 held-made rs l h =
-    held_elim (λ (h : Held). is_held h ≡ true) rs l (λ g. refl) (λ g. absurd (omega arith))
+    held_elim (λ (h : Option ℕ). is_some h ≡ true) rs l (λ g. refl) (λ g. absurd (omega arith))
 
 -- a record that is written at last+1 is held there
 put-held : {J f l : ℕ} (rs : List ℕ) (r : ℕ) → FormedFirst f l → HeldCount J f l (length rs)
-    → is_held (held_at (drop 0 (take (span f l) rs) ++ (r ∷ [])) (span f l)) ≡ true
+    → is_some (held_at (drop 0 (take (span f l) rs) ++ (r ∷ [])) (span f l)) ≡ true
 put-held {J} {f} {l} rs r p h =
     held-made _ (span f l)
     (omega (arith, front-all f l 0 f rs (r ∷ []) (omega arith) (omega (arith, p.top)) h.all))

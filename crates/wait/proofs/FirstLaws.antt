@@ -15,7 +15,7 @@ use Rattle.laws.proofs.Logic.{Or, left, right, In, both-no, eqb_no, same?, below
 use Rattle.laws.proofs.Logic.{and_yes, and_both}
 use Rattle.laws.proofs.Counts.{in_up, in_top, in_down}
 use Rattle.wait.specs.Run.{first_of, holds_mail, receiver_of, sender_of, leader_turn, next_turn}
-use Rattle.wait.specs.declared.model.Next.{Next}
+use Rattle.std.specs.Prelude.{Some}
 use Rattle.wait.proofs.Going.{Ahead, mail, quiet}
 
 -- ---- the first that passes
@@ -128,7 +128,7 @@ module _ (s : Site) where
   sender-says = first_says s.n (λ a. ltb 0 (receiver_of s a))
 
   pub next-mail : (sender_of s ≡ 0 → ⊥)
-      → next_turn s ≡ Next.Turn (Call.Deliver (sender_of s) (receiver_of s (sender_of s)))
+      → next_turn s ≡ Some (Call.Deliver (sender_of s) (receiver_of s (sender_of s)))
   unfolding next_turn
   next-mail h = pick-false _ _ _ (ne_eqb (sender_of s) 0 h)
 

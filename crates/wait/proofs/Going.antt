@@ -15,7 +15,7 @@ use Rattle.laws.proofs.Types.{Act, Answer, Call, Phase, State}
 use Rattle.laws.proofs.Logic.{In, Or}
 use Rattle.laws.proofs.FormLaws.{Formed}
 use Rattle.wait.specs.Run.{leader_turn, next_turn, run_from}
-use Rattle.wait.specs.declared.model.Next.{Next}
+use Rattle.std.specs.Prelude.{Some, None}
 use Rattle.wait.specs.declared.model.Run.{Run}
 use Rattle.wait.proofs.Stages.{Time, Other, Between, Leading, StepOf, pn, phase, state}
 use Rattle.wait.proofs.Stages.{others#, load, ahead_of}
@@ -63,7 +63,7 @@ left_to_do c s =
 
 pub data Ahead (s : Site) : Type 0 where
   mail : (a b : ℕ) (y : Letter) (ys : List Letter) → In a s.n → In b s.n → (a ≡ b → ⊥)
-      → s.link a b ≡ y ∷ ys → next_turn s ≡ Next.Turn (Call.Deliver a b) → Ahead s
+      → s.link a b ≡ y ∷ ys → next_turn s ≡ Some (Call.Deliver a b) → Ahead s
   quiet : ((a b : ℕ) → In a s.n → In b s.n → (a ≡ b → ⊥) → s.link a b ≡ [])
       → next_turn s ≡ leader_turn s → Ahead s
 
@@ -72,17 +72,17 @@ pub record Firsts : Type 0 where
   -- the leader's step of its phase, where it is done
   pub leader : (s : Site) (c : ℕ) (a : Act) (d : Call) → Formed s → In c s.n
       → (s.box c).head.leads ≡ true → StepOf c (phase (s.box c)) a d
-      → (step s d).answer ≡ Answer.Done → leader_turn s ≡ Next.Turn d
+      → (step s d).answer ≡ Answer.Done → leader_turn s ≡ Some d
   -- no step where the lease is done, or the leader is alone
   pub none : (s : Site) (c : ℕ) → Formed s → In c s.n → (s.box c).head.leads ≡ true
       → Or (phase (s.box c) ≡ Phase.LeaseDone)
       ((phase (s.box c) ≡ Phase.Election) × (state (s.box c) ≡ State.Active))
-      → leader_turn s ≡ Next.Nothing
+      → leader_turn s ≡ None
 
 -- what a step of a run comes to, where P holds at each and f is what is left
 pub data Goes_on (P : Site → Type 0) (f : Site → ℕ) (Q : Site → Type 0) (s : Site) : Type 0 where
-  over : next_turn s ≡ Next.Nothing → Q s → Goes_on P f Q s
-  on : (d : Call) → next_turn s ≡ Next.Turn d → is_refusal (step s d).answer ≡ false
+  over : next_turn s ≡ None → Q s → Goes_on P f Q s
+  on : (d : Call) → next_turn s ≡ Some d → is_refusal (step s d).answer ≡ false
       → P (step s d).next → f (step s d).next < f s → Goes_on P f Q s
 
 -- how a run ends that has so many steps left and has used some
@@ -90,5 +90,5 @@ pub record Ends (Q : Site → Type 0) (left used most : ℕ) (s : Site) : Type 0
   pub steps : ℕ
   pub few : steps ≤ used + most
   pub ran : (run_from left used s).answer ≡ Run.Ran steps
-  pub over : next_turn (run_from left used s).next ≡ Next.Nothing
+  pub over : next_turn (run_from left used s).next ≡ None
   pub reached : Q (run_from left used s).next

@@ -8,11 +8,12 @@ use native.Mathlib.Omega.{arith}
 use lib.Dec.{eqb, leb}
 use lib.ListN.{length}
 use borrow.Author.Tests.{leb-true, leb-false, le-leb, lt-ltb}
+use Rattle.std.specs.Prelude.{Option}
 use Rattle.rules.specs.Sizes.{most_number}
 use Rattle.rules.specs.Parts.{span, room_next, none, cleared}
 use Rattle.rules.specs.Last.{improves, bettered}
 use Rattle.rules.specs.Box.{held_at}
-use Rattle.laws.proofs.Types.{Best, Held, Mail}
+use Rattle.laws.proofs.Types.{Best, Mail}
 use Rattle.laws.proofs.Logic.{and_yes, and3, and_both, eqb_yes, pick_elim}
 use Rattle.laws.proofs.FormLaws.{FormedLast}
 use Rattle.laws.proofs.View.{held_elim}
@@ -67,7 +68,7 @@ module _ (J first low last now : ℕ) (B : Best) (first-up : first ≤ low) (las
       → BestFits J low now (bettered now B m (held_at ms (span m.first m.last)))
   unfolding bettered improves
   bettered-fits m ms form first-in last-in =
-      held_elim (λ (h : Held). BestFits J low now (bettered now B m h)) ms
+      held_elim (λ (h : Option ℕ). BestFits J low now (bettered now B m h)) ms
       (span m.first m.last)
       (λ h. pick_elim (BestFits J low now) (improves now B m)
       (λ e. becomes h (leb-true now m.last (and3 (leb now m.last) _ _ e).0))

@@ -7,6 +7,7 @@ use mathlib.Core.List.{List, [], ◌∷◌}
 use native.Mathlib.Omega.{arith}
 use lib.ListN.{length, get_or}
 use borrow.Author.Tests.{ne_eqb, eq-eqb}
+use Rattle.std.specs.Prelude.{Option}
 use Rattle.rules.specs.Pick.{pick, pick_true, pick-false}
 use Rattle.rules.specs.Numbers.{phase_number, state_number}
 use Rattle.rules.specs.Turns.{unless, settled}
@@ -17,7 +18,7 @@ use Rattle.rules.specs.Site.{Site, Outcome, is_box, setting, room}
 use Rattle.rules.specs.Form.{form}
 use Rattle.rules.specs.Needs.{ruled}
 use Rattle.rules.specs.Step.{step, acting, refused, at_box, by_answer, by_turn}
-use Rattle.laws.proofs.Types.{Act, Answer, BoxState, Call, Held, Phase, Refusal, Setting, State}
+use Rattle.laws.proofs.Types.{Act, Answer, BoxState, Call, Phase, Refusal, Setting, State}
 use Rattle.laws.proofs.Types.{Turn, Verdict}
 use Rattle.laws.proofs.Logic.{Or, left, right, In, both-no, decide, same?, cond_elim}
 use Rattle.laws.proofs.FormLaws.{Formed, form-made, box-is}
@@ -26,7 +27,7 @@ use Rattle.laws.proofs.Conditions.{can-heard}
 use Rattle.wait.specs.Run.{leader_of, leader_calls, is_possible, possible, first_possible}
 use Rattle.wait.specs.Run.{leader_turn}
 use Rattle.wait.specs.Wait.{PossibleAt}
-use Rattle.wait.specs.declared.model.Next.{Next}
+use Rattle.std.specs.Prelude.{Some, None}
 use Rattle.wait.proofs.Stages.{StepOf, phase, state}
 use Rattle.wait.proofs.Going.{Firsts}
 use Rattle.wait.proofs.FirstLaws.{first-only, first-is, none, look}
@@ -66,7 +67,7 @@ refuses t why b v u e = rw (pick-false t v (Verdict.Refuse why) e) refl
 
 unfoldable pub condition : {c : ℕ} {p : Phase} {a : Act} {d : Call} → StepOf c p a d → BoxState
     → Setting
-    → Held → Bool
+    → Option ℕ → Bool
 condition StepOf.recover b s m = can_recover b s
 condition StepOf.collect b s m = can_collect b s
 condition StepOf.ready b s m = can_ready b s
@@ -74,7 +75,7 @@ condition StepOf.agree b s m = can_agree b s m
 condition StepOf.finish b s m = can_finish b s
 condition StepOf.hear b s m = can_heard b s
 
-module _ (b : BoxState) (s : Setting) (m : Held) where
+module _ (b : BoxState) (s : Setting) (m : Option ℕ) where
   pub condition-phase : {c : ℕ} {p : Phase} {a : Act} {d : Call} (w : StepOf c p a d)
       → condition w b s m ≡ true → b.phase ≡ p
   unfolding condition
@@ -268,7 +269,7 @@ one-step s c i j f h p q = sym (place i p) ∙ place j q
 module _ (s : Site) (o : Call) where
   none-possible : (ds : List Call)
       → ((i : ℕ) → i < length ds → possible s (get_or ds i o) ≡ false)
-      → first_possible s ds ≡ Next.Nothing
+      → first_possible s ds ≡ None
   unfolding first_possible
   none-possible [] off = refl
   none-possible (d ∷ ds) off =
@@ -279,11 +280,11 @@ module _ (s : Site) (o : Call) where
   one-possible : (ds : List Call) (k : ℕ) → k < length ds
       → ((i : ℕ) → i < length ds → (i ≡ k → ⊥) → possible s (get_or ds i o) ≡ false)
       → first_possible s ds ≡ pick (possible s (get_or ds k o))
-      (Next.Turn (get_or ds k o)) Next.Nothing
+      (Some (get_or ds k o)) None
   unfolding first_possible
   one-possible [] k h off = absurd (omega arith)
   one-possible (d ∷ ds) zero h off =
-      ap (pick (possible s d) (Next.Turn d))
+      ap (pick (possible s d) (Some d))
       (none-possible ds (λ i g. off (suc i) (omega (arith, g)) (λ z. omega (arith, z))))
   one-possible (d ∷ ds) (suc k) h off =
       pick-false _ _ _ (off zero (omega arith) (λ z. omega (arith, z)))
@@ -300,7 +301,7 @@ leader-is s c f h e =
 
 -- no box leads
 pub no-leader : (s : Site) → ((c : ℕ) → In c s.n → (s.box c).head.leads ≡ false)
-    → leader_turn s ≡ Next.Nothing
+    → leader_turn s ≡ None
 unfolding leader_turn leader_of
 no-leader s off = pick_true _ _ _ (eq-eqb _ 0 (first-is (none refl off)))
 
@@ -322,20 +323,20 @@ module _ (s : Site) (c : ℕ) (f : Formed s) (h : In c s.n)
 
   -- the step d of its phase, or nothing, by whether d is possible
   pub leader-turn : (a : Act) (d : Call) → StepOf c (phase (s.box c)) a d
-      → leader_turn s ≡ pick (possible s d) (Next.Turn d) Next.Nothing
+      → leader_turn s ≡ pick (possible s d) (Some d) None
   leader-turn a d w =
       by-calls
       ∙ one-possible s (Call.Recover c) (leader_calls c) _ (place-few w) elsewhere
-      ∙ ap (λ (k : Call). pick (possible s k) (Next.Turn k) Next.Nothing) (place-call w)
+      ∙ ap (λ (k : Call). pick (possible s k) (Some k) None) (place-call w)
 
   pub done-turn : (a : Act) (d : Call) → StepOf c (phase (s.box c)) a d
-      → (step s d).answer ≡ Answer.Done → leader_turn s ≡ Next.Turn d
+      → (step s d).answer ≡ Answer.Done → leader_turn s ≡ Some d
   done-turn a d w e = leader-turn a d w ∙ pick_true _ _ _ (rw e refl)
 
   -- the lease is done, or the leader is alone
   pub no-turn : Or (phase (s.box c) ≡ Phase.LeaseDone)
       ((phase (s.box c) ≡ Phase.Election) × (state (s.box c) ≡ State.Active))
-      → leader_turn s ≡ Next.Nothing
+      → leader_turn s ≡ None
   unfolding place-of condition
   no-turn (left e) =
       by-calls
@@ -364,16 +365,16 @@ module _ (s : Site) (c : ℕ) (f : Formed s) (h : In c s.n)
   pub leader-tries : {p : Phase} {a : Act} {d : Call} → StepOf c p a d
       → Or (phase (s.box c) ≡ p) (phase (s.box c) ≡ Phase.LeaseDone)
       → leader_turn s
-      ≡ pick (is_possible (turn_of (setting s c) (s.box c) (own a)).answer) (Next.Turn d)
-      Next.Nothing
+      ≡ pick (is_possible (turn_of (setting s c) (s.box c) (own a)).answer) (Some d)
+      None
   unfolding place-of
   leader-tries {a = a} {d = d} w (left e) =
       leader-turn a d (rw e w)
-      ∙ ap (λ (t : Bool). pick t (Next.Turn d) Next.Nothing)
+      ∙ ap (λ (t : Bool). pick t (Some d) None)
       (possible-turn s c (form-made f) (box-is h) w)
   leader-tries {p = p} {a = a} {d = d} w (right e) =
       no-turn (left e)
-      ∙ sym (pick-false _ (Next.Turn d) Next.Nothing
+      ∙ sym (pick-false _ (Some d) None
       (ap is_possible
       (turn-by-phase (s.box c).head (setting s c) (mine (s.box c)) w
       (λ q. other w (sym q ∙ e)))))

@@ -17,7 +17,7 @@ use Rattle.laws.proofs.FormLaws.{Formed, FormedBox, FormedLetter, is-box, is-lin
 use Rattle.laws.proofs.FormKept.{formed-step}
 use Rattle.wait.specs.Run.{next_turn, leader_turn}
 use Rattle.wait.specs.Wait.{Usable}
-use Rattle.wait.specs.declared.model.Next.{Next}
+use Rattle.std.specs.Prelude.{Some}
 use Rattle.wait.proofs.Stages.{Other, Between, Leading, Follows, Heeds, StepOf}
 use Rattle.wait.proofs.Stages.{Turns, last, phase, state}
 use Rattle.wait.proofs.Going.{Going, left_to_do, Ahead, Firsts, Goes_on}
@@ -101,7 +101,7 @@ module _ (turns : Turns) (firsts : Firsts) (c : ℕ) (s : Site) (g : Going c s) 
       (is_refusal r.answer ≡ false) × (Formed r.next → Going c r.next)
       × (left_to_do c r.next < left_to_do c s)
 
-  moved : (d : Call) → CallFits d → next_turn s ≡ Next.Turn d → (r : Outcome) → step s d ≡ r
+  moved : (d : Call) → CallFits d → next_turn s ≡ Some d → (r : Outcome) → step s d ≡ r
       → Moves r → On
   moved d fits n r e m =
       let p = subst Moves (sym e) m in
@@ -110,7 +110,7 @@ module _ (turns : Turns) (firsts : Firsts) (c : ℕ) (s : Site) (g : Going c s) 
   -- ---- another box takes the leader's mail
 
   mail-down : (b : ℕ) → Other s c b → (y : Letter) (ys : List Letter) → s.link c b ≡ y ∷ ys
-      → next_turn s ≡ Next.Turn (Call.Deliver c b) → On
+      → next_turn s ≡ Some (Call.Deliver c b) → On
   mail-down b o y ys e n =
       go (turns.follows s c b (s.box c) (s.box b) y ys (s.link b c) g.time o
       (other-follows b o) leader-formed (other-formed b o)
@@ -137,7 +137,7 @@ module _ (turns : Turns) (firsts : Firsts) (c : ℕ) (s : Site) (g : Going c s) 
   -- ---- the leader is handed a mail
 
   mail-up : (b : ℕ) → Other s c b → (y : Letter) (ys : List Letter) → s.link b c ≡ y ∷ ys
-      → next_turn s ≡ Next.Turn (Call.Deliver b c) → On
+      → next_turn s ≡ Some (Call.Deliver b c) → On
   mail-up b o y ys e n =
       let h = turns.heeds s c b (s.box c) (s.box b) y (s.link c b) ys g.time o g.leads
       g.top (g.promises b o) leader-formed (other-formed b o)
@@ -227,7 +227,7 @@ module _ (turns : Turns) (firsts : Firsts) (c : ℕ) (s : Site) (g : Going c s) 
 
   -- mail is only between the leader and another box that is present
   any-mail : (a b : ℕ) (y : Letter) (ys : List Letter) → In a s.n → In b s.n → (a ≡ b → ⊥)
-      → s.link a b ≡ y ∷ ys → next_turn s ≡ Next.Turn (Call.Deliver a b) → On
+      → s.link a b ≡ y ∷ ys → next_turn s ≡ Some (Call.Deliver a b) → On
   any-mail a b y ys ha hb ab e n = go (same? a c) (same? b c)
     where
       nowhere : (a ≡ c → Other s c b → ⊥) → (b ≡ c → Other s c a → ⊥) → On

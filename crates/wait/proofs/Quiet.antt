@@ -7,9 +7,10 @@ use mathlib.Core.List.{List, [], ◌∷◌}
 use native.Mathlib.Omega.{arith}
 use lib.ListN.{get_or}
 use borrow.Author.Tests.{ne_eqb}
+use Rattle.std.specs.Prelude.{is_some}
 use Rattle.rules.specs.Sizes.{unknown, most_boxes}
 use Rattle.rules.specs.Sets.{has, set_form, bit, includes, without}
-use Rattle.rules.specs.Parts.{others, all_unknown, is_held, room_next}
+use Rattle.rules.specs.Parts.{others, all_unknown, room_next}
 use Rattle.rules.specs.Steps.{has_previous}
 use Rattle.rules.specs.Box.{Box, Letter, mine, letter_of}
 use Rattle.rules.specs.Site.{Site, setting}
@@ -30,7 +31,7 @@ pub record Asked (s : Site) (c : ℕ) (X : Box) : Type 0 where
 pub record Begun (c : ℕ) (X : Box) : Type 0 where
   pub state : Or (state X ≡ State.Updating) (state X ≡ State.UpdatingPrevious)
   pub self : has X.head.accepts c ≡ true
-  pub held : is_held (mine X) ≡ true
+  pub held : is_some (mine X) ≡ true
 
 abbrev pub Led : Site → ℕ → Box → Phase → Type 0
 Led s c X Phase.Election = (state X ≡ State.Recovering) × (pn X ≤ 999999800)

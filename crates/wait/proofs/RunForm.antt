@@ -14,11 +14,11 @@ use Rattle.laws.proofs.FormKept.{step-keeps-form}
 use Rattle.laws.proofs.StepLaws.{by_needs}
 use Rattle.wait.specs.Run.{Outcome, go_on, take, first_possible, leader_calls, leader_of}
 use Rattle.wait.specs.Run.{leader_turn, next_turn, possible, run_from, run_of, sender_of}
-use Rattle.wait.specs.declared.model.Next.{Next}
+use Rattle.std.specs.Prelude.{Option, Some, None}
 
-abbrev NextFits : Next → Type 0
-NextFits Next.Nothing = Unit {0}
-NextFits (Next.Turn d) = CallFits d
+abbrev NextFits : Option Call → Type 0
+NextFits None = Unit {0}
+NextFits (Some d) = CallFits d
 
 first-fits : (s : Site) (ds : List Call) → All CallFits ds → NextFits (first_possible s ds)
 unfolding first_possible
@@ -43,12 +43,12 @@ went P more used s s' Answer.Taken old new = new
 went P more used s s' (Answer.Discarded why) old new = new
 went P more used s s' (Answer.Refused why) old new = old
 
-turned : (left used : ℕ) (s : Site) (n : Next) → form s ≡ true → NextFits n
+turned : (left used : ℕ) (s : Site) (n : Option Call) → form s ≡ true → NextFits n
     → ((s' : Site) → form s' ≡ true → form (run_from left (suc used) s').next ≡ true)
     → form (take (run_from left (suc used)) used s n).next ≡ true
 unfolding take
-turned left used s Next.Nothing e f more = e
-turned left used s (Next.Turn d) e f more =
+turned left used s None e f more = e
+turned left used s (Some d) e f more =
     went (λ (t : Site). form t ≡ true) (run_from left (suc used)) used s (step s d).next
     (step s d).answer e (more (step s d).next (step-keeps-form s d f e))
 

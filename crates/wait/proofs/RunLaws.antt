@@ -13,13 +13,13 @@ use Rattle.rules.specs.Step.{step}
 use Rattle.laws.proofs.Types.{Answer, Call}
 use Rattle.laws.proofs.Logic.{both-no}
 use Rattle.wait.specs.Run.{Outcome, ended, next_turn, go_on, take, run_from, run_of}
-use Rattle.wait.specs.declared.model.Next.{Next}
+use Rattle.std.specs.Prelude.{Some, None}
 use Rattle.wait.specs.declared.model.Run.{Run}
 use Rattle.wait.proofs.Going.{Goes_on, over, on, Ends}
 
 -- ---- one step
 
-pub run-over : (left used : ℕ) (s : Site) → next_turn s ≡ Next.Nothing
+pub run-over : (left used : ℕ) (s : Site) → next_turn s ≡ None
     → run_from left used s ≡ ended s (Run.Ran used)
 unfolding run_from take
 run-over zero used s e = refl
@@ -34,7 +34,7 @@ go-on more used s Answer.Taken s' h = refl
 go-on more used s (Answer.Discarded why) s' h = refl
 go-on more used s (Answer.Refused why) s' h = absurd (both-no refl h)
 
-pub run-on : (left used : ℕ) (s : Site) (d : Call) → next_turn s ≡ Next.Turn d
+pub run-on : (left used : ℕ) (s : Site) (d : Call) → next_turn s ≡ Some d
     → is_refusal (step s d).answer ≡ false
     → run_from (suc left) used s ≡ run_from left (suc used) (step s d).next
 unfolding run_from take
@@ -50,7 +50,7 @@ run-of s steps f e = rw (f, e) refl
 -- P holds at each step, and f is what is left; where nothing is next, Q holds
 module _ (P : Site → Type 0) (f : Site → ℕ) (Q : Site → Type 0)
     (goes : (s : Site) → P s → Goes_on P f Q s) where
-  ends-over : (left used : ℕ) (s : Site) → next_turn s ≡ Next.Nothing → Q s
+  ends-over : (left used : ℕ) (s : Site) → next_turn s ≡ None → Q s
       → Ends Q left used (f s) s
   ends-over left used s e q = record {
     steps = used;
@@ -60,7 +60,7 @@ module _ (P : Site → Type 0) (f : Site → ℕ) (Q : Site → Type 0)
     reached = rw (run-over left used s e) q;
   }
 
-  ends_on : (left used : ℕ) (s : Site) (d : Call) → next_turn s ≡ Next.Turn d
+  ends_on : (left used : ℕ) (s : Site) (d : Call) → next_turn s ≡ Some d
       → is_refusal (step s d).answer ≡ false → f (step s d).next < f s
       → Ends Q left (suc used) (f (step s d).next) (step s d).next
       → Ends Q (suc left) used (f s) s

@@ -6,9 +6,10 @@ use mathlib.Core.Bool.{true, false, cond}
 use mathlib.Core.List.{List, [], ◌∷◌, ◌++◌}
 use lib.Count.{ones}
 use lib.ListN.{length, get_or}
+use Rattle.std.specs.Prelude.{is_some}
 use Rattle.rules.specs.Sizes.{even, unknown}
 use Rattle.rules.specs.Sets.{has, set_form, bit}
-use Rattle.rules.specs.Parts.{is_held, higher, room_next}
+use Rattle.rules.specs.Parts.{higher, room_next}
 use Rattle.rules.specs.Steps.{has_previous}
 use Rattle.rules.specs.Box.{Box, Letter, own, mail, mine, letter_of, turn_of, turned}
 use Rattle.rules.specs.Site.{Site, setting}
@@ -134,7 +135,7 @@ pub data Leading (s : Site) (c : ℕ) (X : Box) : Type 0 where
       → (has_previous X.head ≡ true → room_next s.J (first X) (last X) ≡ true)
       → Leading s c X
   begins : phase X ≡ Phase.Begin → Or (state X ≡ State.Updating) (state X ≡ State.UpdatingPrevious)
-      → has X.head.accepts c ≡ true → is_held (mine X) ≡ true
+      → has X.head.accepts c ≡ true → is_some (mine X) ≡ true
       → Leading s c X
   commits : phase X ≡ Phase.Commit → state X ≡ State.Refresh → Leading s c X
   leases : phase X ≡ Phase.Lease → state X ≡ State.Active → has X.head.heard c ≡ true

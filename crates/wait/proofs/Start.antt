@@ -23,7 +23,7 @@ use Rattle.laws.proofs.StepLaws.{Elects, by_needs}
 use Rattle.laws.proofs.FormKept.{formed-step}
 use Rattle.wait.specs.Run.{next_turn}
 use Rattle.wait.specs.Wait.{Usable, most_steps}
-use Rattle.wait.specs.declared.model.Next.{Next}
+use Rattle.std.specs.Prelude.{None}
 use Rattle.wait.proofs.Stages.{Between, Leading, pn, phase, state, others#}
 use Rattle.wait.proofs.Stages.{load, round, after, ahead_of}
 use Rattle.wait.proofs.Going.{Going, Ahead, sum, is_other, above#, under-way, left_to_do}
@@ -202,11 +202,11 @@ module _ (s : Site) (c : ℕ) (done : (step s (Call.Elect c)).answer ≡ Answer.
     active-elect b h =
         elected-state s c b h ∙ pick_true _ _ _ (eq-eqb (ones s.present) 1 alone)
 
-    over-elect : next_turn (elect s c) ≡ Next.Nothing
+    over-elect : next_turn (elect s c) ≡ None
     unfolding elect
     over-elect = go (look (elect s c))
       where
-        go : Ahead (elect s c) → next_turn (elect s c) ≡ Next.Nothing
+        go : Ahead (elect s c) → next_turn (elect s c) ≡ None
         go (Ahead.mail a b y ys ha hb ab e n) = absurd (omega (arith, ap length e))
         go (Ahead.quiet q n) =
             n
@@ -230,7 +230,7 @@ module _ (s : Site) (c : ℕ) (done : (step s (Call.Elect c)).answer ≡ Answer.
       empty = λ a b h. refl;
     }
 
-    pub over : next_turn (step s (Call.Elect c)).next ≡ Next.Nothing
+    pub over : next_turn (step s (Call.Elect c)).next ≡ None
     over = ap next_turn start.next ∙ over-elect
 
     pub usable : Usable c (step s (Call.Elect c)).next

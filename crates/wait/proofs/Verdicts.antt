@@ -5,6 +5,7 @@ use mathlib.Core.Bool.{Bool, true, false, not, ◌||◌}
 use lib.Count.{ones}
 use lib.Dec.{eqb}
 use borrow.Author.Tests.{le-leb, lt-ltb, eq-eqb}
+use Rattle.std.specs.Prelude.{Option, is_some}
 use Rattle.rules.specs.Pick.{pick_true, pick-false}
 use Rattle.rules.specs.Sizes.{even, most_number, most_pn}
 use Rattle.rules.specs.Sets.{bit, includes}
@@ -13,7 +14,7 @@ use Rattle.rules.specs.NewPn.{new_pn}
 use Rattle.rules.specs.Fields.{with_state, with_phase, with_kept, with_best, with_answered}
 use Rattle.rules.specs.Fields.{with_peers}
 use Rattle.rules.specs.Fields.{with_agreeing, promised, keeping, storing, lasting}
-use Rattle.rules.specs.Parts.{others, all_unknown, is_held, span, higher, dropped, took_kept}
+use Rattle.rules.specs.Parts.{others, all_unknown, span, higher, dropped, took_kept}
 use Rattle.rules.specs.Parts.{took_book}
 use Rattle.rules.specs.Parts.{room_next, cleared}
 use Rattle.rules.specs.Turns.{first_cause, unless, settled, taken, done, mail_of, mail_from}
@@ -23,7 +24,7 @@ use Rattle.rules.specs.Steps.{can_recover, recover, can_collect, best_held, coll
 use Rattle.rules.specs.Steps.{leased}
 use Rattle.rules.specs.Steps.{can_ready, has_previous, ready, can_agree, agree, can_finish, finish}
 use Rattle.rules.specs.Steps.{can_heard, lease_heard}
-use Rattle.laws.proofs.Types.{Book, BoxState, Held, Kind, Mail, Out, Phase, Refusal, Setting, State}
+use Rattle.laws.proofs.Types.{Book, BoxState, Kind, Mail, Out, Phase, Refusal, Setting, State}
 use Rattle.laws.proofs.Types.{Turn, Verdict}
 use Rattle.laws.proofs.Logic.{Or, left, right, and_both, or_left, or_right}
 
@@ -64,7 +65,7 @@ room-made J first last h g =
 
 -- ---- mails
 
-module _ (b : BoxState) (s : Setting) (sender : ℕ) (m : Mail) (one : ℕ) (next mine : Held)
+module _ (b : BoxState) (s : Setting) (sender : ℕ) (m : Mail) (one : ℕ) (next mine : Option ℕ)
     (e : even s.epoch ≡ true) where
   turn-of : {k : Kind} → m.kind ≡ k
       → on_mail b s sender m one next mine ≡ of_kind k b s sender m one next mine
@@ -137,7 +138,8 @@ module _ (b : BoxState) (s : Setting) (e : even s.epoch ≡ true) (leads : b.lea
       (lt-ltb _ _ several))
       (unless-go Refusal.NewPn (le-leb _ _ h) refl))
 
-  pub own-collect-turn : (mine : Held) → b.phase ≡ Phase.SendCollect → b.state ≡ State.Recovering
+  pub own-collect-turn : (mine : Option ℕ) → b.phase ≡ Phase.SendCollect
+      → b.state ≡ State.Recovering
       → collect b s mine
       ≡ done
       (with_peers all_unknown
@@ -181,9 +183,9 @@ module _ (b : BoxState) (s : Setting) (e : even s.epoch ≡ true) (leads : b.lea
   busy (left q) = or_left _ (state_in q)
   busy (right q) = or_right (in_state b.state State.Updating) (state_in q)
 
-  pub agree-turn : (mine : Held) → b.phase ≡ Phase.Begin
+  pub agree-turn : (mine : Option ℕ) → b.phase ≡ Phase.Begin
       → Or (b.state ≡ State.Updating) (b.state ≡ State.UpdatingPrevious)
-      → includes b.accepts s.present ≡ true → is_held mine ≡ true
+      → includes b.accepts s.present ≡ true → is_some mine ≡ true
       → agree b s mine
       ≡ done
       (with_kept (lasting (b.kept.last + 1) b.kept)

@@ -10,7 +10,7 @@ use Rattle.rules.specs.Step.{step}
 use Rattle.rules.specs.declared.model.Answer.{Answer}
 use Rattle.rules.specs.declared.model.Call.{Call}
 use Rattle.rules.specs.declared.model.Refusal.{Refusal}
-use Rattle.wait.specs.declared.model.Next.{Next}
+use Rattle.std.specs.Prelude.{Option, Some, None}
 use Rattle.wait.specs.declared.model.Run.{Run}
 
 -- the first of 1 to n that passes, 0 where none does
@@ -59,22 +59,22 @@ is_possible (Answer.Refused why) = not (eqb (refusal_number why) 3)
 abbrev pub possible : Site → Call → Bool
 possible s d = is_possible (step s d).answer
 
-unfoldable pub first_possible : Site → List Call → Next
-first_possible s [] = Next.Nothing
-first_possible s (d ∷ ds) = pick (possible s d) (Next.Turn d) (first_possible s ds)
+unfoldable pub first_possible : Site → List Call → Option Call
+first_possible s [] = None
+first_possible s (d ∷ ds) = pick (possible s d) (Some d) (first_possible s ds)
 
-unfoldable pub leader_turn : Site → Next
+unfoldable pub leader_turn : Site → Option Call
 leader_turn s =
-    pick (eqb (leader_of s) 0) Next.Nothing (first_possible s (leader_calls (leader_of s)))
+    pick (eqb (leader_of s) 0) None (first_possible s (leader_calls (leader_of s)))
 
 -- ---- the run
 
 -- "while any link holds mail, hand over the head of the first such link ..; otherwise take the
 -- leader's own [step]"
-unfoldable pub next_turn : Site → Next
+unfoldable pub next_turn : Site → Option Call
 next_turn s =
     pick (eqb (sender_of s) 0) (leader_turn s)
-    (Next.Turn (Call.Deliver (sender_of s) (receiver_of s (sender_of s))))
+    (Some (Call.Deliver (sender_of s) (receiver_of s (sender_of s))))
 
 -- what a run answers, and the site that it leaves
 pub record Outcome : Type 0 where
@@ -91,9 +91,9 @@ go_on more used s Answer.Taken s' = more s'
 go_on more used s (Answer.Discarded why) s' = more s'
 go_on more used s (Answer.Refused why) s' = ended s (Run.Stopped why used)
 
-unfoldable pub take : (Site → Outcome) → ℕ → Site → Next → Outcome
-take more used s Next.Nothing = ended s (Run.Ran used)
-take more used s (Next.Turn d) = go_on more used s (step s d).answer (step s d).next
+unfoldable pub take : (Site → Outcome) → ℕ → Site → Option Call → Outcome
+take more used s None = ended s (Run.Ran used)
+take more used s (Some d) = go_on more used s (step s d).answer (step s d).next
 
 -- "stop when neither is possible, after a refusal, or at a given number of steps": so many are
 -- left, so many used

@@ -9,7 +9,7 @@ use Rattle.rules.specs.declared.model.Answer.{Answer}
 use Rattle.rules.specs.declared.model.Call.{Call}
 use Rattle.rules.specs.declared.model.State.{State}
 use Rattle.wait.specs.Run.{leader_calls, possible, next_turn, run_of}
-use Rattle.wait.specs.declared.model.Next.{Next}
+use Rattle.std.specs.Prelude.{None}
 use Rattle.wait.specs.declared.model.Run.{Run}
 
 -- "with the leader Active, all links empty, and every present box Active at the leader's last"
@@ -33,7 +33,7 @@ pub record Waits (s : Site) (c steps : ℕ) : Type 0 where
   -- "it ends within them": nothing stops it, and nothing is left to do
   pub few : used ≤ most_steps (ones s.present - 1)
   pub ran : (run_of (step s (Call.Elect c)).next steps).answer ≡ Run.Ran used
-  pub over : next_turn (run_of (step s (Call.Elect c)).next steps).next ≡ Next.Nothing
+  pub over : next_turn (run_of (step s (Call.Elect c)).next steps).next ≡ None
   pub usable : Usable c (run_of (step s (Call.Elect c)).next steps).next
 
 -- the leader's own step at place i of the list is possible

@@ -1,18 +1,11 @@
-// What a run answers, and what it would do next.
-use rules::model::{Call, Refusal};
+// What a run answers.
+use rules::model::Refusal;
 
 // It ran, and used so many steps; a refused step stopped it, after so many; or the call was
-// refused.
+// refused. A Result of a struct with an Option would say the three ends no more plainly.
 #[derive(Clone, Copy)]
 pub enum Run {
     Ran(u32),
     Stopped(Refusal, u32),
     Refused(Refusal),
-}
-
-// A mail to hand over or a step of the leader, if there is one.
-#[derive(Clone, Copy)]
-pub enum Next {
-    Nothing,
-    Turn(Call),
 }

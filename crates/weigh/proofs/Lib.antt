@@ -1,2 +1,1 @@
--- Lent slices keep their lengths.
-pub mod SameLaws
+-- The functions of `weigh` are safe and end.

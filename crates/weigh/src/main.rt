@@ -2,13 +2,9 @@
 #![tactic(auto)]
 
 mod answer;
-mod pieces;
-mod run;
+mod buffers;
+mod refused;
 
-// `report`: the status goes to descriptor 3.
 fn main(rt: HostRuntime) {
-    let status = pieces::serve_lines(&rt);
-    if streams::has_argument(&rt, 1, b"report") {
-        streams::report(&rt, status);
-    }
+    streams::report_if_asked(&rt, buffers::serve(&rt));
 }

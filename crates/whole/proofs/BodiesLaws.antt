@@ -12,7 +12,7 @@ use Rattle.laws.proofs.Logic.{passed, pass}
 use Rattle.laws.proofs.FormLaws.{FormedSizes}
 use Rattle.memory.specs.Memory.{n_at, general_words}
 use Rattle.memory.specs.Parts.{general_form}
-use Rattle.cells.specs.declared.Walk.{Walk}
+use Rattle.std.specs.Prelude.{Option, Some, None}
 use Rattle.cells.specs.Cells.{chain, Stands, Found, NoneAt}
 use Rattle.cells.proofs.StandLaws.{stands_seq, stands_as, stands-first, read-end}
 use Rattle.cells.proofs.CodeLaws.{Parts, told}
@@ -59,19 +59,19 @@ rest-parts {n} {J} z = record {
 }
 
 module _ {n J L : ℕ} (z : FormedSizes n J L) (src : List ℕ) (at : ℕ) (front ws : List ℕ) where
-  pub rest-none : {r : Walk} → r ≡ Walk.Bad → BoxesAre n J src at front ws r
+  pub rest-none : {r : Option ℕ} → r ≡ None → BoxesAre n J src at front ws r
       → NoneAt (rest_bytes n) (GoodRest n J L) src at
   rest-none bad b c q g w =
       subst (BoxesAre n J src at front ws) bad b c.0 (at + length (chain (box_body n) c.0))
       g.boxes (stands-first (chain (box_body n) c.0) (chain link_bytes c.1) w)
 
-  pub boxes-found : {r : Walk} {p : ℕ} → r ≡ Walk.Next p → BoxesAre n J src at front ws r
+  pub boxes-found : {r : Option ℕ} {p : ℕ} → r ≡ Some p → BoxesAre n J src at front ws r
       → BoxesFound n J src at front ws p
   boxes-found e b = subst (BoxesAre n J src at front ws) e b
 
-  pub rest_then : (vs : List ℕ) {p : ℕ} → BoxesFound n J src at front ws p → (r : Walk)
+  pub rest_then : (vs : List ℕ) {p : ℕ} → BoxesFound n J src at front ws p → (r : Option ℕ)
       → MailIs n J L src p ws vs r → RestIs n J L src at front vs r
-  rest_then vs {p} b (Walk.Next q) m =
+  rest_then vs {p} b (Some q) m =
       let boxes = b.found.thing in
       let begin : p ≡ at + length (chain (box_body n) boxes) = b.found.stands.next in
       let mail = length (chain link_bytes m.found.thing) in
@@ -87,7 +87,7 @@ module _ {n J L : ℕ} (z : FormedSizes n J L) (src : List ℕ) (at : ℕ) (fron
             ∙ append_assoc front entries (p ∷ mail ∷ [])
             ∙ ap (λ (k : ℕ). front ++ (entries ++ (k ∷ mail ∷ []))) begin;
       }
-  rest_then vs b Walk.Bad none = λ c q g w.
+  rest_then vs b None none = λ c q g w.
       let e = told (rest-parts z) b.found.thing b.found.good b.found.stands c q g w in
       none c.1 q g.links e.1
 
@@ -128,11 +128,11 @@ module _ {src : List ℕ} {at p : ℕ} {w : List ℕ} {n J L : ℕ}
         (λ i. sizes_form (g.n-said i) (g.J-said i) (g.L-said i)) ∙ (passed _ formed).1.0
 
     -- The count and the entry of the general body stand before the others'.
-    pub listed_then : (front vs : List ℕ) (r : Walk)
+    pub listed_then : (front vs : List ℕ) (r : Option ℕ)
         → front ≡ (n + 2) ∷ at ∷ general_long ∷ [] → RestIs n J L src p front vs r
         → ListedIs src at vs r
     unfolding general_form
-    listed_then front vs (Walk.Next q) e rest =
+    listed_then front vs (Some q) e rest =
         let begun = subst (λ (l : List ℕ). RestFound n J L src p l vs q) e rest in
         let f = subst₃
         (λ (x y z : ℕ). RestFound x y z src p ((x + 2) ∷ at ∷ general_long ∷ []) vs q)
@@ -161,7 +161,7 @@ module _ {src : List ℕ} {at p : ℕ} {w : List ℕ} {n J L : ℕ}
               ∙ ap (λ (k : ℕ). (n_in t + 2) ∷ at ∷ general_long ∷ rest_entries (n_in t) k c) begin
               ∙ ap (λ (l : List ℕ). (n_in t + 2) ∷ l) (sym (contents_in t at g.five));
         }
-    listed_then front vs Walk.Bad e none = λ t q h v.
+    listed_then front vs None e none = λ t q h v.
         none (t.boxes, t.links) q (rest-good h v) (rest-stands h v)
 
 -- The count and the entry of the general body, as they are put.

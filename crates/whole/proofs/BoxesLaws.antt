@@ -13,7 +13,7 @@ use Rattle.rules.specs.Sizes.{most_boxes, most_loads}
 use Rattle.rules.specs.Numbers.{flag_number}
 use Rattle.rules.specs.Box.{Box}
 use Rattle.row.specs.Row.{best_at}
-use Rattle.cells.specs.declared.Walk.{Walk}
+use Rattle.std.specs.Prelude.{Option, None}
 use Rattle.cells.specs.Cells.{chain, cells, Found, NoneAt, WalkIs}
 use Rattle.cells.proofs.ChainLaws.{chain-map}
 use Rattle.cells.proofs.StandLaws.{stands_as, stands-le, stands-first}
@@ -151,7 +151,7 @@ module _ {n J : ℕ} {src : List ℕ} {at : ℕ} {us : List ℕ} where
 
     module _ (few : n ≤ most_boxes) (loads : J ≤ most_loads) where
       -- The next is not by form.
-      pub boxes-stop : i < n → {r : Walk} → r ≡ Walk.Bad
+      pub boxes-stop : i < n → {r : Option ℕ} → r ≡ None
           → WalkIs (box_body n) (GoodBox n J (i + 1)) src p r
           → NoneAt (chain (box_body n)) (LedBoxes n J) src at
       boxes-stop h bad none xs q g w =

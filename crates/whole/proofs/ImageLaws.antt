@@ -16,7 +16,7 @@ use Rattle.rules.specs.Site.{Site}
 use Rattle.rules.specs.Form.{form}
 use Rattle.laws.proofs.Logic.{both-no, and_yes, eqb_yes}
 use Rattle.laws.proofs.FormLaws.{sizes-says}
-use Rattle.cells.specs.declared.Walk.{Walk}
+use Rattle.std.specs.Prelude.{Option, None}
 use Rattle.cells.specs.Cells.{cells, Below, Stands, Found, WordsAre}
 use Rattle.cells.proofs.StandLaws.{stands_seq, stands_as, stands-first, stands-rest}
 use Rattle.cells.proofs.StandLaws.{stands-whole, stands-all}
@@ -107,7 +107,7 @@ module _ {src : List ℕ} {count : ℕ} (c : Number 4 (part src 0 4) count) wher
       pub image-table : length src < at → ⊥
       image-table h = let next = found_at.next in omega arith
 
-      pub image-bodies : (ws : List ℕ) {r : Walk} → r ≡ Walk.Bad → ListedIs src at ws r → ⊥
+      pub image-bodies : (ws : List ℕ) {r : Option ℕ} → r ≡ None → ListedIs src at ws r → ⊥
       image-bodies ws bad none =
           subst (ListedIs src at ws) bad none (listed s) (length src) (good s f e) found_at
 

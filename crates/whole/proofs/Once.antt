@@ -2,7 +2,7 @@
 use mathlib.Core.Path.{◌≡◌, refl, sym, ap, ◌∙◌}
 use Prim.Native.Nat.{ℕ}
 use mathlib.Core.List.{List}
-use Rattle.cells.specs.declared.Walk.{Walk}
+use Rattle.std.specs.Prelude.{Option, Some, None}
 use Rattle.image.specs.Longest.{table_long}
 use Rattle.image.proofs.OneImage.{one-image}
 use Rattle.whole.specs.Whole.{ImageFound, ImageIs}
@@ -14,8 +14,8 @@ one_place src p q f g =
     let same = one-image f.site g.site f.by_form g.by_form image in
     f.place ∙ ap table_long same.n ∙ sym g.place
 
-pub check_once : (src : List ℕ) (a b : Walk) → ImageIs src a → ImageIs src b → a ≡ b
-check_once src (Walk.Next p) (Walk.Next q) f g = ap Walk.Next (one_place src p q f g)
-check_once src (Walk.Next p) Walk.Bad f none = absurd (none f.site f.by_form f.image)
-check_once src Walk.Bad (Walk.Next q) none g = absurd (none g.site g.by_form g.image)
-check_once src Walk.Bad Walk.Bad f g = refl
+pub check_once : (src : List ℕ) (a b : Option ℕ) → ImageIs src a → ImageIs src b → a ≡ b
+check_once src (Some p) (Some q) f g = ap Some (one_place src p q f g)
+check_once src (Some p) None f none = absurd (none f.site f.by_form f.image)
+check_once src None (Some q) none g = absurd (none g.site g.by_form g.image)
+check_once src None None f g = refl

@@ -2,7 +2,7 @@
 -- contents.
 use Rattle.std.specs.Prelude.{◌≡◌, ℕ, ◌+◌, ◌*◌, ◌≤◌, List, ◌++◌, map, take}
 use Rattle.rules.specs.Box.{Box}
-use Rattle.cells.specs.declared.Walk.{Walk}
+use Rattle.std.specs.Prelude.{Option, Some, None}
 use Rattle.cells.specs.Cells.{chain, Found, NoneAt}
 use Rattle.image.specs.Image.{box_body, contents}
 use Rattle.image.specs.Parts.{GoodBoxes, leaders}
@@ -44,6 +44,6 @@ pub record BoxesFound (n J : ℕ) (src : List ℕ) (at : ℕ) (front ws : List �
   pub found : Found (chain (box_body n)) (LedBoxes n J) src at p
   pub entries : take (mail_entry n) ws ≡ front ++ contents at (map (box_body n) found.thing)
 
-abbrev pub BoxesAre : ℕ → ℕ → List ℕ → ℕ → List ℕ → List ℕ → Walk → Type 0
-BoxesAre n J src at front ws (Walk.Next p) = BoxesFound n J src at front ws p
-BoxesAre n J src at front ws Walk.Bad = NoneAt (chain (box_body n)) (LedBoxes n J) src at
+abbrev pub BoxesAre : ℕ → ℕ → List ℕ → ℕ → List ℕ → List ℕ → Option ℕ → Type 0
+BoxesAre n J src at front ws (Some p) = BoxesFound n J src at front ws p
+BoxesAre n J src at front ws None = NoneAt (chain (box_body n)) (LedBoxes n J) src at

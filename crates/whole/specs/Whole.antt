@@ -3,7 +3,7 @@ use Rattle.std.specs.Prelude.{◌≡◌, true, ℕ, ◌+◌, List, [], ◌∷◌
 use Rattle.rules.specs.Box.{Box, Letter}
 use Rattle.rules.specs.Site.{Site}
 use Rattle.rules.specs.Form.{form}
-use Rattle.cells.specs.declared.Walk.{Walk}
+use Rattle.std.specs.Prelude.{Option, Some, None}
 use Rattle.cells.specs.Cells.{chain, Found, NoneAt}
 use Rattle.image.specs.Image.{box_body, link_bytes, contents, image_of}
 use Rattle.image.specs.Longest.{table_long}
@@ -19,9 +19,9 @@ pub record MailFound (n J L : ℕ) (src : List ℕ) (at : ℕ) (ws vs : List ℕ
   pub entry : take (table_words n) vs
       ≡ take (mail_entry n) ws ++ (at ∷ length (chain link_bytes found.thing) ∷ [])
 
-abbrev pub MailIs : ℕ → ℕ → ℕ → List ℕ → ℕ → List ℕ → List ℕ → Walk → Type 0
-MailIs n J L src at ws vs (Walk.Next p) = MailFound n J L src at ws vs p
-MailIs n J L src at ws vs Walk.Bad = NoneAt (chain link_bytes) (GoodLinks n J L) src at
+abbrev pub MailIs : ℕ → ℕ → ℕ → List ℕ → ℕ → List ℕ → List ℕ → Option ℕ → Type 0
+MailIs n J L src at ws vs (Some p) = MailFound n J L src at ws vs p
+MailIs n J L src at ws vs None = NoneAt (chain link_bytes) (GoodLinks n J L) src at
 
 -- ---- the boxes and the mail
 
@@ -45,9 +45,9 @@ pub record RestFound (n J L : ℕ) (src : List ℕ) (at : ℕ) (front ws : List 
   pub found : Found (rest_bytes n) (GoodRest n J L) src at p
   pub entries : take (table_words n) ws ≡ front ++ rest_entries n at found.thing
 
-abbrev pub RestIs : ℕ → ℕ → ℕ → List ℕ → ℕ → List ℕ → List ℕ → Walk → Type 0
-RestIs n J L src at front ws (Walk.Next p) = RestFound n J L src at front ws p
-RestIs n J L src at front ws Walk.Bad = NoneAt (rest_bytes n) (GoodRest n J L) src at
+abbrev pub RestIs : ℕ → ℕ → ℕ → List ℕ → ℕ → List ℕ → List ℕ → Option ℕ → Type 0
+RestIs n J L src at front ws (Some p) = RestFound n J L src at front ws p
+RestIs n J L src at front ws None = NoneAt (rest_bytes n) (GoodRest n J L) src at
 
 -- ---- all bodies
 
@@ -58,9 +58,9 @@ pub record ListedFound (src : List ℕ) (at : ℕ) (ws : List ℕ) (p : ℕ) : T
   pub table : take (table_words (n_in found.thing)) ws
       ≡ (n_in found.thing + 2) ∷ contents at (bodies_in found.thing)
 
-abbrev pub ListedIs : List ℕ → ℕ → List ℕ → Walk → Type 0
-ListedIs src at ws (Walk.Next p) = ListedFound src at ws p
-ListedIs src at ws Walk.Bad = NoneAt listed_bytes GoodListed src at
+abbrev pub ListedIs : List ℕ → ℕ → List ℕ → Option ℕ → Type 0
+ListedIs src at ws (Some p) = ListedFound src at ws p
+ListedIs src at ws None = NoneAt listed_bytes GoodListed src at
 
 -- ---- the image
 
@@ -73,6 +73,6 @@ pub record ImageFound (src : List ℕ) (at : ℕ) : Type 0 where
   pub place : at ≡ table_long site.n
 
 -- what `check_image` answers: where the general body is, or that no site by form has this image
-abbrev pub ImageIs : List ℕ → Walk → Type 0
-ImageIs src (Walk.Next at) = ImageFound src at
-ImageIs src Walk.Bad = (s : Site) → form s ≡ true → image_of s ≡ src → ⊥
+abbrev pub ImageIs : List ℕ → Option ℕ → Type 0
+ImageIs src (Some at) = ImageFound src at
+ImageIs src None = (s : Site) → form s ≡ true → image_of s ≡ src → ⊥

@@ -6,12 +6,10 @@ ghost use Rattle.image.specs.Image.{box_body};
 ghost use Rattle.image.specs.Parts.{GoodBox};
 ghost use Rattle.whole.specs.Boxes.{box_entry, mail_entry, BoxesAre};
 
-use cells::Walk;
-use values::Fault;
 use words::{size, word};
 
 // Box b of n.
-pub fn check_box(src: &[u8], at: usize, n: u32, j: u32, b: u32) -> Walk
+pub fn check_box(src: &[u8], at: usize, n: u32, j: u32, b: u32) -> Option<usize>
     requires at_in_bounds { at ≤ length src.now }
     requires n_le_most_boxes { (n ≤ most_boxes) × (j ≤ most_loads) }
     ensures { WalkIs (box_body n) (GoodBox n j b) src.now at result }
@@ -19,7 +17,7 @@ pub fn check_box(src: &[u8], at: usize, n: u32, j: u32, b: u32) -> Walk
     let peers = n as usize;
     let least = image::box_head_bytes(peers);
     if src.len() - at < least {
-        return Walk::Bad;
+        return None;
     }
     let mut w = [row::UNKNOWN; row::HEAD];
     let groups = image::box_groups(peers);
@@ -27,8 +25,8 @@ pub fn check_box(src: &[u8], at: usize, n: u32, j: u32, b: u32) -> Walk
     let count = size(w[row::COUNT]);
     let f = row::head_fault(&w, n, j, b);
     match f {
-        Fault::None => checker::mail::check_records(src, p, count),
-        Fault::At(_) => Walk::Bad,
+        None => checker::mail::check_records(src, p, count),
+        Some(_) => None,
     }
 }
 
@@ -57,7 +55,7 @@ pub fn enter(table: &mut [u64], k: usize, p: usize, q: usize)
 
 // Boxes 1 to n, of which at most one leads. Their entries go into the table, behind the count and
 // the entry of the general body.
-pub fn check_boxes(src: &[u8], at: usize, n: u32, j: u32, table: &mut [u64]) -> Walk
+pub fn check_boxes(src: &[u8], at: usize, n: u32, j: u32, table: &mut [u64]) -> Option<usize>
     requires at_in_bounds { at ≤ length src.now }
     requires n_le_most_boxes { (n ≤ most_boxes) × (j ≤ most_loads)
         × (mail_entry n ≤ length table.old) }
@@ -66,23 +64,14 @@ pub fn check_boxes(src: &[u8], at: usize, n: u32, j: u32, table: &mut [u64]) -> 
 {
     let mut p = at;
     let mut leaders: u64 = 0;
-    let mut i: u32 = 0;
-    while i < n {
-        let r = check_box(src, p, n, j, i + 1);
-        match r {
-            Walk::Next(q) => {
-                leaders += le::get_at(src, p, 4);
-                enter(table, BOXES + ENTRY * i as usize, p, q);
-                p = q;
-                i += 1;
-            }
-            Walk::Bad => {
-                return Walk::Bad;
-            }
-        }
+    for i in 0..n {
+        let q = check_box(src, p, n, j, i + 1)?;
+        leaders += le::get_at(src, p, 4);
+        enter(table, BOXES + ENTRY * i as usize, p, q);
+        p = q;
     }
     if 1 < leaders {
-        return Walk::Bad;
+        return None;
     }
-    Walk::Next(p)
+    Some(p)
 }

@@ -28,12 +28,10 @@ fn choose(t: bool, a: Fault, b: Fault) -> Fault
 fn has(w: &[u8], s: &[u8]) -> bool
     ensures { result ≡ within w.now s.now }
 {
-    let mut i = 0;
-    while i < s.len() {
+    for i in 0..s.len() {
         if starts(w, &s[i..]) {
             return true;
         }
-        i += 1;
     }
     false
 }

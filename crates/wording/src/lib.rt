@@ -14,30 +14,22 @@ use meaning::{put_fault, put_meaning};
 use put::{put, put_number, put_shown};
 use streams::Streams;
 
-// Where the refused text stands: in the line of this number, or alone.
-#[derive(Clone, Copy)]
-pub enum Place {
-    Line(u64),
-    Alone,
-}
-
-// The program's name, and the place.
-fn put_place(out: &mut [u8], name: &[u8], place: Place) -> usize {
+// The program's name, and the number of the line in which the refused text stands, where it does
+// not stand alone.
+fn put_place(out: &mut [u8], name: &[u8], line: Option<u64>) -> usize {
     let p = put(out, 0, name);
     let p = put(out, p, b": ");
-    match place {
-        Place::Line(k) => {
-            let p = put(out, p, b"line ");
-            let p = put_number(out, p, k);
-            put(out, p, b" ")
-        }
-        Place::Alone => p,
-    }
+    let Some(k) = line else {
+        return p;
+    };
+    let p = put(out, p, b"line ");
+    let p = put_number(out, p, k);
+    put(out, p, b" ")
 }
 
 // These, the text, and the refusal's number and meaning.
-fn put_refusal(out: &mut [u8], name: &[u8], place: Place, text: &[u8], code: u64) -> usize {
-    let p = put_place(out, name, place);
+fn put_refusal(out: &mut [u8], name: &[u8], line: Option<u64>, text: &[u8], code: u64) -> usize {
+    let p = put_place(out, name, line);
     let p = put_shown(out, p, text);
     let p = put(out, p, b": refused ");
     let p = put_number(out, p, code);
@@ -63,39 +55,53 @@ fn send_refusal<S: Streams>(
     rt: &S,
     out: &mut [u8],
     name: &[u8],
-    place: Place,
+    line: Option<u64>,
     text: &[u8],
     code: u64,
     last: &[u8],
 ) {
-    let p = put_refusal(out, name, place, text, code);
+    let p = put_refusal(out, name, line, text, code);
     let p = put_last(out, p, last);
     send_message(rt, out, p);
 }
 
-// The text is refused by this number; last are the caller's own words on it, or none.
-pub fn refuse<S: Streams>(rt: &S, name: &[u8], place: Place, text: &[u8], code: u64, last: &[u8]) {
+// The text, of the line of this number or alone, is refused by code; last are the caller's own
+// words on it, or none.
+pub fn refuse<S: Streams>(
+    rt: &S,
+    name: &[u8],
+    line: Option<u64>,
+    text: &[u8],
+    code: u64,
+    last: &[u8],
+) {
     let mut out = [0u8; 1024];
-    send_refusal(rt, &mut out, name, place, text, code, last);
+    send_refusal(rt, &mut out, name, line, text, code, last);
 }
 
 fn send_unreadable<S: Streams>(
     rt: &S,
     out: &mut [u8],
     name: &[u8],
-    place: Place,
+    line: Option<u64>,
     text: &[u8],
     why: Fault,
 ) {
-    let p = put_refusal(out, name, place, text, 11);
+    let p = put_refusal(out, name, line, text, 11);
     let p = put_fault(out, p, why);
     send_message(rt, out, p);
 }
 
 // The text cannot be read, for this fault.
-pub fn refuse_unreadable<S: Streams>(rt: &S, name: &[u8], place: Place, text: &[u8], why: Fault) {
+pub fn refuse_unreadable<S: Streams>(
+    rt: &S,
+    name: &[u8],
+    line: Option<u64>,
+    text: &[u8],
+    why: Fault,
+) {
     let mut out = [0u8; 1024];
-    send_unreadable(rt, &mut out, name, place, text, why);
+    send_unreadable(rt, &mut out, name, line, text, why);
 }
 
 fn send_words<S: Streams>(rt: &S, out: &mut [u8], name: &[u8], words: &[u8]) {

@@ -1,19 +1,12 @@
 // Text put together in a lent buffer. What does not fit is cut.
-ghost use Rattle.std.specs.Prelude.{◌≡◌, ◌≤◌, min, length};
 ghost use Rattle.wording.specs.Put.{Put};
-
-fn least(a: usize, b: usize) -> usize
-    ensures { result ≡ min a b }
-{
-    if a < b { a } else { b }
-}
 
 // The bytes of src from the place at on; gives the place past them.
 pub fn put(out: &mut [u8], at: usize, src: &[u8]) -> usize
     ensures { Put out.old out.new at result src.now }
 {
-    let a = least(at, out.len());
-    let n = least(src.len(), out.len() - a);
+    let a = at.min(out.len());
+    let n = src.len().min(out.len() - a);
     print::put_bytes(out, a, &src[..n])
 }
 
@@ -37,15 +30,10 @@ fn put_escaped(out: &mut [u8], at: usize, b: u8) -> usize {
     put(out, p, &digits[..n])
 }
 
-// The first n bytes of text.
-fn put_first(out: &mut [u8], at: usize, text: &[u8], n: usize) -> usize
-    requires { n ≤ length text.now }
-{
+fn put_bytes(out: &mut [u8], at: usize, text: &[u8]) -> usize {
     let mut p = at;
-    let mut i = 0;
-    while i < n {
-        p = put_escaped(out, p, text[i]);
-        i += 1;
+    for b in text {
+        p = put_escaped(out, p, *b);
     }
     p
 }
@@ -53,7 +41,7 @@ fn put_first(out: &mut [u8], at: usize, text: &[u8], n: usize) -> usize
 // The text in quotes, at most its first 64 bytes.
 pub(crate) fn put_shown(out: &mut [u8], at: usize, text: &[u8]) -> usize {
     let p = put(out, at, b"\"");
-    let p = put_first(out, p, text, least(text.len(), 64));
+    let p = put_bytes(out, p, &text[..text.len().min(64)]);
     if 64 < text.len() {
         return put(out, p, b"..\"");
     }

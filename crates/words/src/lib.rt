@@ -5,24 +5,12 @@ ghost use Rattle.std.specs.Prelude.{◌≡◌, ◌+◌, ◌*◌, ◌^◌, ◌≤
 ghost use Rattle.words.specs.Rows.{part, splice};
 ghost use Rattle.words.specs.Ring.{slot, next, previous};
 
-// dst becomes the words of src, which are as many.
-pub fn copy(src: &[u64], dst: &mut [u64])
-    requires { length src.now ≡ length dst.old }
-    ensures { dst.new ≡ src.now }
-{
-    let mut i = 0;
-    while i < src.len() {
-        dst[i] = src[i];
-        i += 1;
-    }
-}
-
 // The n words of src from a on go into dst from b on.
 pub fn copy_part(src: &[u64], a: usize, dst: &mut [u64], b: usize, n: usize)
     requires { (a + n ≤ length src.now) × (b + n ≤ length dst.old) }
     ensures { dst.new ≡ splice dst.old b n (part src.now a n) }
 {
-    copy(&src[a..a + n], &mut dst[b..b + n]);
+    dst[b..b + n].copy_from_slice(&src[a..a + n]);
 }
 
 // The n words from a on go to b, in order: none of them may be written before it is read.
@@ -31,10 +19,8 @@ pub fn copy_within(words: &mut [u64], a: usize, b: usize, n: usize)
     requires n_bound { a < b → a + n ≤ b }
     ensures { words.new ≡ splice words.old b n (part words.old a n) }
 {
-    let mut i = 0;
-    while i < n {
+    for i in 0..n {
         words[b + i] = words[a + i];
-        i += 1;
     }
 }
 
@@ -42,21 +28,18 @@ pub fn copy_within(words: &mut [u64], a: usize, b: usize, n: usize)
 pub fn fill(dst: &mut [u64], v: u64)
     ensures { dst.new ≡ replicate (length dst.old) v }
 {
-    let mut i = 0;
-    while i < dst.len() {
-        dst[i] = v;
-        i += 1;
-    }
+    dst.fill(v);
 }
 
-// A word as a size.
+// A word as a size. Rust has no From between the two, as sizes may be narrower elsewhere; here they
+// are not.
 pub fn size(x: u64) -> usize
     ensures { result ≡ x }
 {
     x as usize
 }
 
-// A size as a word.
+// A size as a word, as above.
 pub fn word(x: usize) -> u64
     ensures { result ≡ x }
 {

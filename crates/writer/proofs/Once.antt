@@ -6,7 +6,8 @@ use native.Mathlib.Omega.{arith}
 use mathlib.Core.List.{List}
 use Rattle.laws.proofs.Logic.{both-no}
 use Rattle.rules.specs.declared.model.Refusal.{Refusal}
-use Rattle.writer.specs.declared.Written.{Written}
+use Rattle.std.specs.Prelude.{Err}
+use Rattle.writer.specs.Writer.{Written}
 use Rattle.writer.specs.Writer.{WriteIs, not-by-form, too_short, written}
 use Rattle.writer.specs.Writer.{LengthIs, no-image, has-length}
 
@@ -29,7 +30,7 @@ length-once (no-image e) (has-length f) = absurd (both-no f e)
 length-once (has-length e) (no-image f) = absurd (both-no e f)
 length-once (has-length e) (has-length f) = refl
 
-pub refused-stays : {xs ls o p : List ℕ} {why : Refusal} → WriteIs xs ls o (Written.Refused why) p
+pub refused-stays : {xs ls o p : List ℕ} {why : Refusal} → WriteIs xs ls o (Err why) p
     → p ≡ o
 refused-stays (not-by-form e) = refl
 refused-stays (too_short e g) = refl

@@ -4,7 +4,8 @@ use Prim.Native.Nat.{ℕ, ◌+◌, ◌≤◌, ◌<◌}
 use mathlib.Core.List.{List}
 use lib.ListN.{length, get_or}
 use Rattle.cells.specs.Cells.{Room, Wrote}
-use Rattle.cells.specs.Groups.{Group, Cut, headed_bytes}
+use Rattle.cells.specs.declared.groups.Group.{Group}
+use Rattle.cells.specs.Groups.{Cut, headed_bytes}
 
 -- the bytes bs are those of the words r
 pub record Put (gs : List Group) (head count : ℕ) (r bs : List ℕ) : Type 0 where

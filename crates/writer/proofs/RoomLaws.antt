@@ -10,7 +10,8 @@ use Rattle.laws.proofs.Logic.{both-no}
 use Rattle.memory.specs.Memory.{memory_form}
 use Rattle.image.specs.Longest.{longest}
 use Rattle.image.proofs.MemoryImage.{memory_most}
-use Rattle.writer.specs.declared.Written.{Written}
+use Rattle.std.specs.Prelude.{Err}
+use Rattle.writer.specs.Writer.{Written}
 use Rattle.writer.specs.Writer.{image, WriteIs, not-by-form, too_short, written}
 use Rattle.writer.specs.Writer.{written_bytes, WholeImage}
 
@@ -27,13 +28,13 @@ fits-written {xs} {ls} {o} (written e g) f h n = record {
 
 -- .. and never refused.
 pub fits-not-refused : {xs ls o o' : List ℕ} {why : Refusal}
-    → WriteIs xs ls o (Written.Refused why) o' → memory_form xs ls ≡ true
+    → WriteIs xs ls o (Err why) o' → memory_form xs ls ≡ true
     → length (image xs ls) ≤ length o → ⊥
 fits-not-refused (not-by-form e) f h = both-no f e
 fits-not-refused (too_short e g) f h = omega arith
 
 -- The answer is never 12 where the buffer has room for the longest image of the words' sizes.
 pub never-short : {xs ls o o' : List ℕ}
-    → WriteIs xs ls o (Written.Refused Refusal.Buffer) o'
+    → WriteIs xs ls o (Err Refusal.Buffer) o'
     → longest (get_or xs 0 0) (get_or xs 1 0) (get_or xs 2 0) ≤ length o → ⊥
 never-short {xs} {ls} (too_short e g) h = omega (arith, memory_most xs ls e)

@@ -24,7 +24,7 @@ use Rattle.image.specs.Image.{bodies, contents, table_of, image_of}
 use Rattle.image.specs.Longest.{table_bytes, table_long, general_long, longest_of_all}
 use Rattle.image.proofs.TableLaws.{length-contents}
 use Rattle.image.proofs.MemoryImage.{any_memory}
-use Rattle.writer.specs.declared.Written.{Written}
+use Rattle.std.specs.Prelude.{Ok}
 use Rattle.writer.specs.Bodies.{boxes_in, links_in, Short, Space, Entered}
 use Rattle.writer.specs.Writer.{image, Formed, WriteIs, written}
 use Rattle.writer.proofs.BoxLaws.{length-bodies}
@@ -208,11 +208,11 @@ module _ {xs ls : List ℕ} {s : Setting} {o o1 : List ℕ} {k start : ℕ}
 
 -- What was written is the answer.
 pub wrote-image : (xs ls o o' : List ℕ) (r : ℕ) → memory_form xs ls ≡ true
-    → Wrote (image xs ls) o 0 o' r → WriteIs xs ls o (Written.Length r) o'
+    → Wrote (image xs ls) o 0 o' r → WriteIs xs ls o (Ok r) o'
 wrote-image xs ls o o' r e w =
     let n : r ≡ length (image xs ls) = w.next ∙ zero-add (length (image xs ls)) in
     let out : o' ≡ image xs ls ++ drop (length (image xs ls)) o =
     w.out ∙ ap (λ (k : ℕ). image xs ls ++ drop k o) n in
     let room : length (image xs ls) ≤ length o = let m = w.room in omega arith in
-    subst (λ (k : ℕ). WriteIs xs ls o (Written.Length k) o') (sym n)
-    (subst (WriteIs xs ls o (Written.Length (length (image xs ls)))) (sym out) (written e room))
+    subst (λ (k : ℕ). WriteIs xs ls o (Ok k) o') (sym n)
+    (subst (WriteIs xs ls o (Ok (length (image xs ls)))) (sym out) (written e room))

@@ -7,23 +7,27 @@ use Rattle.memory.specs.Memory.{site_of, memory_form}
 use Rattle.memory.specs.After.{setting_at}
 use Rattle.image.specs.Image.{image_of}
 use Rattle.writer.specs.declared.Extent.{Extent}
-use Rattle.writer.specs.declared.Written.{Written}
+use Rattle.std.specs.Prelude.{Result, Ok, Err}
 
 abbrev pub image : List ℕ → List ℕ → List ℕ
 image xs ls = image_of (site_of xs ls)
 
+-- the image's length, or why there is none
+abbrev pub Written : Type 0
+Written = Result ℕ Refusal
+
 pub data WriteIs (xs ls o : List ℕ) : Written → List ℕ → Type 0 where
-  not-by-form : memory_form xs ls ≡ false → WriteIs xs ls o (Written.Refused Refusal.Form) o
+  not-by-form : memory_form xs ls ≡ false → WriteIs xs ls o (Err Refusal.Form) o
   too_short : memory_form xs ls ≡ true → length o < length (image xs ls)
-      → WriteIs xs ls o (Written.Refused Refusal.Buffer) o
+      → WriteIs xs ls o (Err Refusal.Buffer) o
   written : memory_form xs ls ≡ true → length (image xs ls) ≤ length o
-      → WriteIs xs ls o (Written.Length (length (image xs ls)))
+      → WriteIs xs ls o (Ok (length (image xs ls)))
       (image xs ls ++ drop (length (image xs ls)) o)
 
 -- for callers: how many bytes were written, none where it was refused
 abbrev pub written_bytes : Written → ℕ
-written_bytes (Written.Length n) = n
-written_bytes (Written.Refused why) = 0
+written_bytes (Ok n) = n
+written_bytes (Err why) = 0
 
 -- for callers with room enough: the image, r bytes, was written to the front of the buffer o
 pub record WholeImage (xs ls o o' : List ℕ) (r : ℕ) : Type 0 where
@@ -32,8 +36,8 @@ pub record WholeImage (xs ls o o' : List ℕ) (r : ℕ) : Type 0 where
 
 -- what `image_length` answers: the same without a buffer
 pub data LengthIs (xs ls : List ℕ) : Written → Type 0 where
-  no-image : memory_form xs ls ≡ false → LengthIs xs ls (Written.Refused Refusal.Form)
-  has-length : memory_form xs ls ≡ true → LengthIs xs ls (Written.Length (length (image xs ls)))
+  no-image : memory_form xs ls ≡ false → LengthIs xs ls (Err Refusal.Form)
+  has-length : memory_form xs ls ≡ true → LengthIs xs ls (Ok (length (image xs ls)))
 
 -- the words are by form, and s is their setting
 pub record Formed (xs ls : List ℕ) (s : Setting) : Type 0 where

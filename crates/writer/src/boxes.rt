@@ -24,10 +24,8 @@ pub fn boxes_length(site: &[u64], s: Setting) -> usize
     ensures { result ≡ length (chain (box_body s.n) (boxes_in s site.now)) }
 {
     let mut total = 0;
-    let mut i = 0;
-    while i < s.n {
+    for i in 0..s.n {
         total += box_length(site, s, i);
-        i += 1;
     }
     total
 }
@@ -63,10 +61,8 @@ pub fn write_boxes(out: &mut [u8], k: usize, at: usize, site: &[u64], s: Setting
         out.old k at out.new result }
 {
     let mut p = at;
-    let mut i = 0;
-    while i < s.n {
+    for i in 0..s.n {
         p = enter_box(out, k + 8 * i as usize, p, site, s, i);
-        i += 1;
     }
     p
 }

@@ -16,12 +16,6 @@ mod boxes;
 mod entry;
 mod mail;
 
-#[derive(Clone, Copy)]
-pub enum Written {
-    Length(usize),
-    Refused(Refusal),
-}
-
 // What has to be known of a site before its first byte is written: its sizes, and how long the
 // whole image is.
 #[derive(Clone, Copy)]
@@ -74,37 +68,37 @@ fn write_image(out: &mut [u8], site: &[u64], links: &[u64], s: Setting) -> usize
 }
 
 // The image of a site by form goes to the front of `out`; too short a buffer stays as it is.
-pub fn write_formed(site: &[u64], links: &[u64], out: &mut [u8]) -> Written
+pub fn write_formed(site: &[u64], links: &[u64], out: &mut [u8]) -> Result<usize, Refusal>
     requires { memory_form site.now links.now ≡ true }
     ensures { WriteIs site.now links.now
         out.old result out.new }
 {
     let e = measure(site, links);
     if out.len() < e.total {
-        return Written::Refused(Refusal::Buffer);
+        return Err(Refusal::Buffer);
     }
     let end = write_image(out, site, links, e.setting);
-    Written::Length(end)
+    Ok(end)
 }
 
 // How many bytes the image has, for a caller who wants to know before a buffer is lent.
-pub fn image_length(site: &[u64], links: &[u64]) -> Written
+pub fn image_length(site: &[u64], links: &[u64]) -> Result<usize, Refusal>
     ensures { LengthIs site.now links.now result }
 {
     if memory::is_by_form(site, links) {
         let e = measure(site, links);
-        return Written::Length(e.total);
+        return Ok(e.total);
     }
-    Written::Refused(Refusal::Form)
+    Err(Refusal::Form)
 }
 
 // The image goes to the front of the buffer: 1, then 12, found before the first byte is written.
-pub fn write(site: &[u64], links: &[u64], image: &mut [u8]) -> Written
+pub fn write(site: &[u64], links: &[u64], image: &mut [u8]) -> Result<usize, Refusal>
     ensures { WriteIs site.now links.now
         image.old result image.new }
 {
     if memory::is_by_form(site, links) {
         return write_formed(site, links, image);
     }
-    Written::Refused(Refusal::Form)
+    Err(Refusal::Form)
 }

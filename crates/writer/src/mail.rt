@@ -23,6 +23,9 @@ fn place_of(link: &[u64], j: u32, l: u32, i: usize) -> &[u64]
 }
 
 // ---- lengths
+//
+// A loop for each list, here and in `boxes`, and no generic one: each calls another function, whose
+// needs of item i follow from another fact of the whole, so a closure would owe all of them again.
 
 fn letter_length(link: &[u64], j: u32, l: u32, i: usize) -> usize
     requires { ReadableLink j l link.now × (i < length (link_of j l link.now)) }
@@ -40,10 +43,8 @@ fn letters_length(link: &[u64], j: u32, l: u32) -> usize
 {
     let count = link::count(link, j, l);
     let mut total = 0;
-    let mut i = 0;
-    while i < count {
+    for i in 0..count {
         total += letter_length(link, j, l, i);
-        i += 1;
     }
     total
 }
@@ -64,10 +65,8 @@ pub fn links_length(links: &[u64], s: Setting) -> usize
 {
     let count = memory::link_count(s);
     let mut total = 0;
-    let mut k = 0;
-    while k < count {
+    for k in 0..count {
         total += link_length(links, s, k);
-        k += 1;
     }
     total
 }
@@ -94,10 +93,8 @@ fn write_letters(out: &mut [u8], at: usize, link: &[u64], j: u32, l: u32) -> usi
 {
     let count = link::count(link, j, l);
     let mut p = at;
-    let mut i = 0;
-    while i < count {
+    for i in 0..count {
         p = write_letter(out, p, link, j, l, i);
-        i += 1;
     }
     p
 }
@@ -121,10 +118,8 @@ fn write_links(out: &mut [u8], at: usize, links: &[u64], s: Setting) -> usize
 {
     let count = memory::link_count(s);
     let mut p = at;
-    let mut k = 0;
-    while k < count {
+    for k in 0..count {
         p = write_link(out, p, links, s, k);
-        k += 1;
     }
     p
 }

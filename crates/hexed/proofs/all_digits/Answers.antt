@@ -6,7 +6,7 @@ use Rattle.hexed.proofs.all_digits.Goals as goal
 pub returns-then-value-gt15 : goal.returns-then-value-gt15
 returns-then-value-gt15 c =
     let text = c.args.text.now in
-    let i = c.loop-i.i in
+    let i = c.loop-b.b-index in
     λ d. omega (
       arith,
       d.each i (omega (arith, smalls-length text)),

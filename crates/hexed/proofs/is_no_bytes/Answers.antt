@@ -2,4 +2,4 @@ use Rattle.hexed.proofs.CodeLaws.{is-dash}
 use Rattle.hexed.proofs.is_no_bytes.Goals as goal
 
 pub returns : goal.returns
-returns c = is-dash c.args.text.now c.if-text-ne1.false
+returns c = is-dash c.args.text.now c.eq.ensures c.as_slice.ensures

@@ -1,22 +1,9 @@
--- `le::get_four` meets its contract: four bytes read one after another.
-use native.Mathlib.Omega.{arith}
-use Rattle.le.proofs.LeLaws.{four_get}
+-- `le::get_four` meets its contract: the four bytes, as the library reads them.
+use mathlib.Core.Path.{◌∙◌}
+use Rattle.le.proofs.LeLaws.{from_four}
 use Rattle.le.proofs.get_four.Goals as goal
 
 pub returns : goal.returns
 returns c =
-    let all = four_get c.args.src.now c.requires in record {
-      value = rw (
-        c.wide-3.ensures.value,
-        c.wide-2.ensures.value,
-        c.wide.ensures.value,
-        c.wide-d.ensures.value,
-      ) all;
-      upper_bound = omega (
-        arith,
-        c.wide-3.ensures.upper_bound,
-        c.wide-2.ensures.upper_bound,
-        c.wide.ensures.upper_bound,
-        c.wide-d.ensures.upper_bound,
-      );
-    }
+    c.from.ensures ∙ (rw c.copy_from_slice.ensures.after at c.from_le_bytes.ensures)
+    ∙ from_four c.args.src.now c.requires

@@ -1,9 +1,8 @@
--- `le::put_eight` meets its contract: the lower four bytes, then the upper four.
-use Rattle.le.proofs.LeLaws.{eight_put}
+-- `le::put_eight` meets its contract: the number's eight bytes.
+use mathlib.Core.Path.{◌∙◌}
+use Rattle.le.proofs.LeLaws.{low_le}
 use Rattle.le.proofs.put_eight.Goals as goal
 
 pub returns : goal.returns
 returns c =
-    eight_put c.args.dst.now c.put_four.new.dst c.put_four-2.new.dst c.args.x c.requires
-    c.put_four.ensures
-    c.put_four-2.ensures
+    c.copy_from_slice.ensures.after ∙ c.to_le_bytes.ensures ∙ low_le 8 c.args.x

@@ -26,14 +26,14 @@ returns c =
     (c.enclosed_count-count.ensures
     ∙ ap (λ (a : ℕ). enclosed_count c.args.m.kind a (length c.args.records.now))
     c.agreed-a.ensures)
-    (c.copy.ensures
+    (c.copy_from_slice.ensures.after
     ∙ simp (
-      c.wide.ensures,
-      c.wide-2.ensures,
-      c.wide-3.ensures,
-      c.wide-4.ensures,
-      c.wide-5.ensures,
+      c.from.ensures,
+      c.from-2.ensures,
+      c.from-3.ensures,
+      c.from-4.ensures,
+      c.from-5.ensures,
+      c.from-6.ensures,
       c.word.ensures,
-      c.kind_number.ensures,
     ))
     c.copy_part.ensures

@@ -1,10 +1,6 @@
 -- Each turn of the scan leaves one place less to decide.
-use Prim.Native.Nat.{◌-◌}
 use Rattle.link.proofs.ScanLaws.{Scan}
 use Rattle.link.proofs.is_by_form.Given as goal
 
 abbrev pub invariant-loop-i : goal.invariant-loop-i
 invariant-loop-i l = Scan l.j l.l l.link l.first l.count l.i
-
-abbrev pub decreases-loop-i : goal.decreases-loop-i
-decreases-loop-i l = l.count - l.i

@@ -2,11 +2,11 @@
 use Rattle.lists.proofs.LineLaws.{which-said, unread-said}
 use Rattle.lists.proofs.put_said.Goals as goal
 
-pub returns-in-Is : goal.returns-in-Is
-returns-in-Is c =
-    which-said c.args.line.now c.in-Is.is c.put_which.ensures
+pub returns-in-Some : goal.returns-in-Some
+returns-in-Some c =
+    which-said c.args.line.now c.in-Some.is c.put_which.ensures
 
-pub returns-in-Unreadable : goal.returns-in-Unreadable
-returns-in-Unreadable c =
-    unread-said c.args.line.now c.in-Unreadable.is
+pub returns-in-None : goal.returns-in-None
+returns-in-None c =
+    unread-said c.args.line.now c.in-None.is
     c.put_bytes.ensures

@@ -1,7 +1,7 @@
 -- `lists::read_records` meets its contract.
 use mathlib.Core.Path.{◌≡◌, ap, ◌∙◌}
 use native.Mathlib.Omega.{arith}
-use lib.ListN.{length, drop, length-set}
+use lib.ListN.{length, drop}
 use Rattle.scan.specs.Bytes.{index_of}
 use Rattle.lists.specs.Lists.{up_to, record_in}
 use Rattle.lists.proofs.ListLaws.{going_start, going-bad, going-full, going_end}
@@ -43,7 +43,5 @@ loop-n-preserved c =
     (c.place_of-e.ensures.value ∙ ap (index_of 44) cut) (omega arith)
 
 pub returns : goal.returns
-returns c = going-full c.loop-n.invariant c.loop-n-test.false
-
-pub loop-n-smaller : goal.loop-n-smaller
-loop-n-smaller c = simp length-set (omega arith)
+returns c =
+    going-full c.loop-n.invariant (omega (arith, c.loop-n.invariant.words, c.loop-n-test.false))

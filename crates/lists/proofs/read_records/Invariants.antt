@@ -1,11 +1,6 @@
 -- `lists::read_records` meets its contract.
-use Prim.Native.Nat.{◌-◌}
-use lib.ListN.{length}
 use Rattle.lists.proofs.ListLaws.{Going}
 use Rattle.lists.proofs.read_records.Given as goal
 
 abbrev pub invariant-loop-n : goal.invariant-loop-n
 invariant-loop-n l = Going l.s l.initial.words l.words l.i l.n
-
-abbrev pub decreases-loop-n : goal.decreases-loop-n
-decreases-loop-n l = length l.words - l.n

@@ -13,7 +13,7 @@ use contract.Lifetimes.{Lfts}
 use Rattle.laws.proofs.Types.{Act}
 use Rattle.laws.specs.Frames.{ActFits}
 use Rattle.own.proofs.act.Lts as lts
-use Rattle.own.proofs.act.Goals.{After-act_turn-t, After-judge-came, In-Passed}
+use Rattle.own.proofs.act.Goals.{After-act_turn-t, After-judge-came, In-Ok}
 use Rattle.own.proofs.act.Goals as goal
 
 -- The frame numbers of an offer are numbers of 32 bits.
@@ -32,21 +32,21 @@ came : (c : After-judge-came) → c.judge-came.result
     ≡ found (act-asks c.args.s c.args.row.now no_mail c.args.a)
 came c = rw c.is_box.ensures at c.judge-came.ensures
 
-pub returns-in-Refused : goal.returns-in-Refused
-returns-in-Refused c = let made =
-    refused (act-asks _ _ _ _) (sym (came (goal.at.returns-in-Refused c).After-judge-came)
-    ∙ c.in-Refused.is)
+pub returns-in-Err : goal.returns-in-Err
+returns-in-Err c = let made =
+    refused (act-asks _ _ _ _) (sym (came (goal.at.returns-in-Err c).After-judge-came)
+    ∙ c.in-Err.is)
     c.refused.ensures in record {
       owned = made.0;
       still_reads = made.1;
     }
 
-came-Passed : (c : In-Passed) → c.judge-came.result
+came-Ok : (c : In-Ok) → c.judge-came.result
     ≡ found (act-asks c.args.s c.args.row.now no_mail c.args.a)
-came-Passed c = rw c.is_box.ensures at c.judge-came.ensures
+came-Ok c = rw c.is_box.ensures at c.judge-came.ensures
 
-passed : (c : In-Passed) → ActClear c.args.s c.args.row.now c.args.a
-passed c = clear (act-asks _ _ _ _) (sym (came-Passed c) ∙ c.in-Passed.is)
+passed : (c : In-Ok) → ActClear c.args.s c.args.row.now c.args.a
+passed c = clear (act-asks _ _ _ _) (sym (came-Ok c) ∙ c.in-Ok.is)
 
 -- Its turn.
 turn : (c : After-act_turn-t) → c.act_turn-t.result
@@ -55,21 +55,21 @@ turn c = rw c.used_row.ensures at c.act_turn-t.ensures
 
 pub conclude-requires : goal.conclude-requires
 conclude-requires c =
-    turn-concludes (passed (goal.at.conclude-requires c).In-Passed) no_mail refl
+    turn-concludes (passed (goal.at.conclude-requires c).In-Ok) no_mail refl
     (turn (goal.at.conclude-requires c).After-act_turn-t)
     (frames c.lifetimes c.args.a c.well_formed.1.1.1)
 
-pub returns-in-Passed : goal.returns-in-Passed
-returns-in-Passed c = record {
-  owned = turn-owned (passed (goal.at.returns-in-Passed c).In-Passed) no_mail refl
-      (turn (goal.at.returns-in-Passed c).After-act_turn-t)
+pub returns-in-Ok : goal.returns-in-Ok
+returns-in-Ok c = record {
+  owned = turn-owned (passed (goal.at.returns-in-Ok c).In-Ok) no_mail refl
+      (turn (goal.at.returns-in-Ok c).After-act_turn-t)
       c.conclude.ensures.owned;
   still_reads = c.conclude.ensures.still_reads;
 }
 
 pub used_row-requires : goal.used_row-requires
-used_row-requires c = row-long (passed (goal.at.used_row-requires c).In-Passed)
+used_row-requires c = row-long (passed (goal.at.used_row-requires c).In-Ok)
 
 pub act_turn-t-requires : goal.act_turn-t-requires
 act_turn-t-requires c =
-    rw c.used_row.ensures (row-by-form (passed (goal.at.act_turn-t-requires c).In-Passed))
+    rw c.used_row.ensures (row-by-form (passed (goal.at.act_turn-t-requires c).In-Ok))

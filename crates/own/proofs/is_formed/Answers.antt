@@ -6,5 +6,5 @@ returns c =
       c.is_letter-read.ensures,
       c.is_row-own.ensures,
       c.is_set-present.ensures,
-      c.wide.ensures,
+      c.from.ensures,
     )

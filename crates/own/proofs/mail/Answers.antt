@@ -6,32 +6,32 @@ use Rattle.own.proofs.FormLaws.{mail-asks}
 use Rattle.own.proofs.OrderLaws.{found, clear}
 use Rattle.own.proofs.EntryLaws.{refused, row-long, row-by-form, place-long, place-by-form}
 use Rattle.own.proofs.EntryLaws.{MailClear, mail-fits, turn-concludes, turn-owned}
-use Rattle.own.proofs.mail.Goals.{After-judge-came, After-mail_turn-t, In-Passed}
+use Rattle.own.proofs.mail.Goals.{After-judge-came, After-mail_turn-t, In-Ok}
 use Rattle.own.proofs.mail.Goals as goal
 
 came : (c : After-judge-came) → c.judge-came.result
     ≡ found (mail-asks c.args.s c.args.row.now c.args.letter.now c.args.sender)
 came c = rw c.is_link.ensures at c.judge-came.ensures
 
-pub returns-in-Refused : goal.returns-in-Refused
-returns-in-Refused c = let made =
-    refused (mail-asks _ _ _ _) (sym (came (goal.at.returns-in-Refused c).After-judge-came)
-    ∙ c.in-Refused.is)
+pub returns-in-Err : goal.returns-in-Err
+returns-in-Err c = let made =
+    refused (mail-asks _ _ _ _) (sym (came (goal.at.returns-in-Err c).After-judge-came)
+    ∙ c.in-Err.is)
     c.refused.ensures in record {
       owned = made.0;
       still_reads = made.1;
     }
 
-came-Passed : (c : In-Passed) → c.judge-came.result
+came-Ok : (c : In-Ok) → c.judge-came.result
     ≡ found (mail-asks c.args.s c.args.row.now c.args.letter.now c.args.sender)
-came-Passed c = rw c.is_link.ensures at c.judge-came.ensures
+came-Ok c = rw c.is_link.ensures at c.judge-came.ensures
 
-passed : (c : In-Passed) → MailClear c.args.s c.args.row.now c.args.letter.now c.args.sender
-passed c = clear (mail-asks _ _ _ _) (sym (came-Passed c) ∙ c.in-Passed.is)
+passed : (c : In-Ok) → MailClear c.args.s c.args.row.now c.args.letter.now c.args.sender
+passed c = clear (mail-asks _ _ _ _) (sym (came-Ok c) ∙ c.in-Ok.is)
 
 pub mail_turn-t-requires : goal.mail_turn-t-requires
 mail_turn-t-requires c =
-    let ok = passed (goal.at.mail_turn-t-requires c).In-Passed in
+    let ok = passed (goal.at.mail_turn-t-requires c).In-Ok in
     rw (c.used_row.ensures, c.used_place-read.ensures)
     record { row_by_form = row-by-form ok; place_by_form = place-by-form ok }
 
@@ -47,21 +47,21 @@ turn c =
 pub conclude-requires : goal.conclude-requires
 conclude-requires c =
     rw c.used_place-read.ensures
-    (turn-concludes (passed (goal.at.conclude-requires c).In-Passed) _ refl
+    (turn-concludes (passed (goal.at.conclude-requires c).In-Ok) _ refl
     (turn (goal.at.conclude-requires c).After-mail_turn-t)
-    (mail-fits (passed (goal.at.conclude-requires c).In-Passed)))
+    (mail-fits (passed (goal.at.conclude-requires c).In-Ok)))
 
-pub returns-in-Passed : goal.returns-in-Passed
-returns-in-Passed c = record {
-  owned = turn-owned (passed (goal.at.returns-in-Passed c).In-Passed)
+pub returns-in-Ok : goal.returns-in-Ok
+returns-in-Ok c = record {
+  owned = turn-owned (passed (goal.at.returns-in-Ok c).In-Ok)
       (place_of c.args.s.j c.args.letter.now) refl
-      (turn (goal.at.returns-in-Passed c).After-mail_turn-t)
+      (turn (goal.at.returns-in-Ok c).After-mail_turn-t)
       (rw c.used_place-read.ensures at c.conclude.ensures.owned);
   still_reads = c.conclude.ensures.still_reads;
 }
 
 pub used_place-read-requires : goal.used_place-read-requires
-used_place-read-requires c = place-long (passed (goal.at.used_place-read-requires c).In-Passed)
+used_place-read-requires c = place-long (passed (goal.at.used_place-read-requires c).In-Ok)
 
 pub used_row-requires : goal.used_row-requires
-used_row-requires c = row-long (passed (goal.at.used_row-requires c).In-Passed)
+used_row-requires c = row-long (passed (goal.at.used_row-requires c).In-Ok)

@@ -8,11 +8,11 @@ use Rattle.words.specs.Rows.{part}
 use Rattle.le.specs.Le.{Number}
 use Rattle.whole.specs.Boxes.{list_words}
 use Rattle.cells.specs.Cells.{WordsAre}
-use Rattle.whole.specs.Whole.{ListedFound, ListedIs}
+use Rattle.whole.specs.Whole.{ListedFound, ListedIs, ImageIs}
 use Rattle.whole.proofs.ImageLaws.{image-short, image-many, image-table, image-bodies}
 use Rattle.whole.proofs.ImageLaws.{image-other, image-found}
-use Rattle.whole.proofs.check_image.Goals.{After-check_listed-r, After-has_words-same}
-use Rattle.whole.proofs.check_image.Goals.{After-size-count, In-Next}
+use Rattle.whole.proofs.check_image.Goals.{After-check_listed, After-has_words-same}
+use Rattle.whole.proofs.check_image.Goals.{After-size-count, In_ok-q}
 use Rattle.whole.proofs.check_image.Goals as goal
 
 -- where the count is a size
@@ -26,33 +26,33 @@ counted : (c : After-size-count) → Number 4 (part (src c) 0 4) (count c)
 counted c = subst (Number 4 (part (src c) 0 4)) (sym c.size-count.ensures) c.get_at.ensures
 
 -- where the bodies were looked for
-abbrev begin : (c : After-check_listed-r) → ℕ
+abbrev begin : (c : After-check_listed) → ℕ
 begin c = c.table_bytes-at.result
 
-abbrev table : (c : After-check_listed-r) → List ℕ
-table c = c.check_listed-r.new.table
+abbrev table : (c : After-check_listed) → List ℕ
+table c = c.check_listed.new.table
 
-abbrev src-Next : (c : In-Next) → List ℕ
+abbrev src-Next : (c : In_ok-q) → List ℕ
 src-Next c = c.args.src.now
 
-abbrev begin-Next : (c : In-Next) → ℕ
+abbrev begin-Next : (c : In_ok-q) → ℕ
 begin-Next c = c.table_bytes-at.result
 
-abbrev table-Next : (c : In-Next) → List ℕ
-table-Next c = c.check_listed-r.new.table
+abbrev table-Next : (c : In_ok-q) → List ℕ
+table-Next c = c.check_listed.new.table
 
 -- where they were found
-listed : (c : In-Next) → ListedFound (src-Next c) (begin-Next c) (table-Next c)
-    c.in-Next.q
+listed : (c : In_ok-q) → ListedFound (src-Next c) (begin-Next c) (table-Next c)
+    c.in_ok-q.q
 listed c =
-    subst (ListedIs (src-Next c) (begin-Next c) (table-Next c)) c.in-Next.is
-    c.check_listed-r.ensures
+    subst (ListedIs (src-Next c) (begin-Next c) (table-Next c)) c.in_ok-q.was
+    c.check_listed.ensures
 
 abbrev count-has_words_same : (c : After-has_words-same) → ℕ
 count-has_words_same c = c.size-count.result
 
 abbrev table-has_words_same : (c : After-has_words-same) → List ℕ
-table-has_words_same c = c.check_listed-r.new.table
+table-has_words_same c = c.check_listed.new.table
 
 abbrev src-has_words_same : (c : After-has_words-same) → List ℕ
 src-has_words_same c = c.args.src.now
@@ -75,22 +75,24 @@ returns-then-src-at c = λ s f e.
 pub returns-then-same-q : goal.returns-then-same-q
 returns-then-same-q c =
     image-found (counted (goal.at.returns-then-same-q c).After-size-count) c.table_bytes-at.ensures
-    (listed (goal.at.returns-then-same-q c).In-Next)
-    c.check_listed-r.auto.table c.if-count-gt-BODIES.false c.has_words-same.result
+    (listed (goal.at.returns-then-same-q c).In_ok-q)
+    c.check_listed.auto.table c.if-count-gt-BODIES.false c.has_words-same.result
     (words (goal.at.returns-then-same-q c).After-has_words-same) c.if-same-q.true
 
-pub returns-else-same-q : goal.returns-else-same-q
-returns-else-same-q c = λ s f e.
-    image-other (counted (goal.at.returns-else-same-q c).After-size-count)
+pub returns : goal.returns
+returns c = λ s f e.
+    image-other (counted (goal.at.returns c).After-size-count)
     c.table_bytes-at.ensures s f e
-    (listed (goal.at.returns-else-same-q c).In-Next) c.has_words-same.result
-    (words (goal.at.returns-else-same-q c).After-has_words-same) c.if-same-q.false
+    (listed (goal.at.returns c).In_ok-q) c.has_words-same.result
+    (words (goal.at.returns c).After-has_words-same) c.if-same-q.false
 
-pub returns-in-Bad : goal.returns-in-Bad
-returns-in-Bad c = λ s f e.
-    image-bodies (counted (goal.at.returns-in-Bad c).After-size-count) c.table_bytes-at.ensures s f
-    e (table (goal.at.returns-in-Bad c).After-check_listed-r)
-    c.in-Bad.is c.check_listed-r.ensures
+pub returns-in_err-q : goal.returns-in_err-q
+returns-in_err-q c =
+    subst (ImageIs c.args.src.now) (sym c.from_residual.ensures) (λ s f e.
+    image-bodies (counted (goal.at.returns-in_err-q c).After-size-count)
+    c.table_bytes-at.ensures s f
+    e (table (goal.at.returns-in_err-q c).After-check_listed)
+    c.in_err-q.was c.check_listed.ensures)
 
 pub returns-then-src-lt4 : goal.returns-then-src-lt4
 returns-then-src-lt4 c = λ s f e. image-short s f e c.if-src-lt4.true

@@ -1,5 +1,5 @@
 use Rattle.answer.proofs.ask.found.Goals as goal
 
-pub returns-in-Length : goal.returns-in-Length
-returns-in-Length c =
-    simp c.in-Length.is
+pub returns-in-Ok : goal.returns-in-Ok
+returns-in-Ok c =
+    simp c.in-Ok.is

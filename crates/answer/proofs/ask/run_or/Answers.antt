@@ -1,7 +1,7 @@
 use Rattle.answer.proofs.ask.run_or.Goals as goal
 
-pub returns-in-Number : goal.returns-in-Number
-returns-in-Number c = simp c.in-Number.is
+pub returns-in-Some : goal.returns-in-Some
+returns-in-Some c = simp c.in-Some.is
 
-pub returns-in-Unreadable : goal.returns-in-Unreadable
-returns-in-Unreadable c = simp c.in-Unreadable.is
+pub returns-in-None : goal.returns-in-None
+returns-in-None c = simp c.in-None.is

@@ -2,15 +2,9 @@ use Rattle.answer.specs.Text.{found_text}
 use Rattle.answer.proofs.TellLaws.{found-wrote}
 use Rattle.answer.proofs.tell.put_found.Goals as goal
 
-pub returns-in-Number : goal.returns-in-Number
-returns-in-Number c =
-    found-wrote c.in-Number.is c.put_number.ensures
+pub returns-in-Ok : goal.returns-in-Ok
+returns-in-Ok c = found-wrote c.in-Ok.is c.put_load.ensures
 
-pub returns-in-None : goal.returns-in-None
-returns-in-None c =
-    found-wrote c.in-None.is c.put_none.ensures
-
-pub returns-in-Refused : goal.returns-in-Refused
+pub returns-in-Err : goal.returns-in-Err
 unfolding found_text
-returns-in-Refused c =
-    found-wrote c.in-Refused.is c.put_refusal.ensures
+returns-in-Err c = found-wrote c.in-Err.is c.put_refusal.ensures

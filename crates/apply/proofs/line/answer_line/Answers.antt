@@ -3,5 +3,5 @@ use Rattle.apply.proofs.line.answer_line.Goals as goal
 
 pub refuse_image-requires : goal.refuse_image-requires
 refuse_image-requires g c =
-    too_long c.requires c.if-last.true c.answer-t.ensures
-    c.in-Short.is
+    too_long c.requires c.if-last.true c.answer.ensures
+    c.in-None.is

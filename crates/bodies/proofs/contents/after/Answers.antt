@@ -7,15 +7,15 @@ use Rattle.bodies.proofs.contents.after.Goals as goal
 pub overflow_add-result : goal.overflow_add-result
 overflow_add-result c =
     let most = (told_as c.args.image.now c.args.k
-    (sym c.named-is.ensures ∙ c.in-Part.is)).most in
+    (sym c.named-is.ensures ∙ c.in-Ok.is)).most in
     record { fits = omega arith }
 
-pub returns-in-Part : goal.returns-in-Part
-returns-in-Part c =
+pub returns-in-Ok : goal.returns-in-Ok
+returns-in-Ok c =
     after-part c.args.image.now c.args.k
-    (sym c.named-is.ensures ∙ c.in-Part.is)
+    (sym c.named-is.ensures ∙ c.in-Ok.is)
 
-pub returns-in-Refused : goal.returns-in-Refused
-returns-in-Refused c =
+pub returns-in-Err : goal.returns-in-Err
+returns-in-Err c =
     after_none c.args.image.now c.args.k
-    (sym c.named-is.ensures ∙ c.in-Refused.is)
+    (sym c.named-is.ensures ∙ c.in-Err.is)

@@ -8,7 +8,8 @@ use lib.Dec.{leb}
 use lib.ListN.{length}
 use borrow.Author.Tests.{leb-true}
 use Rattle.laws.proofs.Logic.{and_yes}
-use Rattle.bodies.specs.declared.Named.{Named}
+use Rattle.std.specs.Prelude.{Ok}
+use Rattle.bodies.specs.Contents.{part_from}
 use Rattle.bodies.specs.Contents.{count_of, begin_of, long_of, most_bodies}
 use Rattle.bodies.proofs.ContentsLaws.{named-is, named-not}
 use Rattle.bodies.proofs.contents.entry.Goals.{After-table_number-long, Start}
@@ -47,8 +48,7 @@ test c =
 
 pub returns-then-k-count : goal.returns-then-k-count
 returns-then-k-count c =
-    (λ i. Named.Part (c.table_number-begin.ensures.0 i)
-    (c.table_number-long.ensures.0 i))
+    (λ i. Ok (part_from (c.table_number-begin.ensures.0 i) (c.table_number-long.ensures.0 i)))
     ∙ sym (named-is (im (goal.at.returns-then-k-count c).Start)
     (k (goal.at.returns-then-k-count c).Start) c.requires.0 c.requires.1
     (sym (test (goal.at.returns-then-k-count c).After-table_number-long) ∙ c.if-k-count.true))

@@ -1,40 +1,38 @@
--- `cells::groups::put_groups` meets its contract: at each turn the first i groups are written.
-use borrow.Author.Rules.{rules}
+-- `cells::groups::put_groups` meets its contract: at each turn the first groups are written.
 use mathlib.Core.Path.{refl, ◌∙◌}
 use native.Mathlib.Omega.{arith}
 use lib.ListN.{length}
-use Rattle.cells.specs.Groups.{group_bytes, groups_of, groups_bytes}
-use Rattle.cells.proofs.WriteLaws.{wrote_none, wrote-all, wrote-length}
-use Rattle.cells.proofs.GroupLaws.{group_in, group-room, group-wrote, length-groups-of}
+use Rattle.cells.specs.Groups.{group_bytes, groups_bytes}
+use Rattle.cells.proofs.WriteLaws.{room-next, wrote_none, wrote-next, wrote-all, wrote-length}
+use Rattle.cells.proofs.GroupLaws.{no_group, cut-at-group}
 use Rattle.cells.proofs.groups.put_groups.Goals as goal
 
-pub loop-i-init : goal.loop-i-init
-loop-i-init c = (
-  search rules,
-  wrote_none (group_bytes c.args.w.now) (groups_of c.args.groups.now) c.args.out.now c.args.at
-      (omega arith),
+pub loop-g-init : goal.loop-g-init
+loop-g-init c = (
+  wrote_none (group_bytes c.args.w.now) c.args.groups.now c.args.out.now c.args.at (omega arith),
   refl,
 )
 
 pub put_group-p-requires : goal.put_group-p-requires
+unfolding groups_bytes
 put_group-p-requires c =
-    let ns = c.args.groups.now in
-    let w = c.args.w.now in record {
-      c_in_bounds = (group_in ns c.loop-i.i c.loop-i-test.true (length w) c.requires.cut).0;
-      room = group-room ns c.loop-i.i c.loop-i-test.true w c.requires.room c.loop-i.invariant.1;
+    let gs = c.args.groups.now in
+    let w = c.args.w.now in
+    let i = c.loop-g.g-index in record {
+      end_in_bounds = (cut-at-group (length w) gs 0 i c.requires.cut c.loop-g-test.true).1;
+      room = room-next (group_bytes w) gs no_group i c.loop-g-test.true c.requires.room
+          c.loop-g.invariant.0;
     }
 
-pub loop-i-preserved : goal.loop-i-preserved
-loop-i-preserved c = (
-  omega (arith, c.loop-i-test.true),
-  group-wrote c.args.groups.now c.loop-i.i c.loop-i-test.true c.args.w.now
-      c.loop-i.invariant.1 c.put_group-p.ensures,
-  wrote-length c.put_group-p.ensures ∙ c.loop-i.invariant.2,
+pub loop-g-preserved : goal.loop-g-preserved
+loop-g-preserved c = (
+  wrote-next (group_bytes c.args.w.now) c.args.groups.now no_group c.loop-g.g-index
+      c.loop-g-test.true c.loop-g.invariant.0 c.put_group-p.ensures,
+  wrote-length c.put_group-p.ensures ∙ c.loop-g.invariant.1,
 )
 
 pub returns : goal.returns
 unfolding groups_bytes
 returns c =
-    let n = length-groups-of c.args.groups.now in
-    wrote-all (group_bytes c.args.w.now) (groups_of c.args.groups.now) c.loop-i.i
-    (omega (arith, c.loop-i-test.false)) c.loop-i.invariant.1
+    wrote-all (group_bytes c.args.w.now) c.args.groups.now c.loop-g.g-index
+    (omega (arith, c.loop-g-test.false)) c.loop-g.invariant.0

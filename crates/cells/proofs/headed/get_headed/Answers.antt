@@ -7,75 +7,61 @@ use lib.ListN.{length, take, drop, get_or, replicate, length-drop, length-append
 use lib.Seq.{length-take-le, take_at, drop_at}
 use Rattle.words.proofs.PartLaws.{length_cut}
 use Rattle.cells.specs.Cells.{Stands}
-use Rattle.cells.specs.Groups.{groups_of, groups_bytes, GroupedWords}
+use Rattle.cells.specs.Groups.{groups_bytes, GroupedWords}
 use Rattle.cells.proofs.GroupLaws.{groups-grouped, headed_put}
 use Rattle.cells.proofs.headed.get_headed.Goals.{After-fill, After-get_groups-p, After-size-held}
 use Rattle.cells.proofs.headed.get_headed.Goals as goal
 
--- the row when its head is filled
+-- the row when its head is filled: the head is `rest` throughout, and what is behind it stays
+module _ (row dst : List ℕ) (head rest : ℕ) (h : head ≤ length row)
+    (e : length dst ≡ length (take head row)) where
+  filled : length dst ≡ head
+  filled = e ∙ length-take-le head row h
+
+  head-filled : dst ≡ replicate (length (take head row)) rest
+      → take head (dst ++ drop head row) ≡ replicate head rest
+  head-filled put =
+      take_at dst (drop head row) head filled ∙ put
+      ∙ ap (λ (k : ℕ). replicate k rest) (length-take-le head row h)
+
+  tail-stays : drop head (dst ++ drop head row) ≡ drop head row
+  tail-stays = drop_at dst (drop head row) head filled
+
 abbrev row1 : (c : After-fill) → List ℕ
-row1 c =
-    c.fill.new.dst ++ drop c.args.head c.args.row.now
+row1 c = c.fill.new.dst ++ drop c.args.head c.args.row.now
 
-filled : (c : After-fill) →
-    length c.fill.new.dst ≡ c.args.head
-filled c =
-    c.fill.auto.dst ∙ length-take-le c.args.head c.args.row.now c.requires.count_lt_head.1
-
-rests : (c : After-fill) →
-    let a = c.args in
-    take c.args.head (row1 c) ≡ replicate c.args.head c.args.rest
-rests c =
-    take_at c.fill.new.dst (drop c.args.head c.args.row.now) c.args.head (filled c)
-    ∙ c.fill.ensures
-    ∙ ap (λ (k : ℕ). replicate k c.args.rest)
-    (length-take-le c.args.head c.args.row.now c.requires.count_lt_head.1)
-
-abbrev row1-get_groups_p : (c : After-get_groups-p) → List ℕ
-row1-get_groups_p c =
-    c.fill.new.dst ++ drop c.args.head c.args.row.now
-
-filled-get_groups_p : (c : After-get_groups-p) →
-    length c.fill.new.dst ≡ c.args.head
-filled-get_groups_p c =
-    c.fill.auto.dst ∙ length-take-le c.args.head c.args.row.now c.requires.count_lt_head.1
-
-rests-get_groups_p : (c : After-get_groups-p) →
-    let a = c.args in
-    take c.args.head (row1-get_groups_p c) ≡ replicate c.args.head c.args.rest
-rests-get_groups_p c =
-    take_at c.fill.new.dst (drop c.args.head c.args.row.now) c.args.head (filled-get_groups_p c)
-    ∙ c.fill.ensures
-    ∙ ap (λ (k : ℕ). replicate k c.args.rest)
-    (length-take-le c.args.head c.args.row.now c.requires.count_lt_head.1)
+fill : (c : After-fill) → length c.fill.new.dst ≡ c.args.head
+fill c = filled c.args.row.now c.fill.new.dst c.args.head c.args.rest c.requires.count_lt_head.1
+    c.fill.auto.dst
 
 -- the head that was read
 read : (c : After-get_groups-p) →
-    let a = c.args in
     let v = c.get_groups-p.new.w in
-    let gs = groups_of c.args.groups.now in
+    let gs = c.args.groups.now in
     GroupedWords gs c.args.head c.args.rest v
     × Stands (groups_bytes gs v) c.args.src.now c.args.at c.get_groups-p.result
 read c =
-    groups-grouped (groups_of c.args.groups.now) c.args.head c.args.rest c.args.groups.now refl
-    (rests-get_groups_p c) c.get_groups-p.ensures
+    groups-grouped c.args.groups.now c.args.head c.args.rest c.args.groups.now refl
+    (head-filled c.args.row.now c.fill.new.dst c.args.head c.args.rest
+    c.requires.count_lt_head.1 c.fill.auto.dst c.fill.ensures) c.get_groups-p.ensures
 
 -- the row with it
 abbrev row2 : (c : After-get_groups-p) → List ℕ
 row2 c =
-    c.get_groups-p.new.w ++ drop c.args.head (row1-get_groups_p c)
+    c.get_groups-p.new.w
+    ++ drop c.args.head (c.fill.new.dst ++ drop c.args.head c.args.row.now)
 
-tail : (c : After-get_groups-p) →
-    let a = c.args in
-    drop c.args.head (row1-get_groups_p c) ≡ drop c.args.head c.args.row.now
+tail : (c : After-get_groups-p)
+    → drop c.args.head (c.fill.new.dst ++ drop c.args.head c.args.row.now)
+    ≡ drop c.args.head c.args.row.now
 tail c =
-    drop_at c.fill.new.dst (drop c.args.head c.args.row.now) c.args.head (filled-get_groups_p c)
+    tail-stays c.args.row.now c.fill.new.dst c.args.head c.args.rest c.requires.count_lt_head.1
+    c.fill.auto.dst
 
-whole : (c : After-get_groups-p) →
-    let a = c.args in
-    length (row2 c) ≡ length c.args.row.now
+whole : (c : After-get_groups-p) → length (row2 c) ≡ length c.args.row.now
 whole c =
-    length-append c.get_groups-p.new.w (drop c.args.head (row1-get_groups_p c))
+    length-append c.get_groups-p.new.w
+    (drop c.args.head (c.fill.new.dst ++ drop c.args.head c.args.row.now))
     ∙ omega (
       arith,
       (read c).0.width,
@@ -92,90 +78,20 @@ there c =
     c.requires.records_there.room c.get_groups-p.new.w c.get_groups-p.result (read c).0
     (read c).1
 
-abbrev row1-size_held : (c : After-size-held) → List ℕ
-row1-size_held c =
-    c.fill.new.dst ++ drop c.args.head c.args.row.now
-
-filled-size_held : (c : After-size-held) →
-    length c.fill.new.dst ≡ c.args.head
-filled-size_held c =
-    c.fill.auto.dst ∙ length-take-le c.args.head c.args.row.now c.requires.count_lt_head.1
-
-rests-size_held : (c : After-size-held) →
-    let a = c.args in
-    take c.args.head (row1-size_held c) ≡ replicate c.args.head c.args.rest
-rests-size_held c =
-    take_at c.fill.new.dst (drop c.args.head c.args.row.now) c.args.head (filled-size_held c)
-    ∙ c.fill.ensures
-    ∙ ap (λ (k : ℕ). replicate k c.args.rest)
-    (length-take-le c.args.head c.args.row.now c.requires.count_lt_head.1)
-
-read-size_held : (c : After-size-held) →
-    let a = c.args in
-    let v = c.get_groups-p.new.w in
-    let gs = groups_of c.args.groups.now in
-    GroupedWords gs c.args.head c.args.rest v
-    × Stands (groups_bytes gs v) c.args.src.now c.args.at c.get_groups-p.result
-read-size_held c =
-    groups-grouped (groups_of c.args.groups.now) c.args.head c.args.rest c.args.groups.now refl
-    (rests-size_held c) c.get_groups-p.ensures
-
-count : (c : After-size-held) →
-    c.size-held.result ≡ get_or c.get_groups-p.new.w c.args.count 0
-count c =
+-- the count of records is a word of the head
+count : (c : After-size-held) → length c.get_groups-p.new.w ≡ c.args.head
+    → c.size-held.result ≡ get_or c.get_groups-p.new.w c.args.count 0
+count c wide =
     c.size-held.ensures
-    ∙ get_or-append c.get_groups-p.new.w (drop c.args.head (row1-size_held c)) 0
-    c.args.count (omega (arith, (read-size_held c).0.width, c.requires.count_lt_head.0))
-
-abbrev row2-size_held : (c : After-size-held) → List ℕ
-row2-size_held c =
-    c.get_groups-p.new.w ++ drop c.args.head (row1-size_held c)
-
-tail-size_held : (c : After-size-held) →
-    let a = c.args in
-    drop c.args.head (row1-size_held c) ≡ drop c.args.head c.args.row.now
-tail-size_held c =
-    drop_at c.fill.new.dst (drop c.args.head c.args.row.now) c.args.head (filled-size_held c)
-
-whole-size_held : (c : After-size-held) →
-    let a = c.args in
-    length (row2-size_held c) ≡ length c.args.row.now
-whole-size_held c =
-    length-append c.get_groups-p.new.w (drop c.args.head (row1-size_held c))
-    ∙ omega (
-      arith,
-      (read-size_held c).0.width,
-      ap length (tail-size_held c),
-      length-drop c.args.head c.args.row.now,
-      c.requires.count_lt_head.1,
-    )
-
-there-size_held : (c : After-size-held) →
-    let v = c.get_groups-p.new.w in
-    (c.args.head + get_or v c.args.count 0 ≤ length c.args.row.now)
-    × (c.get_groups-p.result + get_or v c.args.count 0 * 8 ≤ length c.args.src.now)
-there-size_held c =
-    c.requires.records_there.room c.get_groups-p.new.w c.get_groups-p.result (read-size_held c).0
-    (read-size_held c).1
-
-records : (c : After-size-held) →
-    let a = c.args in
-    length (take (c.args.head + c.size-held.result - c.args.head)
-    (drop c.args.head (row2-size_held c)))
-    ≡ c.size-held.result
-records c =
-    length_cut c.args.head c.size-held.result (row2-size_held c) (omega (
-      arith,
-      whole-size_held c,
-      (there-size_held c).0,
-      count c,
-    ))
+    ∙ get_or-append c.get_groups-p.new.w
+    (drop c.args.head (c.fill.new.dst ++ drop c.args.head c.args.row.now)) 0
+    c.args.count (omega (arith, wide, c.requires.count_lt_head.0))
 
 pub get_groups-p-requires : goal.get_groups-p-requires
 get_groups-p-requires c =
     let wide = length-append c.fill.new.dst (drop c.args.head c.args.row.now) in
     let n = length-take-le c.args.head (row1 (goal.at.get_groups-p-requires c).After-fill)
-    (omega (arith, filled (goal.at.get_groups-p-requires c).After-fill)) in record {
+    (omega (arith, fill (goal.at.get_groups-p-requires c).After-fill)) in record {
       cut = rw n c.requires.cut;
       groups_in_bounds = c.requires.groups_in_bounds;
     }
@@ -186,47 +102,52 @@ bounds-row-count c =
 
 pub overflow_add-head : goal.overflow_add-head
 overflow_add-head c =
+    let r = (goal.at.overflow_add-head c).After-get_groups-p in
     omega (
       arith,
-      (there (goal.at.overflow_add-head c).After-get_groups-p).0,
-      count (goal.at.overflow_add-head c).After-size-held,
+      (there r).0,
+      count (goal.at.overflow_add-head c).After-size-held (read r).0.width,
       c.requires.count_lt_head.2,
     )
 
 pub slice_bounds-get_words-end : goal.slice_bounds-get_words-end
 slice_bounds-get_words-end c =
+    let r = (goal.at.slice_bounds-get_words-end c).After-get_groups-p in
     omega (
       arith,
-      whole (goal.at.slice_bounds-get_words-end c).After-get_groups-p,
-      (there (goal.at.slice_bounds-get_words-end c).After-get_groups-p).0,
-      count (goal.at.slice_bounds-get_words-end c).After-size-held,
+      whole r,
+      (there r).0,
+      count (goal.at.slice_bounds-get_words-end c).After-size-held (read r).0.width,
     )
 
+-- how many words the records are, as the code cuts them out
+records : (r : After-get_groups-p) (n : ℕ)
+    → n ≡ get_or r.get_groups-p.new.w r.args.count 0
+    → length (take (r.args.head + n - r.args.head) (drop r.args.head (row2 r))) ≡ n
+records r n e =
+    length_cut r.args.head n (row2 r) (omega (arith, whole r, (there r).0, e))
+
 pub get_words-requires : goal.get_words-requires
-get_words-requires c = (
-  omega (
-    arith,
-    (there (goal.at.get_words-requires c).After-get_groups-p).1,
-    count (goal.at.get_words-requires c).After-size-held,
-    records (goal.at.get_words-requires c).After-size-held,
-  ),
-  omega arith,
-)
+get_words-requires c =
+    let r = (goal.at.get_words-requires c).After-get_groups-p in
+    let e = count (goal.at.get_words-requires c).After-size-held (read r).0.width in
+    (omega (arith, (there r).1, e, records r c.size-held.result e), omega arith)
 
 pub returns : goal.returns
 returns c =
-    let long = c.get_words.auto.dst ∙ records (goal.at.returns c).After-size-held in
+    let r = (goal.at.returns c).After-get_groups-p in
+    let e = count (goal.at.returns c).After-size-held (read r).0.width in
+    let long = c.get_words.auto.dst ∙ records r c.size-held.result e in
     record {
       words = c.get_groups-p.new.w;
       records = c.get_words.new.dst;
       place = c.get_groups-p.result;
-      grouped = (read (goal.at.returns c).After-get_groups-p).0;
-      stands = (read (goal.at.returns c).After-get_groups-p).1;
-      long = long ∙ count (goal.at.returns c).After-size-held;
+      grouped = (read r).0;
+      stands = (read r).1;
+      long = long ∙ e;
       read = c.get_words.ensures;
       row = headed_put c.get_groups-p.new.w c.args.row.now c.args.head c.size-held.result
-          c.get_words.new.dst (tail (goal.at.returns c).After-get_groups-p)
-          (read (goal.at.returns c).After-get_groups-p).0.width long;
+          c.get_words.new.dst (tail r) (read r).0.width long;
     }
 
 pub slice_bounds-fill-end-2 : goal.slice_bounds-fill-end-2
@@ -237,4 +158,4 @@ pub slice_bounds-get_groups-end-2 : goal.slice_bounds-get_groups-end-2
 slice_bounds-get_groups-end-2 c =
     let wide = length-append c.fill.new.dst (drop c.args.head c.args.row.now) in
     sym (length-take-le c.args.head (row1 (goal.at.slice_bounds-get_groups-end-2 c).After-fill)
-    (omega (arith, filled (goal.at.slice_bounds-get_groups-end-2 c).After-fill)))
+    (omega (arith, fill (goal.at.slice_bounds-get_groups-end-2 c).After-fill)))

@@ -6,7 +6,6 @@ use native.Mathlib.Omega.{arith}
 use lib.ListN.{length}
 use Rattle.values.specs.Faults.{is_whole}
 use Rattle.letter.specs.Place.{kind_of}
-use Rattle.cells.specs.Groups.{groups_of}
 use Rattle.cells.proofs.StandLaws.{too_short}
 use Rattle.image.specs.Image.{letter_groups}
 use Rattle.image.specs.Longest.{letter_head_long}
@@ -34,7 +33,7 @@ least : (c : After-letter_head_bytes-least)
 least c = c.letter_head_bytes-least.ensures ∙ ap letter_head_long c.kind_of-kind.ensures
 
 groups : (c : After-letter_groups-groups)
-    → groups_of c.letter_groups-groups.result
+    → c.letter_groups-groups.result
     ≡ letter_groups (kind_of c.get_at.result)
 groups c =
     c.letter_groups-groups.ensures.0
@@ -76,13 +75,13 @@ returns-in-None c =
     (ap is_whole (sym c.head_fault-f.ensures ∙ c.in-None.is))
     c.size-count.ensures c.check_records.result c.check_records.ensures
 
-pub returns-in-At : goal.returns-in-At
-returns-in-At c =
-    letter-none c.args.j c.requires.j_le_most_loads (room (goal.at.returns-in-At c).After-get_at)
+pub returns-in-Some : goal.returns-in-Some
+returns-in-Some c =
+    letter-none c.args.j c.requires.j_le_most_loads (room (goal.at.returns-in-Some c).After-get_at)
     c.get_at.ensures
-    c.letter_groups-groups.result (groups (goal.at.returns-in-At c).After-letter_groups-groups)
+    c.letter_groups-groups.result (groups (goal.at.returns-in-Some c).After-letter_groups-groups)
     c.get_groups-p.ensures
-    (ap is_whole (sym c.head_fault-f.ensures ∙ c.in-At.is))
+    (ap is_whole (sym c.head_fault-f.ensures ∙ c.in-Some.is))
 
 pub get_at-requires : goal.get_at-requires
 get_at-requires c = (omega (arith, c.requires.at_in_bounds, c.if-src-at-lt4.false), omega arith)

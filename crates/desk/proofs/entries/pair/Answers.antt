@@ -1,12 +1,9 @@
 -- `desk::pair` meets its contract: a right frame is chosen, and then offered with the left one.
-use Rattle.std.proofs.Common.{sym, ◌∙◌}
+use Rattle.std.proofs.lemmas.Result.{err_from_is_err_and}
 use Rattle.desk.proofs.OfferLaws.{pair-none}
 use Rattle.desk.proofs.entries.pair.Goals as goal
 
-pub offer_pair-requires : goal.offer_pair-requires
-offer_pair-requires c =
-    sym c.chosen-c.ensures
-    ∙ c.in-Right.is
-
-pub returns-in-Refused : goal.returns-in-Refused
-returns-in-Refused c = pair-none c.chosen-c.ensures c.in-Refused.is
+pub returns-in_err-right : goal.returns-in_err-right
+returns-in_err-right c =
+    let p = err_from_is_err_and c.from_residual.result c.from_residual.ensures.1 in
+    rw (p.1, p.2) (pair-none c.chosen.ensures c.in_err-right.was)

@@ -25,16 +25,16 @@ finish-requires-in-Going c = (
 pub returns-in-First : goal.returns-in-First
 returns-in-First c =
     answer-first c.args.f _ _ _ _ _ _ _ c.in-First.is
-    c.read_held-l.ensures c.answer_first-a.ensures
+    c.read-l.ensures c.answer_first-a.ensures
     c.finish.ensures c.requires.1
 
 pub returns-in-Going : goal.returns-in-Going
 returns-in-Going c =
     answer-going c.args.f _ _ _ _ _ _ _ c.in-Going.is
-    c.read_held-l.ensures c.answer_later-a.ensures
+    c.read-l.ensures c.answer_later-a.ensures
     c.finish-in-Going.ensures c.requires.1
 
 pub returns-in-Ended : goal.returns-in-Ended
 returns-in-Ended c =
-    answer-ended c.args.f _ _ _ _ _ _
+    answer-ended c.args.f _ _ _ _ _ _ c.emptied.ensures
     c.in-Ended.is c.requires.1

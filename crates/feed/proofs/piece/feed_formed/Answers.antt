@@ -8,13 +8,13 @@ use Rattle.feed.proofs.FeedLaws.{short-held, goes_on, kept-none, kept_more, kept
 use Rattle.feed.proofs.piece.feed_formed.Goals.{In-loop-e, Start}
 use Rattle.feed.proofs.piece.feed_formed.Goals as goal
 
-line-length : (c : Start) → length c.args.f.line ≡ 65
+line-length : (c : Start) → length c.args.f.held.line ≡ 65
 line-length c = search rules
 
 pub loop-e-init : goal.loop-e-init
 loop-e-init c = (
   refl,
-  short-held c.args.f.line c.args.f.len (line-length (goal.at.loop-e-init c).Start),
+  short-held c.args.f.held.line c.args.f.held.len (line-length (goal.at.loop-e-init c).Start),
   kept-none c.args.f _ _ _ _ _ _ c.line_end-e.ensures c.requires,
 )
 

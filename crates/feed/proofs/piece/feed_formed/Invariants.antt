@@ -1,13 +1,13 @@
 use Prim.Native.Nat.{◌≤◌, ◌-◌}
 use mathlib.Core.Path.{◌≡◌}
-use lib.ListN.{length, take}
-use Rattle.feed.specs.State.{feeding_of}
+use lib.ListN.{length}
+use Rattle.feed.specs.State.{feeding_of, held_bytes}
 use Rattle.feed.proofs.FeedLaws.{Kept}
 use Rattle.feed.proofs.piece.feed_formed.Given as goal
 
 abbrev pub invariant-loop-e : goal.invariant-loop-e
 invariant-loop-e l =
-    (l.n ≡ length l.piece) × (length (take l.initial.g.len l.initial.g.line) ≤ 65)
+    (l.n ≡ length l.piece) × (length (held_bytes l.initial.g.held) ≤ 65)
     × Kept (feeding_of l.initial.g l.initial.site l.initial.links) l.piece l.initial.site
     l.initial.links l.site l.links l.initial.out l.out l.n l.i l.e l.g l.at
 

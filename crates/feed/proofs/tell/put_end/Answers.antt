@@ -5,7 +5,7 @@ use Rattle.feed.proofs.FeedLaws.{end_none, end-first, end-going, end-ended}
 use Rattle.feed.proofs.tell.put_end.Goals.{Start}
 use Rattle.feed.proofs.tell.put_end.Goals as goal
 
-line-length : (c : Start) → length c.args.f.line ≡ 65
+line-length : (c : Start) → length c.args.f.held.line ≡ 65
 line-length c = search rules
 
 pub returns-then-n-eq0 : goal.returns-then-n-eq0

@@ -5,20 +5,17 @@ use Rattle.feed.proofs.tell.put_lasts.Goals as goal
 
 pub loop-i-init : goal.loop-i-init
 loop-i-init c =
-    (omega arith, lasts-none _ c.args.site.now c.args.w _)
+    lasts-none _ c.args.site.now c.args.w _
 
 pub loop-i-preserved : goal.loop-i-preserved
-loop-i-preserved c = (
-  omega arith,
-  lasts-more c.args.site.now c.args.w c.loop-i.i
-      c.row_at-r.result c.row_at-r.ensures.0 c.loop-i.invariant.1
-      c.put_next-p.ensures,
-)
+loop-i-preserved c =
+    lasts-more c.args.site.now c.args.w c.loop-i.i
+    c.row_at-r.result c.row_at-r.ensures.0 c.loop-i.invariant c.put_next-p.ensures
 
 pub returns : goal.returns
 returns c =
     lasts-done c.args.site.now c.args.w _ _ c.loop-i-test.false
-    c.loop-i.invariant.0 c.loop-i.invariant.1
+    (omega arith) c.loop-i.invariant
 
 pub row_at-r-requires : goal.row_at-r-requires
 row_at-r-requires c = (omega arith, omega arith)
@@ -35,11 +32,5 @@ bounds-site-r c = search tests
 pub put_next-p-requires : goal.put_next-p-requires
 put_next-p-requires c = omega arith
 
-pub overflow_add-i : goal.overflow_add-i
-overflow_add-i c = search tests
-
-pub loop-i-smaller : goal.loop-i-smaller
-loop-i-smaller c = search tests
-
 pub shape_of-out : goal.shape_of-out
-shape_of-out c = c.loop-i.invariant.1.room
+shape_of-out c = c.loop-i.invariant.room

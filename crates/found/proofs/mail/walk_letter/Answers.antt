@@ -1,7 +1,9 @@
 use native.Mathlib.Omega.{arith}
-use mathlib.Core.Path.{ap, ◌∙◌}
-use Rattle.letter.specs.Place.{kind_of}
-use Rattle.found.proofs.HeadLaws.{first-few, letter-whole, letter-aside}
+use mathlib.Core.Path.{sym, ap, subst, ◌∙◌}
+use Rattle.letter.specs.Place.{kind_of, head_words}
+use Rattle.cells.specs.Groups.{Cut, groups_length}
+use Rattle.image.proofs.CutLaws.{first-few, letter-cut, letter-groups-long}
+use Rattle.found.proofs.HeadLaws.{same-groups, letter-whole, letter-aside}
 use Rattle.found.proofs.WalkLaws.{within_more}
 use Rattle.found.proofs.mail.walk_letter.Goals as goal
 
@@ -9,6 +11,15 @@ pub overflow_add-p : goal.overflow_add-p
 overflow_add-p c =
     let few = first-few c.kind_of-kind.result in
     omega arith
+
+pub read_groups-requires : goal.read_groups-requires
+read_groups-requires c =
+    let k = c.kind_of-kind.result in
+    let few = first-few k in
+    let e = c.letter_groups-groups.ensures.0 in record {
+      cut = subst (Cut 0 head_words) (sym e) (letter-cut k);
+      near = (omega arith, omega (arith, ap groups_length e, letter-groups-long k));
+    }
 
 pub walk_enclosed-requires : goal.walk_enclosed-requires
 walk_enclosed-requires c =
@@ -22,17 +33,19 @@ returns-in-None c =
       value = letter-whole c.args.j c.args.a c.args.b c.args.i
           c.args.src.now c.args.at
           (c.kind_of-kind.ensures ∙ ap kind_of c.number_at.ensures.value)
-          c.read_head.ensures c.head_fault-f.ensures
+          (same-groups _ _ _ c.read_groups.ensures c.letter_groups-groups.ensures.0)
+          c.head_fault-f.ensures
           c.in-None.is e c.walk_enclosed.ensures.value;
       within = within_more c.walk_enclosed.result (omega arith) c.walk_enclosed.ensures.within;
     }
 
-pub returns-in-At : goal.returns-in-At
-returns-in-At c = record {
+pub returns-in-Some : goal.returns-in-Some
+returns-in-Some c = record {
   value = letter-aside c.args.j c.args.a c.args.b c.args.i
       c.args.src.now c.args.at
       (c.kind_of-kind.ensures ∙ ap kind_of c.number_at.ensures.value)
-      c.read_head.ensures c.head_fault-f.ensures
-      c.in-At.is;
+      (same-groups _ _ _ c.read_groups.ensures c.letter_groups-groups.ensures.0)
+      c.head_fault-f.ensures
+      c.in-Some.is;
   within = tt;
 }

@@ -1,4 +1,3 @@
-use Prim.Native.Nat.{◌-◌}
 use Rattle.found.specs.Found.{sender_way}
 use Rattle.found.specs.Near.{sender_stride}
 use Rattle.found.proofs.WalkLaws.{WalkTo}
@@ -6,6 +5,3 @@ use Rattle.found.proofs.mail.walk_senders.Given as goal
 
 abbrev pub invariant-loop-i : goal.invariant-loop-i
 invariant-loop-i l = WalkTo (sender_way l.n l.j l.l l.src) sender_stride l.n 0 l.i l.p
-
-abbrev pub decreases-loop-i : goal.decreases-loop-i
-decreases-loop-i l = l.n - l.i

@@ -1,4 +1,4 @@
-use mathlib.Core.Path.{sym, ◌∙◌}
+use mathlib.Core.Path.{◌≡◌, sym, ◌∙◌}
 use native.Mathlib.Omega.{arith}
 use Rattle.found.proofs.LeadingLaws.{leading-none, leading-more}
 use Rattle.found.proofs.LeadingLaws.{leading-stop, leading-all}
@@ -14,7 +14,7 @@ word_at-x-requires c = omega arith
 pub returns-then-not-is_proper : goal.returns-then-not-is_proper
 returns-then-not-is_proper c = record {
   value = leading-stop c.args.src.now c.args.at c.args.count
-      c.loop-i.invariant c.loop-i-test.true c.word_at-x.ensures
+      c.loop-i.invariant c.loop-i-test.true c.word_at-x.ensures.value
       (sym c.is_proper.ensures ∙ c.if-not-is_proper.true);
   upper_bound = c.loop-i.invariant.few;
 }
@@ -26,12 +26,14 @@ overflow_add-p c =
 pub loop-i-preserved : goal.loop-i-preserved
 loop-i-preserved c =
     leading-more c.args.src.now c.args.at c.args.count c.loop-i.invariant
-    c.loop-i-test.true c.word_at-x.ensures
+    c.loop-i-test.true c.word_at-x.ensures.value
     (sym c.is_proper.ensures ∙ c.if-not-is_proper.false)
 
 pub returns : goal.returns
 returns c = record {
-  value = leading-all c.args.src.now c.args.at c.args.count
-      c.loop-i.invariant c.loop-i-test.false;
-  upper_bound = c.loop-i.invariant.few;
+  value =
+      let end : c.args.count ≡ c.loop-i.i = omega arith in
+      end ∙ leading-all c.args.src.now c.args.at c.args.count c.loop-i.invariant
+      c.loop-i-test.false;
+  upper_bound = omega arith;
 }

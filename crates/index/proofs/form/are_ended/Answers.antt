@@ -1,27 +1,18 @@
--- `index::form::are_ended` meets its contract: the slots below s are right.
+-- `index::form::are_ended` meets its contract: each slot's words were asked.
 use borrow.Author.Rules.{rules}
+use borrow.Author.Tests.{tests}
+use mathlib.Core.Path.{refl}
 use native.Mathlib.Omega.{arith}
-use borrow.Author.Count.{below_more}
-use Rattle.words.proofs.TestLaws.{fails, passes}
-use Rattle.index.proofs.SweepLaws.{ends_more, ended-wrong, ended-right}
-use mathlib.Core.Path.{ap}
-use mathlib.Core.Bool.{not}
+use Rattle.std.proofs.lemmas.Iterator.{YieldsList-from_range}
+use Rattle.std.proofs.lemmas.Iterator.Search.{all_from_yields_List}
+use Rattle.index.specs.Index.{slots}
+use Rattle.index.proofs.SweepLaws.{slot-agrees, ended_all}
 use Rattle.index.proofs.form.are_ended.Goals as goal
-
-pub loop-s-init : goal.loop-s-init
-loop-s-init c = (search rules, λ j h. absurd (omega arith))
-
-pub returns-then-not-agree : goal.returns-then-not-agree
-returns-then-not-agree c =
-    ended-wrong c.args.heads.now c.args.ix.now c.loop-s.s (omega arith)
-    (fails c.agree.ensures (ap not c.if-not-agree.true))
-
-pub loop-s-preserved : goal.loop-s-preserved
-loop-s-preserved c =
-    let agree = passes c.agree.ensures (ap not c.if-not-agree.false) in
-    let more = ends_more c.args.heads.now c.args.ix.now c.loop-s.s agree in
-    (omega arith, below_more _ _ c.loop-s.invariant.1 more)
 
 pub returns : goal.returns
 returns c =
-    ended-right c.args.heads.now c.args.ix.now (λ s h. c.loop-s.invariant.1 s (omega arith))
+    let hs = c.args.heads.now in
+    let ix = c.args.ix.now in
+    ended_all hs ix c.all.result
+    (all_from_yields_List (slot-agrees hs ix) _ _ c.all.result c.all.ensures.ran
+    (YieldsList-from_range 0 slots slots refl (omega arith)) (λ x b q k. search (rules, tests)))

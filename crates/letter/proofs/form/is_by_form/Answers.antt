@@ -17,7 +17,7 @@ returns-in-None c =
     c.all_proper.ensures ∙ ap (each proper) c.records.ensures
     ∙ form-go _ _ c.requires e
 
-pub returns-in-At : goal.returns-in-At
-returns-in-At c =
-    let e = sym c.head_fault-f.ensures ∙ c.in-At.is in
+pub returns-in-Some : goal.returns-in-Some
+returns-in-Some c =
+    let e = sym c.head_fault-f.ensures ∙ c.in-Some.is in
     form-stop _ _ c.requires (ap is_whole e)

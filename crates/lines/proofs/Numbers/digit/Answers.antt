@@ -3,11 +3,11 @@ use mathlib.Core.Path.{sym, ◌∙◌, ap}
 use Rattle.lines.specs.Read.{with_grown}
 use Rattle.lines.proofs.Numbers.digit.Goals as goal
 
-pub returns-in-Good : goal.returns-in-Good
-returns-in-Good c =
+pub returns-in-Some : goal.returns-in-Some
+returns-in-Some c =
     ap (with_grown c.args.self)
-    (sym c.in-Good.is ∙ c.grow.ensures)
+    (sym c.in-Some.is ∙ c.grow.ensures)
 
-pub returns-in-Bad : goal.returns-in-Bad
-returns-in-Bad c = ap (with_grown c.args.self) (sym c.in-Bad.is
+pub returns-in-None : goal.returns-in-None
+returns-in-None c = ap (with_grown c.args.self) (sym c.in-None.is
     ∙ c.grow.ensures)

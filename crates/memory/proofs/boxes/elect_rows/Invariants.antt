@@ -6,7 +6,4 @@ use Rattle.memory.proofs.boxes.elect_rows.Given as goal
 
 abbrev pub invariant-loop-b : goal.invariant-loop-b
 invariant-loop-b l = BoxesUpTo l.s (elected_boxes l.s l.c (boxes_of l.s l.initial.site))
-    l.initial.site l.b l.site
-
-abbrev pub decreases-loop-b : goal.decreases-loop-b
-decreases-loop-b l = l.s.n - l.b
+    l.initial.site (l.b - 1) l.site

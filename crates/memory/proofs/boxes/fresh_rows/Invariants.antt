@@ -5,7 +5,4 @@ use Rattle.memory.proofs.EachLaws.{BoxesUpTo}
 use Rattle.memory.proofs.boxes.fresh_rows.Given as goal
 
 abbrev pub invariant-loop-b : goal.invariant-loop-b
-invariant-loop-b l = BoxesUpTo l.s (λ c. fresh_box) l.initial.site l.b l.site
-
-abbrev pub decreases-loop-b : goal.decreases-loop-b
-decreases-loop-b l = l.s.n - l.b
+invariant-loop-b l = BoxesUpTo l.s (λ c. fresh_box) l.initial.site (l.b - 1) l.site

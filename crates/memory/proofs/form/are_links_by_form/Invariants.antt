@@ -6,6 +6,3 @@ use Rattle.memory.proofs.form.are_links_by_form.Given as goal
 
 abbrev pub invariant-loop-k : goal.invariant-loop-k
 invariant-loop-k l = PassTo (link_test l.s l.links) (l.s.n * (l.s.n - 1)) l.k
-
-abbrev pub decreases-loop-k : goal.decreases-loop-k
-decreases-loop-k l = l.count - l.k

@@ -1,66 +1,79 @@
 -- The boxes up to b are by form, and so many lead.
+use mathlib.Core.Path.{◌≡◌}
 use Prim.Native.Nat.{◌+◌}
-use mathlib.Core.Path.{sym}
+use mathlib.Core.Path.{sym, ◌∙◌}
 use native.Mathlib.Omega.{arith}
 use Rattle.laws.proofs.FormLaws.{sizes-says}
 use Rattle.laws.proofs.Counts.{tally-le}
 use Rattle.memory.specs.Parts.{leads_test}
-use Rattle.memory.proofs.EveryLaws.{next-box, pass-none, pass-more, pass-stop}
+use Prim.Native.Nat.{◌+◌, ◌-◌}
+use Rattle.memory.proofs.EveryLaws.{pass-none, pass-more, pass-stop}
 use Rattle.memory.proofs.EveryLaws.{tally-none, tally-more}
 use Rattle.memory.proofs.FormLaws.{rows-not, rows_end}
 use mathlib.Core.Path.{ap}
 use mathlib.Core.Bool.{not}
-use Rattle.memory.proofs.form.are_rows_by_form.Goals as goal
-
-pub is_row_by_form-requires : goal.is_row_by_form-requires
-is_row_by_form-requires c = record {
-  l_value = c.requires.l_value;
-  j_in_bounds = c.requires.j_in_bounds;
-  b_value = next-box c.args.s.n c.loop-b.b (omega arith);
+use Rattle.memory.proofs.form.are_rows_by_form.Goals.{else-loop-b-test}
+use Rattle.memory.proofs.form.are_rows_by_form.Goals.{
+  then-loop-b-test+else-not-is_row_by_form+else-b-b-end,
 }
+use Rattle.memory.proofs.form.are_rows_by_form.Goals as goal
 
 pub returns-then-not-is_row_by_form : goal.returns-then-not-is_row_by_form
 returns-then-not-is_row_by_form c =
+    let here : c.loop-b.b - 1 + 1 ≡ c.loop-b.b = omega arith in
     rows-not c.args.s c.args.site.now
-    (pass-stop c.loop-b.invariant.0 (omega arith) c.is_row_by_form.ensures
+    (pass-stop c.loop-b.invariant.0 (omega arith) (rw here c.is_row_by_form.ensures)
     (ap not c.if-not-is_row_by_form.true))
 
-pub leader-leaders-requires : goal.leader-leaders-requires
-leader-leaders-requires c = record {
-  l_value = c.requires.l_value;
-  j_in_bounds = c.requires.j_in_bounds;
-  b_value = next-box c.args.s.n c.loop-b.b (omega arith);
-}
+pub loop-b-preserved : goal.loop-b-preserved
+loop-b-preserved c =
+    let f = leads_test c.args.s c.args.site.now in
+    let here : c.loop-b.b - 1 + 1 ≡ c.loop-b.b = omega arith in
+    let next : c.loop-b.b + 1 - 1 ≡ c.loop-b.b - 1 + 1 = omega arith in
+    rw next (
+      pass-more c.loop-b.invariant.0 (omega arith) (rw here c.is_row_by_form.ensures)
+          (ap not c.if-not-is_row_by_form.false),
+      omega (
+        arith,
+        rw (← here) at c.leader-leaders.ensures,
+        c.loop-b.invariant.1,
+        tally-more f (c.loop-b.b - 1),
+      ),
+    )
+
+pub returns : goal.returns
+returns c =
+    let f = leads_test c.args.s c.args.site.now in
+    let here : c.loop-b.b - 1 + 1 ≡ c.loop-b.b = omega arith in
+    elim c.loop-b-test.branch [
+      | else-loop-b-test w ↦
+          rows_end c.args.s c.args.site.now c.loop-b.invariant.0 (omega arith)
+          (w.leaders-is ∙ c.loop-b.invariant.1)
+      | then-loop-b-test+else-not-is_row_by_form+else-b-b-end w ↦
+          rows_end c.args.s c.args.site.now
+          (pass-more c.loop-b.invariant.0 (omega arith) (rw here w.is_row_by_form.ensures)
+          (ap not w.if-not-is_row_by_form.false)) (omega arith)
+          (omega (
+            arith,
+            w.leaders-is,
+            rw (← here) at w.leader-leaders.ensures,
+            c.loop-b.invariant.1,
+            tally-more f (c.loop-b.b - 1),
+          ))
+    ]
+
+pub loop-b-init : goal.loop-b-init
+loop-b-init c = (pass-none, sym (tally-none _))
 
 pub overflow_add-leaders : goal.overflow_add-leaders
 overflow_add-leaders c =
     let f = leads_test c.args.s c.args.site.now in
     let z = sizes-says c.requires.l_value in
+    let here : c.loop-b.b - 1 + 1 ≡ c.loop-b.b = omega arith in
     omega (
       arith,
-      c.leader-leaders.ensures,
+      rw (← here) at c.leader-leaders.ensures,
       c.loop-b.invariant.1,
-      tally-more f c.loop-b.b,
-      tally-le (c.loop-b.b + 1) f,
+      tally-more f (c.loop-b.b - 1),
+      tally-le (c.loop-b.b - 1 + 1) f,
     )
-
-pub loop-b-preserved : goal.loop-b-preserved
-loop-b-preserved c =
-    let f = leads_test c.args.s c.args.site.now in (
-      pass-more c.loop-b.invariant.0 (omega arith) c.is_row_by_form.ensures
-          (ap not c.if-not-is_row_by_form.false),
-      omega (arith, c.leader-leaders.ensures, c.loop-b.invariant.1, tally-more f c.loop-b.b),
-    )
-
-pub returns : goal.returns
-returns c =
-    rows_end c.args.s c.args.site.now c.loop-b.invariant.0 (omega arith) c.loop-b.invariant.1
-
-pub loop-b-init : goal.loop-b-init
-loop-b-init c = (pass-none, sym (tally-none _))
-
-pub overflow_add-b : goal.overflow_add-b
-overflow_add-b c = omega arith
-
-pub loop-b-smaller : goal.loop-b-smaller
-loop-b-smaller c = omega arith

@@ -8,7 +8,5 @@ use Rattle.memory.proofs.form.are_rows_by_form.Given as goal
 
 abbrev pub invariant-loop-b : goal.invariant-loop-b
 invariant-loop-b l =
-    PassTo (row_test l.s l.site) l.s.n l.b × (l.leaders ≡ tally l.b (leads_test l.s l.site))
-
-abbrev pub decreases-loop-b : goal.decreases-loop-b
-decreases-loop-b l = l.s.n - l.b
+    PassTo (row_test l.s l.site) l.s.n (l.b - 1)
+    × (l.leaders ≡ tally (l.b - 1) (leads_test l.s l.site))

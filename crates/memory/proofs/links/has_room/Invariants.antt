@@ -5,7 +5,4 @@ use Rattle.memory.proofs.EveryLaws.{PassTo}
 use Rattle.memory.proofs.links.has_room.Given as goal
 
 abbrev pub invariant-loop-b : goal.invariant-loop-b
-invariant-loop-b l = PassTo (room_for l.s l.links l.set) l.s.n l.b
-
-abbrev pub decreases-loop-b : goal.decreases-loop-b
-decreases-loop-b l = l.s.n - l.b
+invariant-loop-b l = PassTo (room_for l.s l.links l.set) l.s.n (l.b - 1)

@@ -6,7 +6,4 @@ use Rattle.memory.proofs.links.send_all.Given as goal
 
 abbrev pub invariant-loop-b : goal.invariant-loop-b
 invariant-loop-b l =
-    SentUpTo l.s l.set (letter_of l.m l.records) l.initial.links l.b l.links
-
-abbrev pub decreases-loop-b : goal.decreases-loop-b
-decreases-loop-b l = l.s.n - l.b
+    SentUpTo l.s l.set (letter_of l.m l.records) l.initial.links (l.b - 1) l.links

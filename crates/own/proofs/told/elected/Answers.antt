@@ -12,21 +12,21 @@ came : (c : After-judge-came) → c.judge-came.result ≡ judged c.args.s c.args
 came c =
     rw (c.is_box-2.ensures, c.is_box.ensures) at c.judge-came.ensures
 
-pub returns-in-Refused : goal.returns-in-Refused
-returns-in-Refused c =
+pub returns-in-Err : goal.returns-in-Err
+returns-in-Err c =
     untold _ _ _ _ _
-    (sym (elected-found _ _ no_mail _ (sym (came (goal.at.returns-in-Refused c).After-judge-came)
-    ∙ c.in-Refused.is)))
+    (sym (elected-found _ _ no_mail _ (sym (came (goal.at.returns-in-Err c).After-judge-came)
+    ∙ c.in-Err.is)))
 
 pub elect-requires : goal.elect-requires
 elect-requires c =
-    let h = sym (came (goal.at.elect-requires c).After-judge-came) ∙ c.in-Passed.is in record {
+    let h = sym (came (goal.at.elect-requires c).After-judge-came) ∙ c.in-Ok.is in record {
       row_lent = elect-lent _ _ no_mail c.args.c h;
       c_le_most_boxes = elect-box _ _ no_mail c.args.c h;
     }
 
-pub returns-in-Passed : goal.returns-in-Passed
-returns-in-Passed c =
-    rw (← elected-found _ _ no_mail _ (sym (came (goal.at.returns-in-Passed c).After-judge-came)
-    ∙ c.in-Passed.is))
+pub returns-in-Ok : goal.returns-in-Ok
+returns-in-Ok c =
+    rw (← elected-found _ _ no_mail _ (sym (came (goal.at.returns-in-Ok c).After-judge-came)
+    ∙ c.in-Ok.is))
     c.elect.ensures

@@ -5,8 +5,8 @@ use Rattle.replay.proofs.site_image.send_image.Goals as goal
 
 pub slice_bounds-send-end : goal.slice_bounds-send-end
 slice_bounds-send-end g c =
-    image-fits c.write.ensures c.in-Length.is
+    image-fits c.write.ensures c.in-Ok.is
 
-pub slice_bounds-send-end-in-Length : goal.slice_bounds-send-end-in-Length
-slice_bounds-send-end-in-Length g c =
-    sym (length-take-le _ _ (image-fits c.write.ensures c.in-Length.is))
+pub slice_bounds-send-end-in-Ok : goal.slice_bounds-send-end-in-Ok
+slice_bounds-send-end-in-Ok g c =
+    sym (length-take-le _ _ (image-fits c.write.ensures c.in-Ok.is))

@@ -4,7 +4,4 @@ use Rattle.rested.proofs.EachLaws.{RestedUpTo}
 use Rattle.rested.proofs.boxes.rest_rows.Given as goal
 
 abbrev pub invariant-loop-b : goal.invariant-loop-b
-invariant-loop-b l = RestedUpTo l.s l.initial.site l.b l.site
-
-abbrev pub decreases-loop-b : goal.decreases-loop-b
-decreases-loop-b l = l.s.n - l.b
+invariant-loop-b l = RestedUpTo l.s l.initial.site (l.b - 1) l.site

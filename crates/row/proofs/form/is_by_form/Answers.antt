@@ -25,7 +25,7 @@ returns-in-None c =
     && c.is_indexed.ensures k)
     ∙ form-go _ _ _ _ c.requires e
 
-pub returns-in-At : goal.returns-in-At
-returns-in-At c =
-    let e = sym c.head_fault-f.ensures ∙ c.in-At.is in
+pub returns-in-Some : goal.returns-in-Some
+returns-in-Some c =
+    let e = sym c.head_fault-f.ensures ∙ c.in-Some.is in
     form-stop _ _ _ _ c.requires (ap is_whole e)

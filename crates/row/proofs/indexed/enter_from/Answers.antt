@@ -13,26 +13,6 @@ loop-i-init c =
     entered-some c.args.j c.args.row.now c.requires.row_booked c.args.m
     c.requires.m_in_bounds c.requires.indexed
 
-pub overflow_add-first : goal.overflow_add-first
-overflow_add-first c =
-    omega (
-      arith,
-      c.word.ensures,
-      c.agreed_count-a.ensures,
-      c.requires.row_booked.numbers.order,
-      c.requires.row_booked.numbers.most,
-    )
-
-pub number-requires : goal.number-requires
-number-requires c =
-    omega (
-      arith,
-      c.word.ensures,
-      c.agreed_count-a.ensures,
-      c.requires.row_booked.numbers.order,
-      c.requires.row_booked.numbers.most,
-    )
-
 pub enter_one-requires : goal.enter_one-requires
 enter_one-requires c =
     let ok = c.requires.row_booked in
@@ -69,12 +49,3 @@ returns c =
       agreed-length c.args.j c.args.row.now ok,
       c.agreed_count-a.ensures,
     ))
-
-pub overflow_add-i : goal.overflow_add-i
-overflow_add-i c = omega arith
-
-pub loop-i-smaller : goal.loop-i-smaller
-loop-i-smaller c = omega arith
-
-pub shape_of-row : goal.shape_of-row
-shape_of-row c = c.loop-i.invariant.so_far.words

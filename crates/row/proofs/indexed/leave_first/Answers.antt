@@ -7,7 +7,7 @@ use Rattle.row.proofs.indexed.leave_first.Goals as goal
 pub leave_one-requires : goal.leave_one-requires
 leave_one-requires c =
     let ok = c.requires.row_booked in (
-      omega (arith, c.loop-i.invariant.1.so_far.words, c.requires.row_booked.words),
+      omega (arith, c.loop-i.invariant.so_far.words, c.requires.row_booked.words),
       c.requires.row_booked.loads,
       omega (
         arith,
@@ -19,27 +19,16 @@ leave_one-requires c =
     )
 
 pub loop-i-preserved : goal.loop-i-preserved
-loop-i-preserved c = (
-  omega arith,
-  left-more c.args.j c.args.row.now c.requires.row_booked c.loop-i.i c.loop-i.row _
-      c.loop-i.invariant.1
-      (omega (arith, c.requires.d_in_bounds)) c.leave_one.ensures,
-)
+loop-i-preserved c =
+    left-more c.args.j c.args.row.now c.requires.row_booked c.loop-i.i c.loop-i.row _
+    c.loop-i.invariant
+    (omega (arith, c.requires.d_in_bounds)) c.leave_one.ensures
 
 pub returns : goal.returns
 returns c =
     let all : c.loop-i.i ≡ c.args.d = omega arith in
-    rw (← all) c.loop-i.invariant.1.so_far
+    rw (← all) c.loop-i.invariant.so_far
 
 pub loop-i-init : goal.loop-i-init
 loop-i-init c =
-    (omega arith, left-none c.args.j c.args.row.now c.requires.row_booked c.requires.indexed)
-
-pub overflow_add-i : goal.overflow_add-i
-overflow_add-i c = omega arith
-
-pub loop-i-smaller : goal.loop-i-smaller
-loop-i-smaller c = omega arith
-
-pub shape_of-row : goal.shape_of-row
-shape_of-row c = c.loop-i.invariant.1.so_far.words
+    left-none c.args.j c.args.row.now c.requires.row_booked c.requires.indexed

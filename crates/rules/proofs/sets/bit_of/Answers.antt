@@ -3,26 +3,26 @@ use Rattle.rules.proofs.Tests.{tests}
 use Rattle.rules.specs.Sets.{bit}
 use Rattle.rules.proofs.sets.bit_of.Goals as goal
 
-pub returns-then-k-eq1 : goal.returns-then-k-eq1
+pub returns-in-1-clause-value : goal.returns-in-1-clause-value
 unfolding bit
-returns-then-k-eq1 c = search tests
+returns-in-1-clause-value c = search tests
 
-pub returns-then-k-eq2 : goal.returns-then-k-eq2
+pub returns-in-2-clause-value : goal.returns-in-2-clause-value
 unfolding bit
-returns-then-k-eq2 c = search tests
+returns-in-2-clause-value c = search tests
 
-pub returns-then-k-eq3 : goal.returns-then-k-eq3
+pub returns-in-3-clause-value : goal.returns-in-3-clause-value
 unfolding bit
-returns-then-k-eq3 c = search tests
+returns-in-3-clause-value c = search tests
 
-pub returns-then-k-eq4 : goal.returns-then-k-eq4
+pub returns-in-4-clause-value : goal.returns-in-4-clause-value
 unfolding bit
-returns-then-k-eq4 c = search tests
+returns-in-4-clause-value c = search tests
 
-pub returns-then-k-eq5 : goal.returns-then-k-eq5
+pub returns-in-5-clause-value : goal.returns-in-5-clause-value
 unfolding bit
-returns-then-k-eq5 c = search tests
+returns-in-5-clause-value c = search tests
 
-pub returns : goal.returns
+pub returns-in_default-clause-value : goal.returns-in_default-clause-value
 unfolding bit
-returns c = search tests
+returns-in_default-clause-value c = search tests

@@ -1,10 +1,6 @@
-use Prim.Native.Nat.{◌-◌}
 use Rattle.salvage.specs.Tally.{flagged}
 use Rattle.salvage.proofs.LoadLaws.{TallyTo}
 use Rattle.salvage.proofs.loads.kept_by.Given as goal
 
 abbrev pub invariant-loop-i : goal.invariant-loop-i
 invariant-loop-i l = TallyTo (flagged l.kept) l.image l.n l.k l.i l.t
-
-abbrev pub decreases-loop-i : goal.decreases-loop-i
-decreases-loop-i l = l.n - l.i

@@ -23,4 +23,4 @@ returns c =
     kept-is c.args.readable c.args.n c.args.body.now c.args.k
     c.number_at-first.ensures.value c.number_at-last.ensures.value
     (c.if-not-readable.false) c.if-k-first.false c.if-last-k.false
-    c.box_head_bytes.ensures c.size.ensures c.word_at.ensures
+    c.box_head_bytes.ensures c.size.ensures c.word_at.ensures.value

@@ -24,10 +24,6 @@ body-requires c =
 pub next_in-q-requires : goal.next_in-q-requires
 next_in-q-requires c = omega arith
 
-pub least-m-requires : goal.least-m-requires
-least-m-requires c =
-    (c.loop-i.invariant.0.from, (c.next_in-q.ensures c.args.n).from)
-
 pub loop-i-preserved : goal.loop-i-preserved
 loop-i-preserved c =
     let s = skip-here c.args.kept.now c.args.image.now c.args.n
@@ -36,8 +32,9 @@ loop-i-preserved c =
     let q = s.from in (
       skip-more (flagged c.args.kept.now) c.args.image.now c.args.n
           c.args.k c.loop-i.invariant.0 c.loop-i-test.true s
-          c.least-m.ensures.0 c.least-m.ensures.1 c.least-m.ensures.2,
-      omega arith,
+          (omega (arith, c.min-m.ensures)) (omega (arith, c.min-m.ensures))
+          (omega (arith, c.min-m.ensures, q, c.loop-i.invariant.0.from)),
+      omega (arith, c.min-m.ensures, c.loop-i.invariant.1),
     )
 
 pub returns : goal.returns

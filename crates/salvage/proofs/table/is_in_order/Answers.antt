@@ -17,7 +17,7 @@ pub returns-then-begin-p : goal.returns-then-begin-p
 returns-then-begin-p c =
     follow-stop c.args.image.now c.args.count c.args.at
     c.loop-i.invariant c.loop-i-test.true
-    c.table_number-begin.ensures.value c.table_number-long.ensures.value
+    c.table_number-begin.ensures.0 c.table_number-long.ensures.0
     c.if-begin-p.true
 
 pub overflow_add-p : goal.overflow_add-p
@@ -28,8 +28,8 @@ pub loop-i-preserved : goal.loop-i-preserved
 loop-i-preserved c =
     follow-more c.args.image.now c.args.count c.args.at
     c.loop-i.invariant c.loop-i-test.true
-    c.table_number-begin.ensures.value c.table_number-long.ensures.value
-    c.if-begin-p.false c.table_number-long.ensures.upper_bound
+    c.table_number-begin.ensures.0 c.table_number-long.ensures.0
+    c.if-begin-p.false c.table_number-long.ensures.1
 
 pub returns : goal.returns
 returns c =

@@ -2,12 +2,12 @@ use mathlib.Core.Path.{refl}
 use Rattle.salvage.proofs.TextLaws.{found-put}
 use Rattle.salvage.proofs.text.put_found.Goals as goal
 
-pub returns-in-Kept : goal.returns-in-Kept
-returns-in-Kept c =
-    found-put c.in-Kept.is refl
+pub returns-in-Ok : goal.returns-in-Ok
+returns-in-Ok c =
+    found-put c.in-Ok.is refl
     c.put_bytes.ensures
 
-pub returns-in-Aside : goal.returns-in-Aside
-returns-in-Aside c =
-    found-put c.in-Aside.is refl
+pub returns-in-Err : goal.returns-in-Err
+returns-in-Err c =
+    found-put c.in-Err.is refl
     c.put_aside.ensures

@@ -1,5 +1,4 @@
 -- `store::boxes::store_boxes` meets its contract: at each turn the first i are stored.
-use Prim.Native.Nat.{◌-◌}
 use mathlib.Core.List.{[]}
 use Rattle.row.specs.Row.{box_of}
 use Rattle.cells.proofs.StoreLaws.{Stored}
@@ -12,6 +11,3 @@ abbrev pub invariant-loop-i : goal.invariant-loop-i
 invariant-loop-i l =
     Stored (box_body l.n) (SomeBox l.n l.j) (HoldsBox l.n l.j) l.w l.n (box_of l.n []) l.src l.at
     l.initial.rows l.i l.rows l.p
-
-abbrev pub decreases-loop-i : goal.decreases-loop-i
-decreases-loop-i l = l.n - l.i

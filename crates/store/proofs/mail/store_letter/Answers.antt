@@ -5,7 +5,6 @@ use native.Mathlib.Omega.{arith}
 use lib.ListN.{length}
 use Rattle.laws.proofs.FormLaws.{letter-says}
 use Rattle.letter.specs.Place.{kind_of}
-use Rattle.cells.specs.Groups.{groups_of}
 use Rattle.image.specs.Image.{first_words, letter_groups}
 use Rattle.image.proofs.CutLaws.{letter-groups-long}
 use Rattle.image.proofs.Lengths.{length-letter}
@@ -21,7 +20,7 @@ get_at-requires c =
     (letter-room c.args.j c.requires.has, omega arith)
 
 groups : (c : After-letter_groups-groups)
-    → groups_of c.letter_groups-groups.result
+    → c.letter_groups-groups.result
     ≡ letter_groups (kind_of c.get_at.result)
 groups c = c.letter_groups-groups.ensures.0 ∙ ap letter_groups c.kind_of-kind.ensures
 

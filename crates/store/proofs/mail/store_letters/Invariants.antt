@@ -1,5 +1,4 @@
 -- `store::mail::store_letters` meets its contract: at each turn the first i are stored.
-use Prim.Native.Nat.{◌-◌}
 use mathlib.Core.List.{[]}
 use Rattle.letter.specs.Place.{letter_at}
 use Rattle.link.specs.Link.{place_width}
@@ -14,6 +13,3 @@ invariant-loop-i l =
     Stored letter_bytes (GoodLetter l.j) (HoldsLetter l.j) (place_width l.j) l.n (letter_at [])
     l.src l.at l.initial.places
     l.i l.places l.p
-
-abbrev pub decreases-loop-i : goal.decreases-loop-i
-decreases-loop-i l = l.n - l.i

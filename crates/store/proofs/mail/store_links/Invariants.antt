@@ -1,5 +1,4 @@
 -- `store::mail::store_links` meets its contract: at each turn the first i are stored.
-use Prim.Native.Nat.{◌-◌}
 use mathlib.Core.List.{[]}
 use Rattle.link.specs.Holds.{Holds}
 use Rattle.cells.proofs.StoreLaws.{Stored}
@@ -11,6 +10,3 @@ abbrev pub invariant-loop-i : goal.invariant-loop-i
 invariant-loop-i l =
     Stored link_bytes (GoodLink l.j l.l) (Holds l.j l.l) l.w l.m [] l.src l.at l.initial.links
     l.i l.links l.p
-
-abbrev pub decreases-loop-i : goal.decreases-loop-i
-decreases-loop-i l = l.m - l.i

@@ -1,13 +1,12 @@
--- The boxes up to b do not lead.
+-- The boxes below b do not lead.
 use native.Mathlib.Omega.{arith}
-use Rattle.memory.proofs.EveryLaws.{next-box}
-use Rattle.until.proofs.FirstLaws.{none-yet, none_more, none-stop, none-all}
+use Rattle.until.proofs.FirstLaws.{box-here, none-yet, none_more, none-stop, none-all}
 use Rattle.until.proofs.leader.leader.Goals as goal
 
 pub leads-requires : goal.leads-requires
 leads-requires c = record {
   rows_lent = c.requires;
-  b_value = next-box c.args.s.n c.loop-b.b (omega arith);
+  b_value = box-here c.loop-b.invariant (omega arith);
 }
 
 pub returns-then-leads : goal.returns-then-leads
@@ -23,11 +22,10 @@ loop-b-preserved c =
 pub loop-b-init : goal.loop-b-init
 loop-b-init c = none-yet
 
-pub overflow_add-b : goal.overflow_add-b
-overflow_add-b c = omega arith
-
-pub loop-b-smaller : goal.loop-b-smaller
-loop-b-smaller c = omega arith
-
 pub returns : goal.returns
 returns c = none-all c.loop-b.invariant (omega arith)
+
+pub returns-else-leads : goal.returns-else-leads
+returns-else-leads c =
+    none-all (none_more c.loop-b.invariant (omega arith) c.leads.ensures
+    c.if-leads.false) (omega arith)

@@ -1,5 +1,4 @@
--- The boxes up to a have no mail under way.
-use Prim.Native.Nat.{◌-◌}
+-- The boxes below a have no mail under way.
 use lib.Dec.{ltb}
 use Rattle.until.specs.Turns.{receiver_in}
 use Rattle.until.proofs.FirstLaws.{NoneTo}
@@ -7,6 +6,3 @@ use Rattle.until.proofs.mail.first_sender.Given as goal
 
 abbrev pub invariant-loop-a : goal.invariant-loop-a
 invariant-loop-a l = NoneTo (λ k. ltb 0 (receiver_in l.s l.links k)) l.s.n l.a
-
-abbrev pub decreases-loop-a : goal.decreases-loop-a
-decreases-loop-a l = l.s.n - l.a

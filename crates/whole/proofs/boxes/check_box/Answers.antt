@@ -43,11 +43,11 @@ returns-in-None c =
     (ap is_whole (sym c.head_fault-f.ensures ∙ c.in-None.is))
     c.size-count.ensures c.check_records.result c.check_records.ensures
 
-pub returns-in-At : goal.returns-in-At
-returns-in-At c =
+pub returns-in-Some : goal.returns-in-Some
+returns-in-Some c =
     headed_none (box_headed c.args.n c.args.j c.requires.n_le_most_boxes.0
     c.requires.n_le_most_boxes.1)
     (box-judged c.args.n c.args.j c.args.b c.requires.n_le_most_boxes.0
     c.requires.n_le_most_boxes.1) c.box_groups-groups.result c.box_groups-groups.ensures.0
     c.get_groups-p.ensures
-    (ap is_whole (sym c.head_fault-f.ensures ∙ c.in-At.is))
+    (ap is_whole (sym c.head_fault-f.ensures ∙ c.in-Some.is))

@@ -6,19 +6,19 @@ use Rattle.wording.proofs.put.put.Goals as goal
 
 pub slice_bounds-put_bytes-end : goal.slice_bounds-put_bytes-end
 slice_bounds-put_bytes-end c =
-    sym (length-take-le _ _ (omega (arith, c.least-n.ensures)))
+    sym (length-take-le _ _ (omega (arith, c.min-n.ensures)))
 
 pub put_bytes-requires : goal.put_bytes-requires
 put_bytes-requires c =
     let src = c.args.src.now in
     omega (
       arith,
-      c.least-a.ensures,
-      c.least-n.ensures,
-      length-take-le c.least-n.result src (omega (arith, c.least-n.ensures)),
+      c.min-a.ensures,
+      c.min-n.ensures,
+      length-take-le c.min-n.result src (omega (arith, c.min-n.ensures)),
     )
 
 pub returns : goal.returns
 returns c =
     put_is c.args.out.now _ c.args.src.now c.args.at _ _ _
-    c.least-a.ensures c.least-n.ensures c.put_bytes.ensures
+    c.min-a.ensures c.min-n.ensures c.put_bytes.ensures

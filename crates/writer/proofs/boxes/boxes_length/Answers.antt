@@ -18,7 +18,7 @@ within c =
     omega (arith, length_boxes_in c.args.s c.args.site.now)
 
 pub loop-i-init : goal.loop-i-init
-loop-i-init c = (omega arith, length_none _ [])
+loop-i-init c = length_none _ []
 
 pub box_length-total-requires : goal.box_length-total-requires
 box_length-total-requires c = (c.requires.rows_lent, omega arith)
@@ -27,19 +27,17 @@ pub overflow_add-total : goal.overflow_add-total
 overflow_add-total c =
     let room =
     length-room _ _ c.loop-i.i fresh_box (within (goal.at.overflow_add-total c).In-loop-i)
-    c.loop-i.invariant.1
+    c.loop-i.invariant
     c.box_length-total.ensures in
     omega arith
 
 pub loop-i-preserved : goal.loop-i-preserved
-loop-i-preserved c = (
-  omega arith,
-  length-next _ _ c.loop-i.i fresh_box _ _ (within (goal.at.loop-i-preserved c).In-loop-i)
-      c.loop-i.invariant.1
-      c.box_length-total.ensures,
-)
+loop-i-preserved c =
+    length-next _ _ c.loop-i.i fresh_box _ _ (within (goal.at.loop-i-preserved c).In-loop-i)
+    c.loop-i.invariant
+    c.box_length-total.ensures
 
 pub returns : goal.returns
 returns c =
     let few = length_boxes_in c.args.s c.args.site.now in
-    length-all _ _ c.loop-i.i _ (omega arith) c.loop-i.invariant.1
+    length-all _ _ c.loop-i.i _ (omega arith) c.loop-i.invariant

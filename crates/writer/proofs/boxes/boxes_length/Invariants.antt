@@ -1,6 +1,5 @@
 -- Each turn adds the next length.
 use mathlib.Core.Path.{◌≡◌}
-use Prim.Native.Nat.{◌-◌, ◌≤◌}
 use lib.ListN.{length, take}
 use Rattle.cells.specs.Cells.{chain}
 use Rattle.image.specs.Image.{box_body}
@@ -9,7 +8,4 @@ use Rattle.writer.proofs.boxes.boxes_length.Given as goal
 
 abbrev pub invariant-loop-i : goal.invariant-loop-i
 invariant-loop-i l =
-    (l.i ≤ l.s.n) × (l.total ≡ length (chain (box_body l.s.n) (take l.i (boxes_in l.s l.site))))
-
-abbrev pub decreases-loop-i : goal.decreases-loop-i
-decreases-loop-i l = l.s.n - l.i
+    l.total ≡ length (chain (box_body l.s.n) (take l.i (boxes_in l.s l.site)))

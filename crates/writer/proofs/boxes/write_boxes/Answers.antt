@@ -7,8 +7,7 @@ use Rattle.writer.proofs.EntryLaws.{entered-next}
 use Rattle.writer.proofs.boxes.write_boxes.Goals as goal
 
 pub loop-i-init : goal.loop-i-init
-loop-i-init c =
-    (omega arith, entered-start _ c.requires.space)
+loop-i-init c = entered-start _ c.requires.space
 
 pub overflow_mul-i : goal.overflow_mul-i
 overflow_mul-i c =
@@ -26,22 +25,20 @@ enter_box-p-requires c =
       rows_lent = (c.requires.rows_lent, omega arith);
       space = space_next _ c.requires.space c.loop-i.i (omega arith)
           (bodies-at c.args.s c.args.site.now c.loop-i.i (omega arith))
-          c.loop-i.invariant.1;
+          c.loop-i.invariant;
     }
 
 pub loop-i-preserved : goal.loop-i-preserved
 loop-i-preserved c =
-    let few = length-bodies c.args.s c.args.site.now in (
-      omega arith,
-      entered-next _ c.requires.space c.loop-i.i (omega arith)
-          (bodies-at c.args.s c.args.site.now c.loop-i.i (omega arith)) c.loop-i.invariant.1
-          c.enter_box-p.ensures,
-    )
+    let few = length-bodies c.args.s c.args.site.now in
+    entered-next _ c.requires.space c.loop-i.i (omega arith)
+    (bodies-at c.args.s c.args.site.now c.loop-i.i (omega arith)) c.loop-i.invariant
+    c.enter_box-p.ensures
 
 pub shape_of-out : goal.shape_of-out
-shape_of-out c = entered-length c.loop-i.invariant.1
+shape_of-out c = entered-length c.loop-i.invariant
 
 pub returns : goal.returns
 returns c =
     let few = length-bodies c.args.s c.args.site.now in
-    entered_all _ c.requires.space c.loop-i.i (omega arith) c.loop-i.invariant.1
+    entered_all _ c.requires.space c.loop-i.i (omega arith) c.loop-i.invariant

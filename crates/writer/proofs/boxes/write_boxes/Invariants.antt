@@ -1,6 +1,5 @@
 -- At each turn the first i boxes are written and
 -- entered.
-use Prim.Native.Nat.{◌-◌, ◌≤◌}
 use mathlib.Core.List.{map}
 use lib.ListN.{take}
 use Rattle.image.specs.Image.{box_body}
@@ -9,8 +8,5 @@ use Rattle.writer.proofs.boxes.write_boxes.Given as goal
 
 abbrev pub invariant-loop-i : goal.invariant-loop-i
 invariant-loop-i l =
-    (l.i ≤ l.s.n) × Entered (take l.i (map (box_body l.s.n) (boxes_in l.s l.site))) l.initial.out
+    Entered (take l.i (map (box_body l.s.n) (boxes_in l.s l.site))) l.initial.out
     l.k l.at l.out l.p
-
-abbrev pub decreases-loop-i : goal.decreases-loop-i
-decreases-loop-i l = l.s.n - l.i

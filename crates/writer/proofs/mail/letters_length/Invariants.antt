@@ -1,6 +1,5 @@
 -- Each turn adds the next length.
 use mathlib.Core.Path.{◌≡◌}
-use Prim.Native.Nat.{◌-◌, ◌≤◌}
 use lib.ListN.{length, take}
 use Rattle.link.specs.Link.{link_of}
 use Rattle.cells.specs.Cells.{chain}
@@ -9,7 +8,4 @@ use Rattle.writer.proofs.mail.letters_length.Given as goal
 
 abbrev pub invariant-loop-i : goal.invariant-loop-i
 invariant-loop-i l =
-    (l.i ≤ l.count) × (l.total ≡ length (chain letter_bytes (take l.i (link_of l.j l.l l.link))))
-
-abbrev pub decreases-loop-i : goal.decreases-loop-i
-decreases-loop-i l = l.count - l.i
+    l.total ≡ length (chain letter_bytes (take l.i (link_of l.j l.l l.link)))

@@ -21,7 +21,7 @@ pub link_count-count-requires : goal.link_count-count-requires
 link_count-count-requires c = c.requires.links_lent.sizes
 
 pub loop-k-init : goal.loop-k-init
-loop-k-init c = (omega arith, length_none _ [])
+loop-k-init c = length_none _ []
 
 pub link_length-total-requires : goal.link_length-total-requires
 link_length-total-requires c =
@@ -39,19 +39,17 @@ link_length-total-requires c =
 pub overflow_add-total : goal.overflow_add-total
 overflow_add-total c =
     let room = length-room _ _ c.loop-k.k [] (within (goal.at.overflow_add-total c).In-loop-k)
-    c.loop-k.invariant.1
+    c.loop-k.invariant
     c.link_length-total.ensures in
     omega arith
 
 pub loop-k-preserved : goal.loop-k-preserved
-loop-k-preserved c = (
-  omega arith,
-  length-next _ _ c.loop-k.k [] _ _ (within (goal.at.loop-k-preserved c).In-loop-k)
-      c.loop-k.invariant.1 c.link_length-total.ensures,
-)
+loop-k-preserved c =
+    length-next _ _ c.loop-k.k [] _ _ (within (goal.at.loop-k-preserved c).In-loop-k)
+    c.loop-k.invariant c.link_length-total.ensures
 
 pub returns : goal.returns
 returns c =
     length-all _ _ c.loop-k.k _
     (omega (arith, c.link_count-count.ensures, length_links_in c.args.s c.args.links.now))
-    c.loop-k.invariant.1
+    c.loop-k.invariant

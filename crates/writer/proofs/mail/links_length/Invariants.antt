@@ -1,6 +1,5 @@
 -- Each turn adds the next length.
 use mathlib.Core.Path.{◌≡◌}
-use Prim.Native.Nat.{◌-◌, ◌≤◌}
 use lib.ListN.{length, take}
 use Rattle.cells.specs.Cells.{chain}
 use Rattle.image.specs.Image.{link_bytes}
@@ -9,7 +8,4 @@ use Rattle.writer.proofs.mail.links_length.Given as goal
 
 abbrev pub invariant-loop-k : goal.invariant-loop-k
 invariant-loop-k l =
-    (l.k ≤ l.count) × (l.total ≡ length (chain link_bytes (take l.k (links_in l.s l.links))))
-
-abbrev pub decreases-loop-k : goal.decreases-loop-k
-decreases-loop-k l = l.count - l.k
+    l.total ≡ length (chain link_bytes (take l.k (links_in l.s l.links)))

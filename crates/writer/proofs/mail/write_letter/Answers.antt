@@ -1,7 +1,6 @@
 -- Its words in their groups, then the records.
 use mathlib.Core.Path.{◌≡◌, ap, ◌∙◌}
 use native.Mathlib.Omega.{arith}
-use Rattle.cells.specs.Groups.{groups_of}
 use Rattle.image.specs.Image.{letter_groups}
 use Rattle.writer.proofs.MailLaws.{PlaceOf, kind_in, place_is, letter-put}
 use Rattle.writer.proofs.PutLaws.{put_needs, put-wrote}
@@ -29,7 +28,7 @@ place-letter_groups_groups c =
 
 -- The groups of its kind.
 groups : (c : After-letter_groups-groups)
-    → groups_of c.letter_groups-groups.result
+    → c.letter_groups-groups.result
     ≡ letter_groups (kind_in (place-letter_groups_groups c))
 groups c = c.letter_groups-groups.ensures.0 ∙ ap letter_groups c.kind_of-kind.ensures
 

@@ -6,27 +6,24 @@ use Rattle.cells.proofs.WriteLaws.{wrote_none, room-next, wrote-next, wrote-all,
 use Rattle.writer.proofs.mail.write_letters.Goals as goal
 
 pub loop-i-init : goal.loop-i-init
-loop-i-init c =
-    (omega arith, wrote_none _ [] _ _ (omega arith))
+loop-i-init c = wrote_none _ [] _ _ (omega arith)
 
 pub write_letter-p-requires : goal.write_letter-p-requires
 write_letter-p-requires c = record {
   readable_link = (c.requires.readable_link, omega (arith, c.count-count.ensures));
   room = room-next _ _ (letter_at []) c.loop-i.i (omega (arith, c.count-count.ensures))
       c.requires.room
-      c.loop-i.invariant.1;
+      c.loop-i.invariant;
 }
 
 pub loop-i-preserved : goal.loop-i-preserved
-loop-i-preserved c = (
-  omega arith,
-  wrote-next _ _ (letter_at []) c.loop-i.i (omega (arith, c.count-count.ensures))
-      c.loop-i.invariant.1 c.write_letter-p.ensures,
-)
+loop-i-preserved c =
+    wrote-next _ _ (letter_at []) c.loop-i.i (omega (arith, c.count-count.ensures))
+    c.loop-i.invariant c.write_letter-p.ensures
 
 pub shape_of-out : goal.shape_of-out
-shape_of-out c = wrote-length c.loop-i.invariant.1
+shape_of-out c = wrote-length c.loop-i.invariant
 
 pub returns : goal.returns
 returns c =
-    wrote-all _ _ c.loop-i.i (omega (arith, c.count-count.ensures)) c.loop-i.invariant.1
+    wrote-all _ _ c.loop-i.i (omega (arith, c.count-count.ensures)) c.loop-i.invariant

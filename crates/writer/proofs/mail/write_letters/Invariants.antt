@@ -1,5 +1,4 @@
 -- At each turn the first i letters are written.
-use Prim.Native.Nat.{◌-◌, ◌≤◌}
 use lib.ListN.{take}
 use Rattle.link.specs.Link.{link_of}
 use Rattle.cells.specs.Cells.{chain, Wrote}
@@ -8,8 +7,5 @@ use Rattle.writer.proofs.mail.write_letters.Given as goal
 
 abbrev pub invariant-loop-i : goal.invariant-loop-i
 invariant-loop-i l =
-    (l.i ≤ l.count) × Wrote (chain letter_bytes (take l.i (link_of l.j l.l l.link)))
+    Wrote (chain letter_bytes (take l.i (link_of l.j l.l l.link)))
     l.initial.out l.at l.out l.p
-
-abbrev pub decreases-loop-i : goal.decreases-loop-i
-decreases-loop-i l = l.count - l.i

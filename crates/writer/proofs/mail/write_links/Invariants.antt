@@ -1,5 +1,4 @@
 -- At each turn the first k links are written.
-use Prim.Native.Nat.{◌-◌, ◌≤◌}
 use lib.ListN.{take}
 use Rattle.cells.specs.Cells.{chain, Wrote}
 use Rattle.image.specs.Image.{link_bytes}
@@ -8,8 +7,5 @@ use Rattle.writer.proofs.mail.write_links.Given as goal
 
 abbrev pub invariant-loop-k : goal.invariant-loop-k
 invariant-loop-k l =
-    (l.k ≤ l.count) × Wrote (chain link_bytes (take l.k (links_in l.s l.links)))
+    Wrote (chain link_bytes (take l.k (links_in l.s l.links)))
     l.initial.out l.at l.out l.p
-
-abbrev pub decreases-loop-k : goal.decreases-loop-k
-decreases-loop-k l = l.count - l.k

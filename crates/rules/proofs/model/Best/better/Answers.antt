@@ -14,8 +14,8 @@ pub returns : goal.returns
 unfolding bettered
 returns c =
     simp (
-      c.pick_best.ensures,
+      c.pick.ensures,
       c.clear-2.ensures,
       c.improved_by.ensures,
-      c.in-Record.is,
+      c.in-Some.is,
     )

@@ -6,6 +6,6 @@ pub returns : goal.returns
 unfolding cleared
 returns c =
     simp (
-      c.pick_best.ensures,
+      c.pick.ensures,
       c.none.ensures,
     )

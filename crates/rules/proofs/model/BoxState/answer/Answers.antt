@@ -6,8 +6,8 @@ pub returns : goal.returns
 unfolding replied
 returns c =
     simp (
-      c.pick_box.ensures,
-      c.pick_box-rest.ensures,
+      c.pick.ensures,
+      c.pick-rest.ensures,
       c.pass-below.ensures,
       c.count-equal.ensures,
       c.raise-above.ensures,

@@ -6,13 +6,8 @@ use Rattle.rules.proofs.model.BoxState.any_act.Goals as goal
 
 pub act-requires : goal.act-requires
 act-requires c =
-    let h = bounded-box _ _ (sym c.bounded-fits.ensures ∙ c.if-fits.true) in record {
-      pn_le_most_pn = h.pn;
-      last_le_most_number = h.last;
-      first_bound = h.first;
-      me_le_most_boxes = h.me;
-      j_le_most_loads = h.j;
-    }
+    let h = bounded-box _ _ (sym c.bounded-fits.ensures ∙ c.if-fits.true) in
+    record { kept = h.0; setting = h.1 }
 
 pub returns-then-fits : goal.returns-then-fits
 unfolding any_act

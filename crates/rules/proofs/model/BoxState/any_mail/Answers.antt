@@ -11,15 +11,7 @@ on_mail-requires c =
     let g = c.bounded-mail_fits.result in
     let h = bounded-box _ _ (sym c.bounded-box_fits.ensures ∙ first-of f g c.if-fits.true) in
     let m = bounded-mail _ (sym c.bounded-mail_fits.ensures ∙ second-of f g c.if-fits.true) in
-    record {
-      last_le_most_number = h.last;
-      first_bound = h.first;
-      last_le_most_number_2 = m.last;
-      first_bound_2 = m.first;
-      pn_le_most_pn = m.pn;
-      me_le_most_boxes = h.me;
-      j_le_most_loads = h.j;
-    }
+    record { kept = h.0; setting = h.1; mail = m }
 
 pub returns-then-fits : goal.returns-then-fits
 unfolding any_mail

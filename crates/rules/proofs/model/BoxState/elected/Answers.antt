@@ -6,6 +6,6 @@ pub returns : goal.returns
 unfolding elected
 returns c =
     simp (
-      c.pick_state.ensures,
+      c.pick.ensures,
       c.count-alone.ensures,
     )

@@ -12,6 +12,6 @@ returns c =
       c.mail_from-last.ensures,
       c.first_cause-v.ensures,
       c.promise-kept.ensures,
-      c.larger-pn.ensures,
+      c.max-pn.ensures,
       c.unagreed-unagreed.ensures,
     )

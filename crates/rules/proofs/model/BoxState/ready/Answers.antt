@@ -10,7 +10,7 @@ returns c =
       c.unless-v.ensures,
       c.can_ready.ensures,
       c.unless-w.ensures,
-      c.pick_turn-t.ensures,
+      c.pick-t.ensures,
       c.lease.ensures,
       c.start.ensures,
       c.room_next-room.ensures,

@@ -15,5 +15,5 @@ unfolding best_held
 returns c =
     simp (
       c.under.ensures,
-      c.in-Record.is,
+      c.in-Some.is,
     )

@@ -2,16 +2,16 @@
 use Rattle.rules.specs.Mails.{unagreed_of}
 use Rattle.rules.proofs.model.Kept.unagreed.Goals as goal
 
-pub returns-in-Record : goal.returns-in-Record
+pub returns-in-Some : goal.returns-in-Some
 unfolding unagreed_of
-returns-in-Record c =
+returns-in-Some c =
     simp (
       c.under.ensures,
-      c.in-Record.is,
+      c.in-Some.is,
     )
 
-pub returns-in-Nothing : goal.returns-in-Nothing
+pub returns-in-None : goal.returns-in-None
 unfolding unagreed_of
-returns-in-Nothing c =
+returns-in-None c =
     simp
-    c.in-Nothing.is
+    c.in-None.is

@@ -6,4 +6,4 @@ pub returns : goal.returns
 unfolding under_of
 returns c =
     simp
-    c.pick_number.ensures
+    c.pick.ensures

@@ -1,0 +1,1 @@
+-- The functions of `by_lines` are safe and end.

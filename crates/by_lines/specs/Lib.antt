@@ -1,0 +1,3 @@
+-- What the contracts of `by_lines` cite.
+pub mod Run
+pub mod Whole

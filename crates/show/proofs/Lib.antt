@@ -1,2 +1,0 @@
--- The loops of `show` end, and stay inside what is lent.
-pub mod ReadLaws

@@ -1,2 +1,0 @@
--- What the contracts of `show` cite.
-pub mod Filled
