@@ -1,5 +1,5 @@
 // How far the lines of the input have come.
-ghost use Rattle.std.specs.Prelude.{◌≡◌, ◌+◌, ◌%◌, ◌^◌, ◌||◌, true};
+ghost use Rattle.std.specs.Prelude.{◌≡◌, ◌+◌, ◌%◌, ◌^◌, ◌||◌, true, false, drop, take};
 ghost use Rattle.by_lines.specs.Run.{is_larger, is_on, status_of};
 
 use streams::Status;
@@ -26,7 +26,11 @@ pub struct Run {
 }
 
 impl Run {
-    pub fn start() -> Run {
+    pub fn start() -> Run
+        ensures on { is_on result.stage ≡ true }
+        ensures none { (result.held ≡ 0) × (result.lines ≡ 0) }
+        ensures told { result.refused ≡ false }
+    {
         Run {
             stage: Stage::On,
             held: 0,
@@ -50,14 +54,18 @@ impl Run {
     }
 
     // What is held of the line that has begun.
-    pub fn front_of(self, line: &[u8]) -> &[u8] {
+    pub fn front_of(self, line: &[u8]) -> &[u8]
+        ensures { result.now ≡ take self.held line.now }
+    {
         &line[..self.held.min(line.len())]
     }
 
     // Where larger buffers go on in the piece.
-    pub fn rest_of(self, piece: &[u8]) -> &[u8] {
-        let end = self.end.min(piece.len());
-        &piece[self.rest.min(end)..end]
+    pub fn rest_of(self, piece: &[u8]) -> &[u8]
+        ensures { result.now ≡ drop self.rest (take self.end piece.now) }
+    {
+        let piece = &piece[..self.end.min(piece.len())];
+        &piece[self.rest.min(piece.len())..]
     }
 
     // What the program reports.
@@ -74,12 +82,20 @@ impl Run {
         }
     }
 
-    pub fn with_stage(self, stage: Stage) -> Run {
+    pub fn with_stage(self, stage: Stage) -> Run
+        ensures stage { result.stage ≡ stage }
+        ensures held { (result.held ≡ self.held) × (result.lines ≡ self.lines) }
+        ensures told { result.refused ≡ self.refused }
+    {
         Run { stage, ..self }
     }
 
     // So many bytes of a line are held.
-    pub fn begun(self, held: usize) -> Run {
+    pub fn begun(self, held: usize) -> Run
+        ensures on { is_on result.stage ≡ true }
+        ensures held { (result.held ≡ held) × (result.lines ≡ self.lines) }
+        ensures told { result.refused ≡ self.refused }
+    {
         Run {
             stage: Stage::On,
             held,
