@@ -8,7 +8,7 @@ use native.Mathlib.Omega.{arith}
 use mathlib.Core.List.{List, [], ◌∷◌, ◌++◌, append-nil}
 use lib.Dec.{ltb}
 use lib.ListN.{length, take, drop, get_or, set, length-drop}
-use lib.Seq.{take_all, take-suc, take-suc-set, append_snoc, get_or-drop}
+use lib.Seq.{take_all, take-suc, take-suc-set, append_snoc, drop-cons, get_or-drop}
 use borrow.Author.Tests.{ltb-true, ltb-false}
 use Rattle.words.specs.Rows.{part, splice}
 use Rattle.words.proofs.PartLaws.{length_part, get_or-splice, get_or_past, set-splice}
@@ -22,6 +22,15 @@ module _ {ℓ} {A : Type ℓ} (whole now : List A) (i : ℕ) where
   -- All is written.
   pub write_end : length now ≤ i → whole ≡ take i now ++ [] → now ≡ whole
   write_end h e = sym (e ∙ append-nil (take i now) ∙ take_all i now h)
+
+module _ {ℓ} {A : Type ℓ} (now : List A) (i : ℕ) where
+  -- A turn of `copy`: one more element of src.
+  pub copy_more : (d : A) (src : List A) → i < length src → i < length now
+      → src ≡ take i now ++ drop i src
+      → src ≡ take (i + 1) (set now i (get_or src i d)) ++ drop (i + 1) src
+  copy_more d src h k e =
+      let rest = drop (i + 1) src in
+      write_more src now i (get_or src i d) rest k (rw (add-one, ← drop-cons src i d) e)
 
 -- A turn of `copy_within` on what was xs: one more element, which is not written yet.
 module _ {ℓ} {A : Type ℓ} (d : A) (xs : List A) (a b i : ℕ) (h : a + i < length xs)

@@ -5,12 +5,23 @@ ghost use Rattle.std.specs.Prelude.{◌≡◌, ◌+◌, ◌*◌, ◌^◌, ◌≤
 ghost use Rattle.words.specs.Rows.{part, splice};
 ghost use Rattle.words.specs.Ring.{slot, next, previous};
 
+// dst becomes the words of src, which are as many. No `copy_from_slice`: it calls memmove, which an
+// archive for C would then need from outside.
+pub fn copy(src: &[u64], dst: &mut [u64])
+    requires { length src.now ≡ length dst.old }
+    ensures { dst.new ≡ src.now }
+{
+    for i in 0..src.len() {
+        dst[i] = src[i];
+    }
+}
+
 // The n words of src from a on go into dst from b on.
 pub fn copy_part(src: &[u64], a: usize, dst: &mut [u64], b: usize, n: usize)
     requires { (a + n ≤ length src.now) × (b + n ≤ length dst.old) }
     ensures { dst.new ≡ splice dst.old b n (part src.now a n) }
 {
-    dst[b..b + n].copy_from_slice(&src[a..a + n]);
+    copy(&src[a..a + n], &mut dst[b..b + n]);
 }
 
 // The n words from a on go to b, in order: none of them may be written before it is read.

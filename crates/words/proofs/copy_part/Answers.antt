@@ -3,4 +3,4 @@ use native.Mathlib.Nat.{add-sub_cancel_left}
 use Rattle.words.proofs.copy_part.Goals as goal
 
 pub returns : goal.returns
-returns c = simp (c.copy_from_slice.ensures.after, add-sub_cancel_left)
+returns c = simp (c.copy.ensures, add-sub_cancel_left)
