@@ -47,6 +47,6 @@ fn main(rt: HostRuntime) {
     let status = run::run(&rt, &mut site, &mut links, &mut input, &mut out);
     if streams::has_argument(&rt, 1, b"report") {
         let last = finish(&rt, status, image, &site, &links, &mut out);
-        streams::report(&rt, last);
+        streams::report(&rt, u8::from(last));
     }
 }

@@ -75,10 +75,12 @@ pub fn open_to_keep<S: Streams>(rt: &S, path: &str) -> Result<S::File> {
         .map_err(of_descriptor)
 }
 
-// The digit of the status, to descriptor 3.
-pub fn report<S: Streams>(rt: &S, status: Status) {
-    if let Ok(mut to) = open_to_write(rt, "/proc/self/fd/3") {
-        let _ = send(rt, &mut to, &[b'0' + u8::from(status)]);
+// The digit of a status, to descriptor 3; nothing where there is no such digit.
+pub fn report<S: Streams>(rt: &S, status: u8) {
+    if status < 10 {
+        if let Ok(mut to) = open_to_write(rt, "/proc/self/fd/3") {
+            let _ = send(rt, &mut to, &[b'0' + status]);
+        }
     }
 }
 
@@ -94,6 +96,6 @@ pub fn has_argument<S: Streams>(rt: &S, i: usize, word: &[u8]) -> bool {
 // The status goes to descriptor 3 where argument 1 is `report`.
 pub fn report_if_asked<S: Streams>(rt: &S, status: Status) {
     if has_argument(rt, 1, b"report") {
-        report(rt, status);
+        report(rt, u8::from(status));
     }
 }
