@@ -10,10 +10,10 @@ ghost use Rattle.by_lines.specs.declared.End.{End};
 mod run;
 pub mod whole;
 
+use lines::hold::hold;
 pub use run::{Run, Stage};
 use std::io::{Error, Result};
 use streams::{Status, Streams};
-use wording::put::put;
 
 // Where a line ended: at a newline, which is no part of it; at the end of the input; or at the end
 // of the buffer, in which it is not held whole.
@@ -58,8 +58,7 @@ pub struct Reader<'a, S> {
 
 impl<'a, S: Streams> Reader<'a, S> {
     fn failed(&self, what: &[u8], error: Error, run: Run) -> Run {
-        streams::write_errors(self.rt, self.name);
-        streams::fail(self.rt, what, error);
+        wording::fail(self.rt, self.name, what, error);
         run.with_stage(Stage::Failed)
     }
 
@@ -98,7 +97,7 @@ impl<'a, S: Streams> Reader<'a, S> {
         if self.larger & !fits {
             return run.with_stage(Stage::Larger);
         }
-        let n = put(line, held, part);
+        let n = hold(line, held, part);
         if !ended {
             return run.begun(n);
         }
@@ -207,7 +206,7 @@ impl<'a, S: Streams> Reader<'a, S> {
         ensures fits { A.fits to.new }
         ensures cut_from { A.cut_from to.new ≡ A.cut_from to.old }
     {
-        let n = put(line, 0, front);
+        let n = hold(line, 0, front);
         let r = self.take_piece(rest, run.begun(n), line, to);
         if !r.goes_on() {
             return r;

@@ -3,3 +3,4 @@ pub mod ReadLaws
 pub mod NumberLaws
 pub mod Exact
 pub mod Ranges
+pub mod HoldLaws

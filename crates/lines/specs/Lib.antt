@@ -2,3 +2,4 @@
 pub mod Table
 pub mod Read
 pub mod Printed
+pub mod Hold

@@ -28,8 +28,7 @@ pub(crate) fn unreadable<S: Streams>(rt: &S, back: bool, k: u64, text: &[u8]) {
 }
 
 fn failed<S: Streams>(rt: &S, back: bool, what: &[u8], error: Error) {
-    streams::write_errors(rt, name(back));
-    streams::fail(rt, what, error);
+    wording::fail(rt, name(back), what, error);
 }
 
 pub(crate) fn input_failed<S: Streams>(rt: &S, back: bool, error: Error) {

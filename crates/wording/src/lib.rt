@@ -12,6 +12,7 @@ pub mod put;
 use fault::Fault;
 use meaning::{put_fault, put_meaning};
 use put::{put, put_number, put_shown};
+use std::io::Error;
 use streams::Streams;
 
 // The program's name, and the number of the line in which the refused text stands, where it does
@@ -63,6 +64,14 @@ fn send_refusal<S: Streams>(
     let p = put_refusal(out, name, line, text, code);
     let p = put_last(out, p, last);
     send_message(rt, out, p);
+}
+
+// What failed of the program `name`, and the system's words for why.
+pub fn fail<S: Streams>(rt: &S, name: &[u8], what: &[u8], error: Error) {
+    let mut text = [0u8; 128];
+    let p = put(&mut text, 0, name);
+    let p = put(&mut text, p, what);
+    streams::fail(rt, &text[..p], error);
 }
 
 // The text, of the line of this number or alone, is refused by code; last are the caller's own

@@ -2,8 +2,8 @@ use mathlib.Core.Path.{refl, ◌∙◌}
 use native.Mathlib.Omega.{arith}
 use lib.ListN.{length-set}
 use lib.Seq.{paste-zero}
-use Rattle.answer.proofs.HoldLaws.{copied_more, kept-is}
-use Rattle.answer.proofs.hold.hold.Goals as goal
+use Rattle.lines.proofs.HoldLaws.{copied_more, kept-is}
+use Rattle.lines.proofs.hold.hold.Goals as goal
 
 pub loop-j-init : goal.loop-j-init
 loop-j-init c = (
