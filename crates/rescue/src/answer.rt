@@ -42,11 +42,24 @@ pub(crate) fn tell_hex<S: Streams>(
     }
 }
 
+// A line in hex. One that has more digits than any image is not looked at.
+fn tell_line<S: Streams>(
+    rt: &S,
+    line: &[u8],
+    image: &mut [u8],
+    out: &mut [u8],
+) -> Result<Answered> {
+    if image.len() < line.len() / 2 {
+        return refused(rt);
+    }
+    tell_hex(rt, line, image, out)
+}
+
 // A line that fills its buffer is longer than any image, and one that no newline ends is a line
 // too.
 impl<'a, S: Streams> Answers<S> for Room<'a> {
     fn answer(&mut self, rt: &S, line: &[u8], number: u64, _end: End) -> Result<Answered> {
-        let answered = tell_hex(rt, line, self.image, self.out)?;
+        let answered = tell_line(rt, line, self.image, self.out)?;
         if answered == Answered::Refused {
             wording::refuse(
                 rt,

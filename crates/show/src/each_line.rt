@@ -1,6 +1,6 @@
 // The lines of the input, each an image in hex.
 use crate::buffers::Job;
-use crate::sheet::Sheet;
+use crate::sheet::Page;
 use crate::{buffers, hexes};
 use by_lines::{Answered, Answers, End, Reader, Run, Stage};
 use std::io::{Result, Write};
@@ -14,19 +14,21 @@ const TEXT: usize = 65536;
 #[derive(Drop)]
 struct Room<'i, 'r, 'o, S: Streams> {
     image: &'i mut [u8],
-    sheet: Sheet<'r, 'o, S>,
+    page: Page<'r, 'o, S>,
 }
 
 // A line that fills its buffer is longer than any image, and one that no newline ends is a line
 // too.
 impl<'i, 'r, 'o, S: Streams> Answers<S> for Room<'i, 'r, 'o, S> {
     fn answer(&mut self, _rt: &S, line: &[u8], number: u64, _end: End) -> Result<Answered> {
-        hexes::answer(&mut self.sheet, self.image, line, number)
+        let answered = hexes::answer(&mut self.page, self.image, line, number)?;
+        self.page.taken()?;
+        Ok(answered)
     }
 }
 
-// Sends what is left of the text.
-fn sent<S: Streams>(mut to: Sheet<S>, run: Run) -> Run {
+// Sends what is left of the text. Where a write failed before, it is told once more.
+fn sent<S: Streams>(mut to: Page<S>, run: Run) -> Run {
     match to.flush() {
         Ok(()) => run,
         Err(error) => {
@@ -55,22 +57,22 @@ pub(crate) fn serve_rest<S: Streams>(
 ) -> Status {
     let mut piece = [0u8; PIECE];
     let mut out = [0u8; TEXT];
-    let sheet = Sheet::on(rt, &mut out);
-    let mut room = Room { image, sheet };
+    let page = Page::on(rt, &mut out);
+    let mut room = Room { image, page };
     let reader = reader_of(rt, false);
     let run = reader.read_on(front, rest, &mut piece, run, line, &mut room);
-    sent(room.sheet, run).status()
+    sent(room.page, run).status()
 }
 
 // Where a line does not fit the larger set goes on.
 pub(crate) fn serve<S: Streams>(rt: &S, line: &mut [u8], image: &mut [u8]) -> Status {
     let mut piece = [0u8; PIECE];
     let mut out = [0u8; TEXT];
-    let sheet = Sheet::on(rt, &mut out);
-    let mut room = Room { image, sheet };
+    let page = Page::on(rt, &mut out);
+    let mut room = Room { image, page };
     let reader = reader_of(rt, true);
     let run = reader.read(&mut piece, Run::start(), line, &mut room);
-    let run = sent(room.sheet, run);
+    let run = sent(room.page, run);
     if !run.is_too_large() {
         return run.status();
     }

@@ -1,6 +1,6 @@
 // One image in words: its contents, or one body.
 use crate::fields::Body;
-use crate::sheet::Sheet;
+use crate::sheet::Page;
 use crate::{boxes, mail};
 use bodies::contents;
 use rules::model::Refusal;
@@ -61,7 +61,7 @@ pub(crate) fn refuse<S: Streams>(rt: &S, why: Refusal) -> Status {
 }
 
 // What was written is sent, or a write failed.
-fn finish<S: Streams>(mut to: Sheet<S>, written: Result<()>) -> Status {
+fn finish<S: Streams>(mut to: Page<S>, written: Result<()>) -> Status {
     match written.and_then(|()| to.flush()) {
         Ok(()) => Status::Done,
         Err(error) => {
@@ -76,7 +76,7 @@ pub(crate) fn show_contents<S: Streams>(rt: &S, out: &mut [u8], image: &[u8]) ->
     if contents::first(image) == 0 {
         return refuse(rt, Refusal::Form);
     }
-    let mut to = Sheet::on(rt, out);
+    let mut to = Page::on(rt, out);
     let written = put_contents(&mut to, image);
     finish(to, written)
 }
@@ -86,7 +86,7 @@ pub(crate) fn show_body<S: Streams>(rt: &S, out: &mut [u8], image: &[u8], k: u32
     if let Err(why) = bodies::body(image, k) {
         return refuse(rt, why);
     }
-    let mut to = Sheet::on(rt, out);
+    let mut to = Page::on(rt, out);
     let body = contents::part(image, k);
     let written = put_body(&mut to, body, u64::from(k), boxes_of(image));
     finish(to, written)
