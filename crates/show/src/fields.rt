@@ -48,58 +48,23 @@ impl<'a> Body<'a> {
         first: u64,
         count: u64,
     ) -> Result<()> {
-        let mut line = [0u8; RECORD_LINE];
         for i in 0..count {
-            let n = put_record(&mut line, first.wrapping_add(i), self.record());
-            to.write_all(&line[..n.min(RECORD_LINE)])?;
+            let k = first.wrapping_add(i);
+            let record = self.record();
+            write!(to, "record {k}: {record}\n")?;
         }
         Ok(())
     }
-}
-
-const RECORD_LINE: usize = 80;
-
-// A record of number k, in a line. A body is thousands of these: so their text is put together
-// here, and goes out by one write, where `write!` makes a call of each part.
-fn put_record(line: &mut [u8; RECORD_LINE], k: u64, record: Record) -> usize {
-    let at = print::put_bytes(line, 0, b"record ");
-    let at = print::put_decimal(line, at, k);
-    let at = print::put_bytes(line, at, b": ");
-    let at = put_frames(line, at, record);
-    print::put_byte(line, at, b'\n')
-}
-
-// Its frames, as it displays them.
-fn put_frames(line: &mut [u8; RECORD_LINE], at: usize, record: Record) -> usize
-    requires { at ≤ 36 }
-    ensures { result ≤ 79 }
-{
-    if record.0 == 0 {
-        return print::put_bytes(line, at, b"none");
-    }
-    let at = print::put_decimal(line, at, record.left());
-    let at = print::put_byte(line, at, b' ');
-    print::put_decimal(line, at, record.right())
 }
 
 // A record: its left and its right frame, or none.
 #[derive(Clone, Copy)]
 pub struct Record(u64);
 
-impl Record {
-    fn left(self) -> u64 {
-        self.0 / 4294967296
-    }
-
-    fn right(self) -> u64 {
-        self.0 % 4294967296
-    }
-}
-
 impl fmt::Display for Record {
     fn fmt<W: fmt::Write>(&self, f: &mut fmt::Formatter<W>) -> fmt::Result {
-        let left = self.left();
-        let right = self.right();
+        let left = self.0 / 4294967296;
+        let right = self.0 % 4294967296;
         if self.0 == 0 {
             return write!(f, "none");
         }
