@@ -13,7 +13,8 @@ pub loop-i-preserved : goal.loop-i-preserved
 loop-i-preserved c =
     let l = c.loop-i in
     let src = c.args.src.now in
-    let more = copy_more l.dst l.i 0 src (omega arith) (omega (arith, l.invariant.1)) l.invariant.0 in
+    let more =
+    copy_more l.dst l.i 0 src (omega arith) (omega (arith, l.invariant.1)) l.invariant.0 in
     (more, simp length-set l.invariant.1)
 
 pub returns : goal.returns
