@@ -66,7 +66,8 @@ fn send_refusal<S: Streams>(
     send_message(rt, out, p);
 }
 
-// What failed of the program `name`, and the system's words for why.
+// What failed of the program `name`, and the system's words for why: in the writes of
+// `streams::fail`, which are several.
 pub fn fail<S: Streams>(rt: &S, name: &[u8], what: &[u8], error: Error) {
     let mut text = [0u8; 128];
     let p = put(&mut text, 0, name);
